@@ -1,0 +1,27 @@
+-- Where pages have their home.
+use Rattle.std.specs.Prelude.{ℕ, ◌+◌, ◌-◌, Bool, ◌&&◌, ◌==◌, nat_lt, nat_le, List, [], ◌∷◌, Option, Some, None, is_some, if◌then◌else◌, option_map}
+use Rattle.mind_base.specs.Page.{PageView}
+use Rattle.mind_base.specs.Span.{SpanView}
+use Rattle.mind_base.specs.declared.plans.MemoryPlan.{MemoryPlan}
+
+-- the test whether a page is one of a run's
+abbrev pub in_span : SpanView → PageView → Bool
+in_span span page = page.domain == span.domain && nat_le span.base page.number && nat_lt page.number (span.base + span.pages)
+
+-- the number of a page among the pages of these runs, counted from 0 in order
+abbrev pub place_in : List SpanView → PageView → Option ℕ
+place_in [] page = None
+place_in (span ∷ spans) page =
+    if in_span span page then Some (page.number - span.base) else option_map (λ n. span.pages + n) (place_in spans page)
+
+-- the home of a page as a memory blade, numbered from this one on, and the page's number there
+abbrev pub home_from : ℕ → List MemoryPlan → PageView → Option (ℕ × ℕ)
+home_from blade [] page = None
+home_from blade (memory ∷ memories) page =
+    if is_some (place_in memory.homes page)
+    then option_map (λ n. (blade, n)) (place_in memory.homes page)
+    else home_from (blade + 1) memories page
+
+-- the memory blade where a page has its home, and the page's number there; None: it has no home
+abbrev pub home_of : List MemoryPlan → PageView → Option (ℕ × ℕ)
+home_of memories page = home_from 0 memories page

@@ -1,0 +1,9 @@
+pub mod Cover
+pub mod Fit
+pub mod Home
+pub mod Name
+pub mod Page
+pub mod Pending
+pub mod Permission
+pub mod Range
+pub mod Span

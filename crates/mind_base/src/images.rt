@@ -1,0 +1,21 @@
+ghost use Rattle.std.specs.Prelude.{◌≡◌, IfOk};
+
+use crate::{NoMemory, Sequence};
+use std::alloc::Global;
+
+/// A program as it lies in a thread's image: its bytes, the first at the address `at`.
+#[derive(Debug, Drop)]
+pub struct Image {
+    pub at: u32,
+    pub bytes: Sequence<u8>,
+}
+
+impl Image {
+    /// An equal image.
+    pub fn copy(&self, alloc: Global) -> Result<Image, NoMemory>
+        ensures { IfOk result (λ image. image ≡ self.now) }
+    {
+        let bytes = self.bytes.copied(alloc)?;
+        Ok(Image { at: self.at, bytes })
+    }
+}

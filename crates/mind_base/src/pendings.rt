@@ -1,0 +1,22 @@
+use std::marker::Model;
+
+/// A store that waits in a thread's queue: `size` bytes, 1, 2 or 4, at an address that is a multiple
+/// of the size. The bytes are the low ones of `value`, the lowest first.
+#[derive(Clone, Copy, Debug, PartialEq, Eq)]
+pub struct Pending {
+    pub address: u32,
+    pub size: u8,
+    pub value: u32,
+}
+
+impl Model for Pending {
+    ghost use Rattle.mind_base.specs.Pending.{PendingView, IsPending};
+
+    ghost Value = { PendingView };
+
+    ghost view = { λ p. record { address = p.address; size = p.size; value = p.value } };
+
+    ghost invariant = { λ p. IsPending p.address p.size };
+
+    ghost inverse = { λ v. record { address = v.address; size = v.size; value = v.value } };
+}
