@@ -1,9 +1,14 @@
 pub mod Cover
 pub mod Fit
 pub mod Home
+pub mod Log
+pub mod MemSink
+pub mod MemStore
 pub mod Name
 pub mod Page
 pub mod Pending
 pub mod Permission
 pub mod Range
+pub mod Sink
 pub mod Span
+pub mod Store

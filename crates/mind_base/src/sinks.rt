@@ -1,0 +1,22 @@
+ghost use Rattle.std.specs.Prelude.{◌≤◌, ℕ, List, Option};
+ghost use Rattle.mind_base.specs.Sink.{Writes};
+
+/// A write did not take all the bytes.
+#[derive(Clone, Copy, Debug, PartialEq, Eq)]
+pub enum WriteError {
+    Failed,
+}
+
+/// Where text is written.
+pub trait Sink {
+    /// The bytes written so far, or None where the sink does not tell.
+    ghost written: { Self → Option (List ℕ) };
+
+    /// How often a write failed.
+    ghost faults: { Self → ℕ };
+
+    /// Puts the bytes behind what was written; after an error a front of them stands there. Takes no memory.
+    fn write_all(&mut self, bytes: &[u8]) -> Result<(), WriteError>
+        ensures written { Writes (written self.old) (written self.new) (faults self.old) (faults self.new) bytes.now result }
+        ensures counts { faults self.old ≤ faults self.new };
+}

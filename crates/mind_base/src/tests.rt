@@ -1,0 +1,223 @@
+//! What no contract says: real files and real output, and each call with ample memory.
+use crate::*;
+use std::fs;
+use std::test::Fail;
+
+fn name_of(rt: &HostRuntime, text: &str) -> Result<Name, Fail> {
+    Ok(Name::of(rt.alloc(), text)?.ok_or("no name")?)
+}
+
+#[test]
+fn names_are_texts_of_printing_bytes(rt: HostRuntime) -> Result<(), Fail> {
+    let alloc = rt.alloc();
+    let long = String::from_utf8(vec![in alloc; b'a'; 64]?)?;
+    for text in ["a.bin", "!", "~", long.as_str()] {
+        assert_eq!(rt; name_of(&rt, text)?.as_str(), text);
+    }
+    let longer = String::from_utf8(vec![in alloc; b'a'; 65]?)?;
+    for text in ["", "a b", "\u{7f}", "caf\u{e9}", longer.as_str()] {
+        assert!(rt; Name::of(alloc, text)?.is_none(), "{text}");
+    }
+    Ok(())
+}
+
+#[test]
+fn pages_blocks_and_runs(rt: HostRuntime) -> Result<(), Fail> {
+    let page = Page::of(3, 0x0000_2fff);
+    assert_eq!(rt;
+        page,
+        Page {
+            domain: 3,
+            number: 2
+        }
+    );
+    let span = Span {
+        domain: 3,
+        base: 1,
+        pages: 2,
+    };
+    assert!(rt; span.has(page));
+    assert!(rt;
+        !span.has(Page {
+            domain: 3,
+            number: 3
+        })
+    );
+    let block = Range {
+        domain: 3,
+        base: 4,
+        log: 2,
+    };
+    assert!(rt;
+        block.has(Page {
+            domain: 3,
+            number: 7
+        })
+    );
+    assert!(rt;
+        !block.has(Page {
+            domain: 3,
+            number: 8
+        })
+    );
+    let (lower, upper) = block.halves().ok_or("one page")?;
+    assert_eq!(rt;
+        lower,
+        Range {
+            domain: 3,
+            base: 4,
+            log: 1
+        }
+    );
+    assert_eq!(rt;
+        upper,
+        Range {
+            domain: 3,
+            base: 6,
+            log: 1
+        }
+    );
+    assert_eq!(rt;
+        block.parent().ok_or("no parent")?,
+        Range {
+            domain: 3,
+            base: 0,
+            log: 3
+        }
+    );
+    Ok(())
+}
+
+#[test]
+fn a_log_keeps_its_notes_in_order(rt: HostRuntime) -> Result<(), Fail> {
+    let mut log = Log::new(rt.alloc());
+    log.add(Note::Event { index: 0 })?;
+    log.reserve(3)?;
+    log.add(Note::Exec { hart: 5 })?;
+    assert_eq!(rt; log.len(), 2);
+    assert_eq!(rt; log.get(0), Note::Event { index: 0 });
+    assert_eq!(rt; log.get(1), Note::Exec { hart: 5 });
+    Ok(())
+}
+
+#[test]
+fn copies_are_equal(rt: HostRuntime) -> Result<(), Fail> {
+    let alloc = rt.alloc();
+    let homes = Sequence::from_vec(vec![in alloc;
+        Span {
+            domain: 0,
+            base: 0,
+            pages: 16
+        },
+    ]?);
+    let memories = Sequence::from_vec(vec![in alloc; MemoryPlan { homes, spare: 4 }]?);
+    let images = Sequence::from_vec(vec![in alloc;
+        ImagePlan {
+            name: name_of(&rt, "a.bin")?,
+            at: 8
+        },
+    ]?);
+    let threads = Sequence::from_vec(vec![in alloc;
+        ThreadPlan {
+            blade: 0,
+            domain: 0,
+            image: 0,
+            queue: 2
+        },
+    ]?);
+    let plan = RackPlan {
+        slots: 4,
+        protect: 8,
+        outliers: 2,
+        region: 0,
+        most: 9,
+        threshold: 0,
+        policy: PolicyKind::Threshold,
+        frames: Sequence::from_vec(vec![in alloc; 2]?),
+        memories,
+        images,
+        threads,
+        maps: Sequence::new(alloc),
+    };
+    let copy = plan.copy(alloc)?;
+    assert_eq!(rt; copy.threads.as_slice(), plan.threads.as_slice());
+    assert_eq!(rt; copy.images.len(), 1);
+    let image = Image {
+        at: 8,
+        bytes: Sequence::from_vec(vec![in alloc; 1, 2, 3, 4]?),
+    };
+    assert_eq!(rt;
+        image.copy(alloc)?.bytes.into_vec().as_slice(),
+        [1, 2, 3, 4].as_slice()
+    );
+    Ok(())
+}
+
+#[test]
+fn files_in_memory(rt: HostRuntime) -> Result<(), Fail> {
+    let alloc = rt.alloc();
+    let mut files = Vec::new(alloc);
+    files.push((name_of(&rt, "r.toml")?, vec![in alloc; 1, 2]?))?;
+    files.push((name_of(&rt, "r.toml")?, vec![in alloc; 3]?))?;
+    let mut store = MemStore::new(files, vec![in alloc; 2]?);
+    assert_eq!(rt;
+        store.read_all(alloc, "r.toml", 2)?.as_slice(),
+        [1, 2].as_slice()
+    );
+    assert_eq!(rt;
+        store.read_all(alloc, "r.toml", 1).err(),
+        Some(ReadError::TooLong { read: 2 })
+    );
+    assert_eq!(rt;
+        store.read_all(alloc, "r.toml", 2).err(),
+        Some(ReadError::Failed)
+    );
+    assert_eq!(rt;
+        store.read_all(alloc, "s.txt", 2).err(),
+        Some(ReadError::Failed)
+    );
+    assert_eq!(rt;
+        store.read_all(alloc, "r.toml", 2)?.as_slice(),
+        [1, 2].as_slice()
+    );
+    Ok(())
+}
+
+#[test]
+fn bytes_in_memory(rt: HostRuntime) -> Result<(), Fail> {
+    let mut sink = MemSink::new(rt.alloc(), 5)?;
+    assert!(rt; sink.write_all(b"min").is_ok());
+    assert_eq!(rt; sink.write_all(b"d 1").err(), Some(WriteError::Failed));
+    assert_eq!(rt; sink.written(), b"mind ".as_slice());
+    Ok(())
+}
+
+#[test]
+fn files_of_the_folder(rt: HostRuntime) -> Result<(), Fail> {
+    let alloc = rt.alloc();
+    let folder = std::env::temp_dir(&rt)?;
+    let path = folder.as_path().join(alloc, "mind_base_reads_this.txt")?;
+    fs::write(&rt, path.as_path(), "a rack")?;
+    let name = path.as_path().to_str().ok_or("no text")?;
+    let mut store = DirStore::new(&rt);
+    assert_eq!(rt;
+        store.read_all(alloc, name, 6)?.as_slice(),
+        b"a rack".as_slice()
+    );
+    assert_eq!(rt;
+        store.read_all(alloc, name, 5).err(),
+        Some(ReadError::TooLong { read: 6 })
+    );
+    assert_eq!(rt;
+        store.read_all(alloc, "no such file", 5).err(),
+        Some(ReadError::Failed)
+    );
+    fs::remove_file(&rt, path.as_path())?;
+    Ok(())
+}
+
+#[test]
+fn standard_output_takes_bytes(rt: HostRuntime) {
+    let mut sink = OutSink::new(&rt);
+    assert!(rt; sink.write_all(b"mind 1\n").is_ok());
+}
