@@ -1,0 +1,64 @@
+-- What an instruction asks, given the registers and the pc.
+use Rattle.std.specs.Prelude.{ℕ, ◌*◌, ◌/◌, ◌%◌, ◌<◌, List, ◌==◌, if◌then◌else◌}
+use Rattle.rv32_decode.specs.declared.instruction.StoreKind.{StoreKind}
+use Rattle.rv32_decode.specs.declared.instruction.StoreKind.TheVariants.{Sb, Sh, Sw}
+use Rattle.rv32_decode.specs.declared.instruction.Instr.{Instr}
+use Rattle.rv32_decode.specs.declared.instruction.Instr.TheVariants as instr
+use Rattle.hart_core.specs.declared.outcome.Act.{Act}
+use Rattle.hart_core.specs.declared.outcome.Act.TheVariants.{Next, Load, Store, Locked, Fence, Call, Jumped, Broke}
+use Rattle.hart_core.specs.declared.outcome.LockedKind.TheVariants.{Lr, Sc, Amo}
+use Rattle.hart_core.specs.Registers.{register}
+use Rattle.hart_core.specs.Values.{word_sum, word_of, op_value, register_kind, is_taken, is_ordering}
+
+-- register rd takes the value, and the hart goes on at the next word
+abbrev pub continues : ℕ → ℕ → ℕ → Act
+continues rd value pc = Next rd value (word_sum pc 4)
+
+-- register rd takes the value, and the hart goes on at the target, unless that is no multiple of 4
+abbrev pub goes_to : ℕ → ℕ → ℕ → Act
+goes_to rd value target = if target % 4 == 0 then Next rd value target else Jumped target
+
+-- how many bytes a store writes
+abbrev pub store_size : StoreKind → ℕ
+store_size Sb = 1
+store_size Sh = 2
+store_size Sw = 4
+
+-- bit 0 is cleared
+abbrev pub cleared : ℕ → ℕ
+cleared target = target / 2 * 2
+
+unfoldable pub act_of : Instr → List ℕ → ℕ → Act
+act_of (instr.Lui rd imm) regs pc = continues rd imm pc
+act_of (instr.Auipc rd imm) regs pc = continues rd (word_sum pc imm) pc
+act_of (instr.Jal rd offset) regs pc = goes_to rd (word_sum pc 4) (word_sum pc (word_of offset))
+act_of (instr.Jalr rd rs1 offset) regs pc =
+    goes_to rd (word_sum pc 4) (cleared (word_sum (register regs rs1) (word_of offset)))
+act_of (instr.Branch kind rs1 rs2 offset) regs pc =
+    if is_taken kind (register regs rs1) (register regs rs2)
+    then goes_to 0 0 (word_sum pc (word_of offset))
+    else continues 0 0 pc
+act_of (instr.Load kind rd rs1 offset) regs pc = Load kind rd (word_sum (register regs rs1) (word_of offset))
+act_of (instr.Store kind rs1 rs2 offset) regs pc =
+    Store (store_size kind) (word_sum (register regs rs1) (word_of offset)) (register regs rs2)
+act_of (instr.OpImm kind rd rs1 imm) regs pc =
+    continues rd (op_value (register_kind kind) (register regs rs1) (word_of imm)) pc
+act_of (instr.Op kind rd rs1 rs2) regs pc = continues rd (op_value kind (register regs rs1) (register regs rs2)) pc
+act_of (instr.Fence fm pred succ rd rs1) regs pc = Fence (is_ordering fm pred succ)
+act_of instr.Ecall regs pc = Call
+act_of instr.Ebreak regs pc = Broke
+act_of (instr.Lr rd rs1 aq rl) regs pc = Locked Lr rd (register regs rs1) 0
+act_of (instr.Sc rd rs1 rs2 aq rl) regs pc = Locked Sc rd (register regs rs1) (register regs rs2)
+act_of (instr.Amo kind rd rs1 rs2 aq rl) regs pc =
+    Locked (Amo kind) rd (register regs rs1) (register regs rs2)
+
+-- a register that is to be written is one of the 32
+abbrev pub NamesRegister : Act → Type 0
+NamesRegister (Next rd value pc) = rd < 32
+NamesRegister (Load kind rd address) = rd < 32
+NamesRegister (Store size address value) = Unit {0}
+NamesRegister (Locked kind rd address operand) = rd < 32
+NamesRegister (Fence drains) = Unit {0}
+NamesRegister Call = Unit {0}
+NamesRegister (Jumped target) = Unit {0}
+NamesRegister Broke = Unit {0}

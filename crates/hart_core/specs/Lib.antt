@@ -1,0 +1,4 @@
+pub mod Registers
+pub mod Values
+pub mod Memory
+pub mod Act

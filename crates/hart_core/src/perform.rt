@@ -1,0 +1,138 @@
+//! From an instruction, registers and pc to what is asked.
+
+ghost use Rattle.std.specs.Prelude.{◌≡◌, ◌<◌};
+ghost use Rattle.rv32_decode.specs.Instr.{Fits};
+ghost use Rattle.hart_core.specs.Values.{word_sum, word_of};
+ghost use Rattle.hart_core.specs.Act.{act_of, NamesRegister, continues, goes_to, store_size, cleared};
+
+use crate::outcome::{Act, LockedKind};
+use crate::registers::Regs;
+use crate::values::{op, ordering, register_kind, taken};
+use rv32_decode::{Instr, StoreKind};
+
+/// What the instruction asks of a hart with these registers at this pc. A pc is a multiple of 4 where the
+/// hart came to it by `Next`.
+#[tactic(auto, unfolding(crate::specs::Act::act_of, rv32_decode::specs::Instr::Fits))]
+pub fn act(instr: &Instr, regs: &Regs, pc: u32) -> Act
+    requires { Fits instr.now }
+    ensures asked { result ≡ act_of instr.now regs.now pc }
+    ensures register { NamesRegister result }
+{
+    match *instr {
+        Instr::Lui { rd, imm } => next(rd, imm, pc),
+        Instr::Auipc { rd, imm } => next(rd, pc.wrapping_add(imm), pc),
+        Instr::Jal { rd, offset } => jump(rd, pc.wrapping_add(4), sum(pc, offset)),
+        Instr::Jalr { rd, rs1, offset } => {
+            let target = sum(regs.get(rs1), offset);
+            jump(rd, pc.wrapping_add(4), target / 2 * 2)
+        }
+        Instr::Branch {
+            kind,
+            rs1,
+            rs2,
+            offset,
+        } => {
+            if taken(kind, regs.get(rs1), regs.get(rs2)) {
+                jump(0, 0, sum(pc, offset))
+            } else {
+                next(0, 0, pc)
+            }
+        }
+        Instr::Load {
+            kind,
+            rd,
+            rs1,
+            offset,
+        } => Act::Load {
+            kind,
+            rd,
+            address: sum(regs.get(rs1), offset),
+        },
+        Instr::Store {
+            kind,
+            rs1,
+            rs2,
+            offset,
+        } => Act::Store {
+            size: size(kind),
+            address: sum(regs.get(rs1), offset),
+            value: regs.get(rs2),
+        },
+        Instr::OpImm { kind, rd, rs1, imm } => {
+            let value = op(register_kind(kind), regs.get(rs1), imm.cast_unsigned());
+            next(rd, value, pc)
+        }
+        Instr::Op { kind, rd, rs1, rs2 } => { next(rd, op(kind, regs.get(rs1), regs.get(rs2)), pc) }
+        Instr::Fence { fm, pred, succ, .. } => Act::Fence {
+            drains: ordering(fm, pred, succ),
+        },
+        Instr::Ecall => Act::Call,
+        Instr::Ebreak => Act::Broke,
+        Instr::Lr { rd, rs1, .. } => Act::Locked {
+            kind: LockedKind::Lr,
+            rd,
+            address: regs.get(rs1),
+            operand: 0,
+        },
+        Instr::Sc { rd, rs1, rs2, .. } => Act::Locked {
+            kind: LockedKind::Sc,
+            rd,
+            address: regs.get(rs1),
+            operand: regs.get(rs2),
+        },
+        Instr::Amo {
+            kind,
+            rd,
+            rs1,
+            rs2,
+            ..
+        } => Act::Locked {
+            kind: LockedKind::Amo { kind },
+            rd,
+            address: regs.get(rs1),
+            operand: regs.get(rs2),
+        },
+    }
+}
+
+/// The hart goes on at the next word.
+fn next(rd: u8, value: u32, pc: u32) -> Act
+    ensures { result ≡ continues rd value pc }
+{
+    Act::Next {
+        rd,
+        value,
+        pc: pc.wrapping_add(4),
+    }
+}
+
+/// The hart goes on at the target, unless that is no multiple of 4.
+fn jump(rd: u8, value: u32, target: u32) -> Act
+    ensures { result ≡ goes_to rd value target }
+{
+    if target % 4 != 0 {
+        return Act::Jumped { target };
+    }
+    Act::Next {
+        rd,
+        value,
+        pc: target,
+    }
+}
+
+/// A word and an offset, which wraps at 32 bits.
+fn sum(word: u32, offset: i32) -> u32
+    ensures { result ≡ word_sum word (word_of offset) }
+{
+    word.wrapping_add(offset.cast_unsigned())
+}
+
+fn size(kind: StoreKind) -> u8
+    ensures { result ≡ store_size kind }
+{
+    match kind {
+        StoreKind::Sb => 1,
+        StoreKind::Sh => 2,
+        StoreKind::Sw => 4,
+    }
+}

@@ -1,0 +1,7 @@
+use Rattle.std.proofs.Common.{◌≡◌, map, take}
+use Rattle.tso_machine.specs.State.{first_thread, image_at}
+use Rattle.tso_machine.proofs.machines.start_harts.Given as goal
+
+abbrev pub invariant-loop-thread : goal.invariant-loop-thread
+invariant-loop-thread l =
+    l.harts.items ≡ map (λ thread. first_thread (image_at l.images thread.image)) (take l.thread-index l.thread-items)

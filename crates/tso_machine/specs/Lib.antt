@@ -1,0 +1,5 @@
+pub mod Machine
+pub mod Memory
+pub mod Replay
+pub mod State
+pub mod Step

@@ -1,0 +1,67 @@
+-- The state of the machine: threads with their registers and buffers over one flat memory for each domain.
+use Rattle.std.specs.Prelude.{ℕ, List, [], map, slice_get, Option, None, option_map, unwrap_or}
+use Rattle.hart_core.specs.Registers.{zero_registers}
+use Rattle.mind_base.specs.Pending.{PendingView}
+use Rattle.mind_base.specs.Span.{SpanView}
+use Rattle.mind_base.specs.declared.commands.Command.{Command}
+use Rattle.mind_base.specs.declared.commands.Outcome.{Outcome}
+use Rattle.mind_base.specs.declared.ends.End.{End}
+use Rattle.mind_base.specs.declared.ends.End.TheVariants.{Running, Exit, Fault}
+use Rattle.mind_base.specs.declared.images.Image.{Image}
+use Rattle.mind_base.specs.declared.plans.ImagePlan.{ImagePlan}
+use Rattle.mind_base.specs.declared.plans.MapPlan.{MapPlan}
+use Rattle.mind_base.specs.declared.plans.RackPlan.{RackPlan}
+use Rattle.mind_base.specs.declared.plans.ThreadPlan.{ThreadPlan}
+
+-- what a machine is made from, which never changes
+pub record Setup : Type 0 where
+  pub plan : RackPlan
+  pub images : List Image
+  pub commands : List Command
+
+-- 64 aligned bytes of a domain: their first address divided by 64
+pub record Granule : Type 0 where
+  pub domain : ℕ
+  pub number : ℕ
+
+-- a thread: its 32 registers, where it stands, the bytes that it put out, the stores that it has not
+-- yet drained (the oldest first, as many as it likes), and the granule that it has reserved
+pub record Thread : Type 0 where
+  pub regs : List ℕ
+  pub end : End
+  pub output : List ℕ
+  pub buffer : List PendingView
+  pub reserved : Option Granule
+
+-- one write to memory: a byte at an address of a domain, or zeros over a run of pages
+pub data Write : Type 0 where
+  Byte : (domain address value : ℕ) → Write
+  Zeros : (span : SpanView) → Write
+
+-- a command that was taken, by its number, and how it ended
+pub record Taken : Type 0 where
+  pub index : ℕ
+  pub outcome : Outcome
+
+-- the threads; the writes to memory, the permissions and the commands in the order in which they took effect
+pub record State : Type 0 where
+  pub threads : List Thread
+  pub writes : List Write
+  pub perms : List MapPlan
+  pub taken : List Taken
+
+-- a thread that runs at the start of an image, and nothing in it but zeros
+abbrev pub first_thread : ℕ → Thread
+first_thread pc = record { regs = zero_registers; end = Running pc; output = []; buffer = []; reserved = None }
+
+-- where an image of the plan stands; 0 for one that the plan does not have
+abbrev pub image_at : List ImagePlan → ℕ → ℕ
+image_at images i = unwrap_or (option_map (λ image. image.at) (slice_get images i)) 0
+
+-- the state at the start: each thread at its image, the maps of the plan, and nothing written
+abbrev pub start_state : Setup → State
+start_state setup = record
+  { threads = map (λ (t : ThreadPlan). first_thread (image_at setup.plan.images t.image)) setup.plan.threads
+  ; writes = []
+  ; perms = setup.plan.maps
+  ; taken = [] }
