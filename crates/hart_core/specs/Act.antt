@@ -1,13 +1,12 @@
 -- What an instruction asks, given the registers and the pc.
-use Rattle.std.specs.Prelude.{ℕ, ◌*◌, ◌/◌, ◌%◌, ◌<◌, List, ◌==◌, if◌then◌else◌}
-use Rattle.rv32_decode.specs.declared.instruction.StoreKind.{StoreKind}
-use Rattle.rv32_decode.specs.declared.instruction.StoreKind.TheVariants.{Sb, Sh, Sw}
+use Rattle.std.specs.Prelude.{◌≡◌, ◌≢◌, ℕ, ◌*◌, ◌/◌, ◌%◌, ◌<◌, List, ◌==◌, if◌then◌else◌}
 use Rattle.rv32_decode.specs.declared.instruction.Instr.{Instr}
 use Rattle.rv32_decode.specs.declared.instruction.Instr.TheVariants as instr
 use Rattle.hart_core.specs.declared.outcome.Act.{Act}
 use Rattle.hart_core.specs.declared.outcome.Act.TheVariants.{Next, Load, Store, Locked, Fence, Call, Jumped, Broke}
 use Rattle.hart_core.specs.declared.outcome.LockedKind.TheVariants.{Lr, Sc, Amo}
 use Rattle.hart_core.specs.Registers.{register}
+use Rattle.hart_core.specs.Memory.{store_size, IsAccessSize}
 use Rattle.hart_core.specs.Values.{word_sum, word_of, op_value, register_kind, is_taken, is_ordering}
 
 -- register rd takes the value, and the hart goes on at the next word
@@ -18,16 +17,11 @@ continues rd value pc = Next rd value (word_sum pc 4)
 abbrev pub goes_to : ℕ → ℕ → ℕ → Act
 goes_to rd value target = if target % 4 == 0 then Next rd value target else Jumped target
 
--- how many bytes a store writes
-abbrev pub store_size : StoreKind → ℕ
-store_size Sb = 1
-store_size Sh = 2
-store_size Sw = 4
-
 -- bit 0 is cleared
 abbrev pub cleared : ℕ → ℕ
 cleared target = target / 2 * 2
 
+-- what the instruction asks of a hart with these registers at this pc
 unfoldable pub act_of : Instr → List ℕ → ℕ → Act
 act_of (instr.Lui rd imm) regs pc = continues rd imm pc
 act_of (instr.Auipc rd imm) regs pc = continues rd (word_sum pc imm) pc
@@ -52,13 +46,24 @@ act_of (instr.Sc rd rs1 rs2 aq rl) regs pc = Locked Sc rd (register regs rs1) (r
 act_of (instr.Amo kind rd rs1 rs2 aq rl) regs pc =
     Locked (Amo kind) rd (register regs rs1) (register regs rs2)
 
--- a register that is to be written is one of the 32
-abbrev pub NamesRegister : Act → Type 0
-NamesRegister (Next rd value pc) = rd < 32
-NamesRegister (Load kind rd address) = rd < 32
-NamesRegister (Store size address value) = Unit {0}
-NamesRegister (Locked kind rd address operand) = rd < 32
-NamesRegister (Fence drains) = Unit {0}
-NamesRegister Call = Unit {0}
-NamesRegister (Jumped target) = Unit {0}
-NamesRegister Broke = Unit {0}
+-- the register that is named is one of the 32, and a store writes 1, 2 or 4 bytes
+abbrev pub IsWellFormed : Act → Type 0
+IsWellFormed (Next rd value pc) = rd < 32
+IsWellFormed (Load kind rd address) = rd < 32
+IsWellFormed (Store size address value) = IsAccessSize size
+IsWellFormed (Locked kind rd address operand) = rd < 32
+IsWellFormed (Fence drains) = Unit {0}
+IsWellFormed Call = Unit {0}
+IsWellFormed (Jumped target) = Unit {0}
+IsWellFormed Broke = Unit {0}
+
+-- the hart goes on at a multiple of 4, and only another target is a fault
+abbrev pub IsAligned : Act → Type 0
+IsAligned (Next rd value pc) = pc % 4 ≡ 0
+IsAligned (Load kind rd address) = Unit {0}
+IsAligned (Store size address value) = Unit {0}
+IsAligned (Locked kind rd address operand) = Unit {0}
+IsAligned (Fence drains) = Unit {0}
+IsAligned Call = Unit {0}
+IsAligned (Jumped target) = target % 4 ≢ 0
+IsAligned Broke = Unit {0}

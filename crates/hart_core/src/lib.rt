@@ -8,7 +8,10 @@ mod perform;
 mod registers;
 mod values;
 
-pub use memory::{amo, extend};
+pub use memory::{amo, extend, load_size};
 pub use outcome::{Act, LockedKind};
 pub use perform::act;
 pub use registers::Regs;
+
+#[cfg(test)]
+mod tests;

@@ -1,30 +1,32 @@
 //! From an instruction, registers and pc to what is asked.
 
-ghost use Rattle.std.specs.Prelude.{◌≡◌, ◌<◌};
+ghost use Rattle.std.specs.Prelude.{◌≡◌, ◌%◌};
 ghost use Rattle.rv32_decode.specs.Instr.{Fits};
+ghost use Rattle.hart_core.specs.Memory.{store_size as store_size_of};
 ghost use Rattle.hart_core.specs.Values.{word_sum, word_of};
-ghost use Rattle.hart_core.specs.Act.{act_of, NamesRegister, continues, goes_to, store_size, cleared};
+ghost use Rattle.hart_core.specs.Act.{act_of, continues, goes_to, IsWellFormed, IsAligned};
 
+use crate::memory::store_size;
 use crate::outcome::{Act, LockedKind};
 use crate::registers::Regs;
 use crate::values::{op, ordering, register_kind, taken};
-use rv32_decode::{Instr, StoreKind};
+use rv32_decode::{Instr, LoadKind, StoreKind};
 
-/// What the instruction asks of a hart with these registers at this pc. A pc is a multiple of 4 where the
-/// hart came to it by `Next`.
+/// What the instruction asks of a hart with these registers at this pc.
 #[tactic(auto, unfolding(crate::specs::Act::act_of, rv32_decode::specs::Instr::Fits))]
 pub fn act(instr: &Instr, regs: &Regs, pc: u32) -> Act
     requires { Fits instr.now }
     ensures asked { result ≡ act_of instr.now regs.now pc }
-    ensures register { NamesRegister result }
+    ensures well_formed { IsWellFormed result }
+    ensures aligned { pc % 4 ≡ 0 → IsAligned result }
 {
     match *instr {
         Instr::Lui { rd, imm } => next(rd, imm, pc),
         Instr::Auipc { rd, imm } => next(rd, pc.wrapping_add(imm), pc),
         Instr::Jal { rd, offset } => jump(rd, pc.wrapping_add(4), sum(pc, offset)),
         Instr::Jalr { rd, rs1, offset } => {
-            let target = sum(regs.get(rs1), offset);
-            jump(rd, pc.wrapping_add(4), target / 2 * 2)
+            let target = sum(regs.get(rs1), offset) & !1;
+            jump(rd, pc.wrapping_add(4), target)
         }
         Instr::Branch {
             kind,
@@ -43,21 +45,13 @@ pub fn act(instr: &Instr, regs: &Regs, pc: u32) -> Act
             rd,
             rs1,
             offset,
-        } => Act::Load {
-            kind,
-            rd,
-            address: sum(regs.get(rs1), offset),
-        },
+        } => load(kind, rd, sum(regs.get(rs1), offset)),
         Instr::Store {
             kind,
             rs1,
             rs2,
             offset,
-        } => Act::Store {
-            size: size(kind),
-            address: sum(regs.get(rs1), offset),
-            value: regs.get(rs2),
-        },
+        } => store(kind, sum(regs.get(rs1), offset), regs.get(rs2)),
         Instr::OpImm { kind, rd, rs1, imm } => {
             let value = op(register_kind(kind), regs.get(rs1), imm.cast_unsigned());
             next(rd, value, pc)
@@ -68,30 +62,15 @@ pub fn act(instr: &Instr, regs: &Regs, pc: u32) -> Act
         },
         Instr::Ecall => Act::Call,
         Instr::Ebreak => Act::Broke,
-        Instr::Lr { rd, rs1, .. } => Act::Locked {
-            kind: LockedKind::Lr,
-            rd,
-            address: regs.get(rs1),
-            operand: 0,
-        },
-        Instr::Sc { rd, rs1, rs2, .. } => Act::Locked {
-            kind: LockedKind::Sc,
-            rd,
-            address: regs.get(rs1),
-            operand: regs.get(rs2),
-        },
+        Instr::Lr { rd, rs1, .. } => locked(LockedKind::Lr, rd, regs.get(rs1), 0),
+        Instr::Sc { rd, rs1, rs2, .. } => locked(LockedKind::Sc, rd, regs.get(rs1), regs.get(rs2)),
         Instr::Amo {
             kind,
             rd,
             rs1,
             rs2,
             ..
-        } => Act::Locked {
-            kind: LockedKind::Amo { kind },
-            rd,
-            address: regs.get(rs1),
-            operand: regs.get(rs2),
-        },
+        } => locked(LockedKind::Amo { kind }, rd, regs.get(rs1), regs.get(rs2)),
     }
 }
 
@@ -127,12 +106,30 @@ fn sum(word: u32, offset: i32) -> u32
     word.wrapping_add(offset.cast_unsigned())
 }
 
-fn size(kind: StoreKind) -> u8
-    ensures { result ≡ store_size kind }
+fn load(kind: LoadKind, rd: u8, address: u32) -> Act
+    ensures { result ≡ Act.Load kind rd address }
 {
-    match kind {
-        StoreKind::Sb => 1,
-        StoreKind::Sh => 2,
-        StoreKind::Sw => 4,
+    Act::Load { kind, rd, address }
+}
+
+fn store(kind: StoreKind, address: u32, value: u32) -> Act
+    ensures { result ≡ Act.Store (store_size_of kind) address value }
+{
+    let size = store_size(kind);
+    Act::Store {
+        size,
+        address,
+        value,
+    }
+}
+
+fn locked(kind: LockedKind, rd: u8, address: u32, operand: u32) -> Act
+    ensures { result ≡ Act.Locked kind rd address operand }
+{
+    Act::Locked {
+        kind,
+        rd,
+        address,
+        operand,
     }
 }

@@ -1,6 +1,6 @@
 //! The integer registers of a hart.
 
-ghost use Rattle.std.specs.Prelude.{◌≡◌, ◌<◌, length};
+ghost use Rattle.std.specs.Prelude.{◌≡◌, ◌≢◌, ◌<◌, ℕ};
 ghost use Rattle.hart_core.specs.Registers.{register, with_register, zero_registers};
 
 use std::marker::Model;
@@ -44,10 +44,13 @@ impl Regs {
     }
 
     /// Writes register `r`; a write of x0 changes nothing.
-    #[tactic(auto, unfolding(crate::specs::Registers::with_register))]
+    #[tactic(auto, unfolding(crate::specs::Registers::with_register, crate::specs::Registers::register))]
     pub fn set(&mut self, r: u8, value: u32)
         requires { r < 32 }
-        ensures { self.new ≡ with_register self.old r value }
+        ensures written { self.new ≡ with_register self.old r value }
+        ensures kept { (s : ℕ) → s ≢ r → register self.new s ≡ register self.old s }
+        ensures zero { register self.new 0 ≡ 0 }
+        ensures read_back { 0 < r → register self.new r ≡ value }
     {
         if r != 0 {
             self.words[usize::from(r)] = value;

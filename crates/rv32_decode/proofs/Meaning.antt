@@ -1,5 +1,5 @@
 -- What holds of an answer that is the instruction of a word.
-use Rattle.std.proofs.Common.{◌≡◌, ℕ, ◌^◌, ◌<◌, true, false, Option, Some, None, refl, ap, sym, ◌∙◌, subst}
+use Rattle.std.proofs.Common.{◌≡◌, ℕ, ◌^◌, ◌<◌, Option, Some, None, refl, ap, sym, ◌∙◌, subst}
 use Rattle.std.specs.Prelude.{◌↔◌, IsNone, IfSome}
 use Rattle.std.proofs.lemmas.Option.{none-some}
 use Rattle.rv32_decode.specs.declared.instruction.Instr.{Instr}

@@ -1,8 +1,8 @@
 -- The instruction of a word is the one that the word spells.
-use Rattle.std.proofs.Common.{◌≡◌, ℕ, ℤ, Bool, true, false, cond, eqb, Option, Some, None, refl, ap, sym, ◌∙◌, arith, rules, subst}
+use Rattle.std.proofs.Common.{◌≡◌, ℕ, ℤ, Bool, cond, eqb, Option, Some, None, refl, ap, ◌∙◌, subst}
 use Rattle.std.specs.Option.{option_map}
 use Rattle.std.proofs.lemmas.Bool.{eqb-true}
-use Rattle.std.proofs.lemmas.Option.{none-some, same_Some, cond_some}
+use Rattle.std.proofs.lemmas.Option.{none-some, same_Some}
 use Rattle.rv32_decode.specs.declared.instruction.BranchKind.{BranchKind}
 use Rattle.rv32_decode.specs.declared.instruction.LoadKind.{LoadKind}
 use Rattle.rv32_decode.specs.declared.instruction.StoreKind.{StoreKind}
@@ -13,7 +13,7 @@ use Rattle.rv32_decode.specs.declared.instruction.AmoKind.TheVariants as amo
 use Rattle.rv32_decode.specs.declared.instruction.Instr.{Instr}
 use Rattle.rv32_decode.specs.declared.instruction.Instr.TheVariants.{Lui, Auipc, Jal, Jalr, Branch, Load, Store, OpImm, Op, Fence, Ecall, Ebreak, Lr, Sc, Amo}
 use Rattle.rv32_decode.specs.Fields.{field, opcode_of, rd_of, funct3_of, rs1_of, rs2_of, funct7_of, funct5_of, imm_i, imm_s, imm_b, imm_u, imm_j}
-use Rattle.rv32_decode.specs.Kinds.{branch_kind, load_kind, store_kind, op_imm_kind, op_kind, amo_kind, branch_funct3, load_funct3, store_funct3, op_imm_funct3, op_funct3, op_funct7, amo_funct5, allows_funct7}
+use Rattle.rv32_decode.specs.Kinds.{branch_kind, load_kind, store_kind, op_imm_kind, op_kind, amo_kind, op_funct3, amo_funct5}
 use Rattle.rv32_decode.specs.Instr.{Spells, instr_of, row_of, jalr_of, branch_of, load_of, store_of, op_imm_of, op_of, fence_of, system_of, lr_of, amo_of, atomic_of, immediate_of, bit_of}
 use Rattle.rv32_decode.proofs.Codes.{chosen, option_map_some, branch_kind-code, branch_kind-at, load_kind-code, load_kind-at, store_kind-code, store_kind-at, op_imm_kind-code, op_imm_kind-at, op_kind-code, op_kind-at, amo_kind-code, amo_kind-at}
 

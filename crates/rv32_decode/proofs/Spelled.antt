@@ -1,8 +1,6 @@
 -- The word of an instruction spells it, and is the only word that does.
-use Rattle.std.proofs.Common.{◌≡◌, ℕ, ℤ, pos, negsuc, neg_ℤ, ◌≤ℤ◌, ◌<ℤ◌, ◌+◌, ◌-◌, ◌*◌, ◌/◌, ◌%◌, ◌^◌, ◌<◌, ◌≤◌, Bool, true, false, cond, lit<, refl, ap, sym, ◌∙◌, arith, rules, subst, MatchBool}
-use Rattle.std.specs.Int.{from_bool}
+use Rattle.std.proofs.Common.{◌≡◌, ℕ, ℤ, pos, negsuc, ◌≤ℤ◌, ◌<ℤ◌, ◌+◌, ◌*◌, ◌/◌, ◌%◌, ◌^◌, ◌<◌, Bool, true, false, cond, lit<, refl, ap, sym, ◌∙◌, arith, subst, MatchBool}
 use Rattle.std.proofs.lemmas.Int.{ints}
-use Rattle.std.proofs.lemmas.Bool.{MatchBool-at_true, MatchBool-at_false}
 use Rattle.rv32_decode.specs.declared.instruction.OpImmKind.{OpImmKind}
 use Rattle.rv32_decode.specs.declared.instruction.BranchKind.{BranchKind}
 use Rattle.rv32_decode.specs.declared.instruction.LoadKind.{LoadKind}
@@ -11,18 +9,14 @@ use Rattle.rv32_decode.specs.declared.instruction.OpKind.{OpKind}
 use Rattle.rv32_decode.specs.declared.instruction.AmoKind.{AmoKind}
 use Rattle.rv32_decode.specs.declared.instruction.Instr.{Instr}
 use Rattle.rv32_decode.specs.declared.instruction.Instr.TheVariants.{Lui, Auipc, Jal, Jalr, Branch, Load, Store, OpImm, Op, Fence, Ecall, Ebreak, Lr, Sc, Amo}
-use Rattle.rv32_decode.specs.Fields.{field, opcode_of, rd_of, funct3_of, rs1_of, rs2_of, funct7_of, funct5_of, sign_extended, complement, imm_i, imm_s, imm_b, imm_u, imm_j, i_bits, s_bits, b_bits, j_bits}
+use Rattle.rv32_decode.specs.Fields.{field, opcode_of, rd_of, funct3_of, rs1_of, rs2_of, funct7_of, funct5_of, sign_extended, complement, imm_i, imm_u, i_bits, s_bits, b_bits, j_bits}
 use Rattle.rv32_decode.specs.Kinds.{branch_funct3, load_funct3, store_funct3, op_imm_funct3, is_shift, shift_funct7, allows_funct7, op_funct3, op_funct7, amo_funct5}
-use Rattle.rv32_decode.specs.Instr.{Spells, Fits, FitsImmediate, IsSigned, IsEven, word_of, op_imm_word, immediate_of, bit_of, word_with, i_word, s_word, b_word, u_word, j_word, ordered}
+use Rattle.rv32_decode.specs.Instr.{Spells, Fits, IsSigned, IsEven, word_of, op_imm_word, bit_of, word_with, i_word, s_word, b_word, u_word, j_word, ordered}
 use Rattle.rv32_decode.proofs.Immediates.{complement-sign_extended, sign_extended-complement, complement_below, IsSigned-sign_extended, IsEven-sign_extended, complement-even}
-use Rattle.rv32_decode.proofs.Words.{word_with-fields, i_word-fields, s_word-fields, b_word-fields, u_word-fields, j_word-fields, fence-fields, atomic-fields, HasFields, HasFields-word_with, HasUpper, HasUpper-u_word, HasJump, HasJump-j_word, i_bits-i_word, s_bits-s_word, b_bits-b_word, ordered-below, funct5-ordered, aq-ordered, rl-ordered, field-i, field-b, funct5-funct7, aq-funct7, rl-funct7}
+use Rattle.rv32_decode.proofs.Words.{atomic-fields, HasFields, HasFields-word_with, HasUpper, HasUpper-u_word, HasJump, HasJump-j_word, i_bits-i_word, s_bits-s_word, b_bits-b_word, ordered-below, funct5-ordered, aq-ordered, rl-ordered}
 use Rattle.rv32_decode.proofs.Codes.{branch_funct3-below, load_funct3-below, store_funct3-below, op_imm_funct3-below, shift_funct7-below, op_funct3-below, op_funct7-below, amo_funct5-below, allows_funct7-shift, allows_funct7-at, allows_funct7-other}
 
 -- ---- what is spelled has one word
-
--- the same parts make the same word
-word_with-same : (a a' b b' c c' d d' e e' f f' : ℕ) → a ≡ a' → b ≡ b' → c ≡ c' → d ≡ d' → e ≡ e' → f ≡ f' → word_with a b c d e f ≡ word_with a' b' c' d' e' f'
-word_with-same a a' b b' c c' d d' e e' f f' p q r s t u = omega arith
 
 r_word-is : (w funct7 rs2 rs1 funct3 rd opcode : ℕ) → w < 2 ^ 32 → opcode_of w ≡ opcode → funct3_of w ≡ funct3 → funct7_of w ≡ funct7 → rd ≡ rd_of w → rs1 ≡ rs1_of w → rs2 ≡ rs2_of w → word_with funct7 rs2 rs1 funct3 rd opcode ≡ w
 r_word-is w funct7 rs2 rs1 funct3 rd opcode h a b c d e f = omega arith

@@ -1,32 +1,11 @@
 -- Words and their fields: a word is the sum of its placed fields, and a sum of fields has them.
-use Rattle.std.proofs.Common.{◌≡◌, ℕ, ◌+◌, ◌-◌, ◌*◌, ◌/◌, ◌%◌, ◌^◌, ◌<◌, ◌≤◌, Bool, true, false, refl, ap, sym, ◌∙◌, arith, nat_eq, subst}
+use Rattle.std.proofs.Common.{◌≡◌, ℕ, ◌+◌, ◌*◌, ◌/◌, ◌%◌, ◌^◌, ◌<◌, Bool, true, false, ap, sym, ◌∙◌, arith, nat_eq, subst}
 use Rattle.std.proofs.lemmas.Bool.Decides.{nat_tests}
 use Rattle.std.specs.Int.{from_bool}
 use Rattle.rv32_decode.specs.Fields.{field, opcode_of, rd_of, funct3_of, rs1_of, rs2_of, funct7_of, funct5_of, imm_u, i_bits, s_bits, b_bits, j_bits}
-use Rattle.rv32_decode.specs.Instr.{word_with, i_word, s_word, b_word, u_word, j_word, ordered, bit_of}
+use Rattle.rv32_decode.specs.Instr.{word_with, u_word, j_word, ordered, bit_of}
 
 -- ---- a word from its fields
-
-pub word_with-fields : (w : ℕ) → w < 2 ^ 32 → word_with (funct7_of w) (rs2_of w) (rs1_of w) (funct3_of w) (rd_of w) (opcode_of w) ≡ w
-word_with-fields w h = omega arith
-
-pub i_word-fields : (w : ℕ) → w < 2 ^ 32 → i_word (i_bits w) (rs1_of w) (funct3_of w) (rd_of w) (opcode_of w) ≡ w
-i_word-fields w h = omega arith
-
-pub s_word-fields : (w : ℕ) → w < 2 ^ 32 → s_word (s_bits w) (rs2_of w) (rs1_of w) (funct3_of w) (opcode_of w) ≡ w
-s_word-fields w h = omega arith
-
-pub b_word-fields : (w : ℕ) → w < 2 ^ 32 → b_word (b_bits w) (rs2_of w) (rs1_of w) (funct3_of w) (opcode_of w) ≡ w
-b_word-fields w h = omega arith
-
-pub u_word-fields : (w : ℕ) → w < 2 ^ 32 → u_word (imm_u w) (rd_of w) (opcode_of w) ≡ w
-u_word-fields w h = omega arith
-
-pub j_word-fields : (w : ℕ) → w < 2 ^ 32 → j_word (j_bits w) (rd_of w) (opcode_of w) ≡ w
-j_word-fields w h = omega arith
-
-pub fence-fields : (w : ℕ) → w < 2 ^ 32 → field w 31 28 * 2 ^ 8 + field w 27 24 * 2 ^ 4 + field w 23 20 ≡ field w 31 20
-fence-fields w h = omega arith
 
 from_bit : (n : ℕ) → n < 2 → from_bool (nat_eq n 1) ≡ n
 from_bit n h = grind (arith, nat_tests)

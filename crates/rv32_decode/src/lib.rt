@@ -1,5 +1,6 @@
 //! The 32-bit words of RV32IA: which instruction a word spells, and which word spells an instruction.
-//! The rows are those of the RISC-V unprivileged manual's chapters "RV32I" and "A extension", version 2.1 and 2.1.
+//! The rows are those of the RISC-V unprivileged manual, chapters "RV32I Base Integer Instruction Set" and
+//! "'A' Standard Extension for Atomic Instructions".
 #![tactic(auto)]
 
 mod bits;
@@ -13,3 +14,6 @@ pub use instruction::{AmoKind, BranchKind, Instr, LoadKind, OpImmKind, OpKind, S
 pub use laws::one_word_one_meaning;
 pub use reading::decode;
 pub use writing::encode;
+
+#[cfg(test)]
+mod tests;

@@ -142,24 +142,24 @@ follows-inside old new before behind taken f s stands =
 
 -- ---- the same by the place of a note in a log
 
-note-at : (notes : List Note) (i : ℕ) (note : Note) → slice_get notes i ≡ Some note → take (i + 1) notes ≡ take i notes ++ note ∷ []
-note-at notes i note e = take_more notes i note (slice_get_within notes i note e)
-    ∙ ap (λ n. take i notes ++ n ∷ []) (get_or_from_slice_get notes i note note e)
+pub take-at : {X : Type 0} (xs : List X) (i : ℕ) (x : X) → slice_get xs i ≡ Some x → take (i + 1) xs ≡ take i xs ++ x ∷ []
+take-at xs i x e = take_more xs i x (slice_get_within xs i x e)
+    ∙ ap (λ y. take i xs ++ y ∷ []) (get_or_from_slice_get xs i x x e)
 
 split-at : (notes : List Note) (i : ℕ) (note : Note) → slice_get notes i ≡ Some note → (take i notes ++ note ∷ []) ++ drop (i + 1) notes ≡ notes
-split-at notes i note e = ap (λ ns. ns ++ drop (i + 1) notes) (sym (note-at notes i note e)) ∙ take-append-drop (i + 1) notes
+split-at notes i note e = ap (λ ns. ns ++ drop (i + 1) notes) (sym (take-at notes i note e)) ∙ take-append-drop (i + 1) notes
 
 pub follows-none-at : (old new : MachineView) (notes : List Note) (i : ℕ) (note : Note) (taken : ℕ) → slice_get notes i ≡ Some note → label_of note ≡ None
   → Follows old new (take i notes) taken → Follows old new (take (i + 1) notes) taken
 follows-none-at old new notes i note taken at e f =
     let P : List Note → Type 0 = λ ns. Follows old new ns taken in
-    subst P (sym (note-at notes i note at)) (follows-none old new (take i notes) note taken e f)
+    subst P (sym (take-at notes i note at)) (follows-none old new (take i notes) note taken e f)
 
 pub follows-some-at : (old mid new : MachineView) (notes : List Note) (i : ℕ) (note : Note) (l : Label) (taken : ℕ) → slice_get notes i ≡ Some note → label_of note ≡ Some l
   → Follows old mid (take i notes) taken → Leads true l mid new → new.setup ≡ mid.setup → Follows old new (take (i + 1) notes) (taken + 1)
 follows-some-at old mid new notes i note l taken at e f leads same =
     let P : List Note → Type 0 = λ ns. Follows old new ns (taken + 1) in
-    subst P (sym (note-at notes i note at)) (follows-some old mid new (take i notes) note l taken e f leads same)
+    subst P (sym (take-at notes i note at)) (follows-some old mid new (take i notes) note l taken e f leads same)
 
 pub follows-stuck-at : (old mid new : MachineView) (notes : List Note) (i : ℕ) (note : Note) (l : Label) (taken : ℕ) → slice_get notes i ≡ Some note → label_of note ≡ Some l
   → Follows old mid (take i notes) taken → Leads false l mid new → Replays (answer.Stuck taken) (labels notes) old new

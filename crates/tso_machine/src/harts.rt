@@ -1,6 +1,6 @@
 ghost use Rattle.std.specs.Prelude.{◌≡◌, ◌<◌, ◌+◌, None, Some, IfOk, OnErr, length};
 ghost use Rattle.rv32_decode.specs.Instr.{instr_of};
-ghost use Rattle.hart_core.specs.Act.{NamesRegister};
+ghost use Rattle.hart_core.specs.Act.{IsWellFormed};
 ghost use Rattle.hart_core.specs.Registers.{register};
 ghost use Rattle.tso_machine.specs.State.{Thread, first_thread};
 ghost use Rattle.tso_machine.specs.Step.{word_at, faulted, continued, put_out, called, acted, decoded, fetched, executed};
@@ -92,7 +92,7 @@ impl Hart {
 
     /// Does what an instruction asks.
     fn perform(&mut self, asked: Act, number: u8, pc: u32) -> Result<bool, NoMemory>
-        requires { NamesRegister asked }
+        requires { IsWellFormed asked }
         ensures ok { IfOk result (λ done. Becomes done self.old self.new (acted asked number pc self.old)) }
         ensures err { OnErr result (self.new ≡ self.old) }
     {

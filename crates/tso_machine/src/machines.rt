@@ -1,4 +1,4 @@
-ghost use Rattle.std.specs.Prelude.{◌≡◌, ◌<◌, ◌≤◌, length, map, IfOk, OnErr, IfSome, slice_get, Some, option_and_then};
+ghost use Rattle.std.specs.Prelude.{◌≡◌, ◌<◌, ◌≤◌, length, map, IfOk, OnErr, slice_get, Some, option_map, option_and_then};
 ghost use Rattle.mind_base.specs.Fit.{IsFit, FitImages};
 ghost use Rattle.tso_machine.specs.State.{start_state, first_thread, image_at};
 ghost use Rattle.tso_machine.specs.Step.{executed, with_thread, threads_after};
@@ -108,7 +108,7 @@ impl Machine {
     /// Where a thread stands.
     pub fn end(&self, hart: u8) -> End
         requires { hart < length self.now.threads }
-        ensures { IfSome (slice_get self.now.threads hart) (λ thread. result ≡ thread.end) }
+        ensures { option_map (λ thread. thread.end) (slice_get self.now.threads hart) ≡ Some result }
     {
         self.harts[usize::from(hart)].end()
     }
@@ -116,7 +116,7 @@ impl Machine {
     /// The bytes that a thread put out.
     pub fn output(&self, hart: u8) -> &[u8]
         requires { hart < length self.now.threads }
-        ensures { IfSome (slice_get self.now.threads hart) (λ thread. result.now ≡ thread.output) }
+        ensures { option_map (λ thread. thread.output) (slice_get self.now.threads hart) ≡ Some result.now }
     {
         self.harts[usize::from(hart)].output()
     }

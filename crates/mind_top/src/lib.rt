@@ -1,0 +1,19 @@
+//! The program `mind` over any store of files and any sink of text.
+#![tactic(auto)]
+
+mod loaded;
+mod loading;
+mod programs;
+mod racks;
+mod refusals;
+mod running;
+mod schedules;
+mod stopped;
+mod texts;
+
+pub use loaded::Loaded;
+pub use programs::is_runnable;
+pub use racks::{Sketch, plan_from, sketch_from};
+pub use refusals::Refusal;
+pub use schedules::steps_in;
+pub use stopped::Stopped;
