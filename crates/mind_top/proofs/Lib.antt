@@ -1,7 +1,8 @@
+pub mod Chains
 pub mod Counts
 pub mod Documents
 pub mod Fit
 pub mod Headlines
+pub mod ImageWords
 pub mod Lines
 pub mod Stages
-pub mod Words

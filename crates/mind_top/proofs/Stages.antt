@@ -140,7 +140,7 @@ stepped-length setup stage index (Some next) e = after-length setup stage.state 
 
 -- there are as many threads as the plan has
 pub stage-length : (setup : Setup) (n : ℕ) → length (stage_after setup n).state.threads ≡ length setup.plan.threads
-stage-length setup zero = length-map (λ (t : ThreadPlan). first_thread (image_at setup.plan.images t.image)) setup.plan.threads
+stage-length setup zero = length-map setup.plan.threads (λ (t : ThreadPlan). first_thread (image_at setup.plan.images t.image))
 stage-length setup (suc n) = stepped-length setup (stage_after setup n) n (after setup (stage_after setup n).state (label.Exec 0)) refl ∙ stage-length setup n
 
 pub runs-length : (setup : Setup) (n : ℕ) (machine : MachineView) (notes : List Note) → Runs setup n machine notes → length machine.threads ≡ length setup.plan.threads

@@ -1,3 +1,5 @@
+pub mod Code
+pub mod Ending
 pub mod Inputs
 pub mod Judged
 pub mod Loading

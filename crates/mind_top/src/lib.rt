@@ -8,12 +8,16 @@ mod racks;
 mod refusals;
 mod running;
 mod schedules;
+mod statuses;
 mod stopped;
 mod texts;
+mod top;
+mod words;
 
 pub use loaded::Loaded;
 pub use programs::is_runnable;
 pub use racks::{Sketch, plan_from, sketch_from};
 pub use refusals::Refusal;
 pub use schedules::steps_in;
+pub use statuses::Status;
 pub use stopped::Stopped;

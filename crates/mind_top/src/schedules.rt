@@ -1,4 +1,4 @@
-ghost use Rattle.std.specs.Prelude.{◌≡◌, ◌++◌, Some, None, IfNone, MatchOption};
+ghost use Rattle.std.specs.Prelude.{◌≡◌, ◌≤◌, ◌++◌, length, IfSome, MatchOption};
 ghost use Rattle.mind_top.specs.Schedule.{step_line, steps_of, Begins};
 
 const STEP_LINE: &[u8; 7] = b"step 0\n";
@@ -16,7 +16,8 @@ fn after_line(bytes: &[u8]) -> Option<&[u8]>
 
 /// How many steps of thread 0 the schedule is, if it is such steps, a line each.
 pub fn steps_in(bytes: &[u8]) -> Option<u64>
-    ensures { result ≡ steps_of bytes.now }
+    ensures steps { result ≡ steps_of bytes.now }
+    ensures few { IfSome result (λ steps. steps ≤ length bytes.now) }
 {
     let mut left = bytes;
     let mut steps = 0u64;

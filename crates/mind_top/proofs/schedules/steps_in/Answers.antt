@@ -9,9 +9,9 @@ loop-rest-preserved c =
     ( read-line _ _ _ _ c.loop-rest.invariant.0 c.in-Some.ensures
     , omega (arith, c.loop-rest.invariant.1, ap length c.in-Some.ensures, length-append step_line c.in-Some.rest.now) )
 
-pub returns-then-is_empty : goal.returns-then-is_empty
-returns-then-is_empty c = steps_of-lines _ _
+pub returns-then-is_empty-clause-steps : goal.returns-then-is_empty-clause-steps
+returns-then-is_empty-clause-steps c = steps_of-lines _ _
     (c.loop-rest.invariant.0 ∙ ap (λ x. step_lines c.loop-rest.steps ++ x) (none-left _ c.if-is_empty.ensures) ∙ append-nil (step_lines c.loop-rest.steps))
 
-pub returns-else-is_empty : goal.returns-else-is_empty
-returns-else-is_empty c = steps_of-none _ _ _ c.loop-rest.invariant.0 (some-left _ c.if-is_empty.ensures) c.in_default.ensures
+pub returns-else-is_empty-clause-steps : goal.returns-else-is_empty-clause-steps
+returns-else-is_empty-clause-steps c = steps_of-none _ _ _ c.loop-rest.invariant.0 (some-left _ c.if-is_empty.ensures) c.in_default.ensures

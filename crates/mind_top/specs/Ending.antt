@@ -1,0 +1,62 @@
+-- How a call of the program ends: its status, what it wrote, and the log that it leaves.
+use Rattle.std.specs.Prelude.{◌≡◌, ◌⊎◌, ℕ, List, [], Option, Some, None}
+use Rattle.mind_base.specs.Store.{Files, Rises}
+use Rattle.mind_base.specs.Sink.{Appends, AppendsFront}
+use Rattle.mind_base.specs.declared.notes.Note.{Note}
+use Rattle.mind_top.specs.Words.{Paths, IsRun, IsNoForm, usage_line}
+use Rattle.mind_top.specs.Refusal.{line_of}
+use Rattle.mind_top.specs.Inputs.{Ending, Missing, Refused, Judged, Ends, Accepts, Accepted, Judges}
+use Rattle.mind_top.specs.Loading.{FaultTold}
+use Rattle.mind_top.specs.Run.{setup_of, Headline, Stands}
+use Rattle.mind_top.specs.declared.refusals.Refusal.{Refusal}
+use Rattle.mind_top.specs.declared.statuses.Status.{Status}
+use Rattle.mind_top.specs.declared.statuses.Status.TheVariants as status
+
+-- what stands counted of the outside: failed devices and missing names of the store, failed writes of the sink
+pub record Counts : Type 0 where
+  pub faults : ℕ
+  pub missed : ℕ
+  pub failed : ℕ
+
+-- The status and the text that are due where the one write does not fail, and the log that stands then.
+abbrev pub Due : Option Files → List (List ℕ) → List Note → Status → List ℕ → Type 0
+Due holds words log status.Usage text = IsNoForm words × (log ≡ []) × (text ≡ usage_line)
+Due holds words log status.Malformed text =
+    (paths : Paths) × IsRun words paths × (refusal : Refusal) × Judges holds paths (Ends (Refused refusal)) × (log ≡ []) × (text ≡ line_of refusal)
+Due holds words log status.Done text =
+    (paths : Paths) × IsRun words paths × (accepted : Accepted) × Judges holds paths (Accepts accepted) × Headline accepted log text
+Due holds words log status.ReadFault text = ⊥
+Due holds words log status.WriteFault text = ⊥
+Due holds words log status.NoMemory text = ⊥
+
+-- where memory ran out, the labels before the last event of the log replay, if a run took place at all
+abbrev pub LogStands : Option Files → List (List ℕ) → List Note → Type 0
+LogStands holds words log = (log ≡ []) ⊎ ((paths : Paths) × IsRun words paths × (accepted : Accepted) × Judges holds paths (Accepts accepted)
+    × Stands (setup_of accepted) log)
+
+-- A call ends with its status: what is due was written; or the write failed, and a front of it stands
+-- there; or a read failed, or memory ran out, and nothing was written.
+abbrev pub EndsWith : Option Files → List (List ℕ) → List Note → Counts → Counts → Option (List ℕ) → Option (List ℕ) → Status → Type 0
+EndsWith holds words log before now old new status.Done = (text : List ℕ) × Due holds words log status.Done text × Appends old new text
+EndsWith holds words log before now old new status.Usage = (text : List ℕ) × Due holds words log status.Usage text × Appends old new text
+EndsWith holds words log before now old new status.Malformed = (text : List ℕ) × Due holds words log status.Malformed text × Appends old new text
+EndsWith holds words log before now old new status.ReadFault = (paths : Paths) × IsRun words paths
+    × (Rises before.faults now.faults ⊎ Rises before.missed now.missed) × FaultTold holds (Judges holds paths) before.faults now.faults
+    × (log ≡ []) × (new ≡ old)
+EndsWith holds words log before now old new status.WriteFault = Rises before.failed now.failed
+    × (s : Status) × (text : List ℕ) × Due holds words log s text × AppendsFront old new text
+EndsWith holds words log before now old new status.NoMemory = LogStands holds words log × (new ≡ old)
+
+-- the status that the files call for
+abbrev pub status_of_ending : Ending → Status
+status_of_ending Missing = status.ReadFault
+status_of_ending (Refused refusal) = status.Malformed
+
+abbrev pub status_of : Judged → Status
+status_of (Ends ending) = status_of_ending ending
+status_of (Accepts accepted) = status.Done
+
+-- a text was written and the status is the one due, or the write failed and a front of the text stands there
+abbrev pub Says : Option (List ℕ) → Option (List ℕ) → ℕ → ℕ → List ℕ → Status → Status → Type 0
+Says old new failed failed' text due result =
+    ((result ≡ due) × Appends old new text) ⊎ ((result ≡ status.WriteFault) × Rises failed failed' × AppendsFront old new text)
