@@ -5,6 +5,7 @@ pub mod Log
 pub mod MemSink
 pub mod MemStore
 pub mod Name
+pub mod Number
 pub mod Page
 pub mod Pending
 pub mod Permission

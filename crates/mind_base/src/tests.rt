@@ -221,3 +221,49 @@ fn standard_output_takes_bytes(rt: HostRuntime) {
     let mut sink = OutSink::new(&rt);
     assert!(rt; sink.write_all(b"mind 1\n").is_ok());
 }
+
+#[test]
+fn numbers_of_texts(rt: HostRuntime) {
+    let good: [(&[u8], u64, u64); 9] = [
+        (b"0", 0, 0),
+        (b"007", 7, 7),
+        (b"1000000", 1_000_000, 1_000_000),
+        (b"0x10", 16, 16),
+        (b"0xaF09", 44809, 44809),
+        (b"0x00000000000000000000000001", 1, 1),
+        (b"4294967295", 4_294_967_295, 4_294_967_295),
+        (b"18446744073709551615", u64::MAX, u64::MAX),
+        (b"0xFFFFffffFFFFffff", u64::MAX, u64::MAX),
+    ];
+    for (text, limit, value) in good {
+        assert!(rt; number(text, limit) == Ok(value));
+    }
+    let malformed: [(&[u8], u32); 11] = [
+        (b"", 0),
+        (b"x", 0),
+        (b" 1", 0),
+        (b"-1", 0),
+        (b"12a", 2),
+        (b"0X1", 1),
+        (b"00x1", 2),
+        (b"0x", 2),
+        (b"0xg", 2),
+        (b"0x1G2", 3),
+        (b"99999999999999999999999999999z", 29),
+    ];
+    for (text, at) in malformed {
+        assert!(rt; number(text, 9) == Err(NumberFault::NotANumber { at }));
+    }
+    let large: [(&[u8], u64, u32); 7] = [
+        (b"1", 0, 0),
+        (b"64", 63, 1),
+        (b"1000001", 1_000_000, 6),
+        (b"0x11", 16, 3),
+        (b"4294967296", 4_294_967_295, 9),
+        (b"18446744073709551616", u64::MAX, 19),
+        (b"0x10000000000000000000", u64::MAX, 18),
+    ];
+    for (text, limit, at) in large {
+        assert!(rt; number(text, limit) == Err(NumberFault::TooLarge { at }));
+    }
+}

@@ -1,6 +1,7 @@
 pub mod Chains
 pub mod Counts
 pub mod Documents
+pub mod Ends
 pub mod Fit
 pub mod Headlines
 pub mod ImageWords

@@ -60,3 +60,18 @@ status_of (Accepts accepted) = status.Done
 abbrev pub Says : Option (List ℕ) → Option (List ℕ) → ℕ → ℕ → List ℕ → Status → Status → Type 0
 Says old new failed failed' text due result =
     ((result ≡ due) × Appends old new text) ⊎ ((result ≡ status.WriteFault) × Rises failed failed' × AppendsFront old new text)
+
+-- how a run of accepted inputs ends
+abbrev pub Finishes : Accepted → List Note → ℕ → ℕ → Option (List ℕ) → Option (List ℕ) → Status → Type 0
+Finishes accepted log failed failed' old new status.Done = (text : List ℕ) × Headline accepted log text × Appends old new text
+Finishes accepted log failed failed' old new status.WriteFault =
+    Rises failed failed' × (text : List ℕ) × Headline accepted log text × AppendsFront old new text
+Finishes accepted log failed failed' old new status.NoMemory = Stands (setup_of accepted) log × (new ≡ old)
+Finishes accepted log failed failed' old new status.Usage = ⊥
+Finishes accepted log failed failed' old new status.Malformed = ⊥
+Finishes accepted log failed failed' old new status.ReadFault = ⊥
+
+-- how a call ends whose words name these files
+abbrev pub Answers : Option Files → Paths → List Note → Counts → Counts → Option (List ℕ) → Option (List ℕ) → Status → Type 0
+Answers holds paths log before now old new result =
+    (words : List (List ℕ)) → IsRun words paths → EndsWith holds words log before now old new result

@@ -21,3 +21,4 @@ pub use refusals::Refusal;
 pub use schedules::steps_in;
 pub use statuses::Status;
 pub use stopped::Stopped;
+pub use top::mind;

@@ -1,0 +1,55 @@
+ghost use Rattle.std.specs.Prelude.{◌+◌, ◌<◌, ◌≤◌};
+
+use super::*;
+use mind_base::Sequence;
+use std::test::Fail;
+
+fn run(base: u32, pages: u32) -> Span
+    requires some { 0 < pages }
+    requires inside { base + pages ≤ 1048576 }
+{
+    Span {
+        domain: 0,
+        base,
+        pages,
+    }
+}
+
+#[test]
+fn the_first_outcome_that_fits(rt: HostRuntime) -> Result<(), Fail> {
+    let mut homes = Sequence::new(rt.alloc());
+    homes.push(run(0, 8))?;
+    let memories = [MemoryPlan { homes, spare: 0 }];
+    let mut protect = Protect::new(rt.alloc(), 2)?;
+    let four = Command::Map {
+        span: run(4, 4),
+        perm: Perm::Rw,
+    };
+    assert_eq!(rt; decide(&four, &memories, &protect), Outcome::Fine);
+    assert_eq!(rt; apply(&four, &mut protect), Ok(()));
+    let past = Command::Map {
+        span: run(6, 4),
+        perm: Perm::R,
+    };
+    let again = Command::Map {
+        span: run(3, 2),
+        perm: Perm::R,
+    };
+    let unmapped = Command::Unmap { span: run(3, 2) };
+    let fifth = Command::Protect {
+        span: run(5, 1),
+        perm: Perm::R,
+    };
+    let upper = Command::Protect {
+        span: run(6, 2),
+        perm: Perm::R,
+    };
+    assert_eq!(rt; decide(&past, &memories, &protect), Outcome::Unplaced);
+    assert_eq!(rt; decide(&again, &memories, &protect), Outcome::Overlap);
+    assert_eq!(rt; decide(&unmapped, &memories, &protect), Outcome::Unmapped);
+    assert_eq!(rt; decide(&fifth, &memories, &protect), Outcome::Slots);
+    assert_eq!(rt; decide(&upper, &memories, &protect), Outcome::Fine);
+    assert_eq!(rt; apply(&upper, &mut protect), Ok(()));
+    assert_eq!(rt; protect.cover(), 2);
+    Ok(())
+}

@@ -1,0 +1,3 @@
+pub mod Blades
+pub mod First
+pub mod Transition

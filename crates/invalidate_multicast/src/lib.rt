@@ -1,0 +1,11 @@
+//! Messages to all blades that hold pages of an entry, and what their answers make of it.
+#![tactic(auto)]
+
+mod casts;
+mod transitions;
+
+pub use casts::{Cast, targets};
+pub use transitions::{ack, begin, ended};
+
+#[cfg(test)]
+mod tests;

@@ -1,0 +1,25 @@
+//! The program: the real files, the real output, and one call.
+#![tactic(auto)]
+
+use mind_base::{DirStore, Log, OutSink};
+use mind_top::{Status, mind};
+use std::env;
+use std::io;
+use std::process::ExitCode;
+
+/// The words after the program's name.
+fn words<R: Env + AllocGlobal>(rt: &R) -> io::Result<Vec<String>> {
+    let words = env::args(rt)?.skip(1).collect(rt.alloc())?;
+    Ok(words)
+}
+
+fn main(rt: HostRuntime) -> ExitCode {
+    let mut store = DirStore::new(&rt);
+    let mut sink = OutSink::new(&rt);
+    let mut log = Log::new(rt.alloc());
+    let status = match words(&rt) {
+        Ok(words) => mind(rt.alloc(), words.as_slice(), &mut store, &mut sink, &mut log),
+        Err(_) => Status::NoMemory,
+    };
+    ExitCode::from(status.code())
+}

@@ -1,0 +1,6 @@
+pub mod Counting
+pub mod Finding
+pub mod Halving
+pub mod Kept
+pub mod Tables
+pub mod Uniform

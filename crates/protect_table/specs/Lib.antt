@@ -1,0 +1,3 @@
+pub mod Block
+pub mod BlockCode
+pub mod Protect

@@ -1,0 +1,250 @@
+ghost use Rattle.std.specs.Prelude.{◌≡◌, ◌≢◌, ◌≤◌, ◌<◌, ◌↔◌, IfOk, OnOk, OnErr, slice_index_or, true};
+ghost use Rattle.mind_base.specs.Page.{PageView};
+ghost use Rattle.mind_base.specs.Permission.{permission_of};
+ghost use Rattle.mind_base.specs.declared.commands.Perm.TheVariants.{No};
+ghost use Rattle.mind_base.specs.Cover.{cover_of};
+ghost use Rattle.protect_table.specs.Block.{is_sought, whole, view_of, IsHalved};
+ghost use Rattle.protect_table.specs.Protect.{permission_at, changed, FirstPage};
+
+use crate::blocks::{Block, Sought};
+use mind_base::{MapPlan, NoMemory, Page, Perm, Span};
+use std::alloc::Global;
+use std::marker::Model;
+
+/// The logarithm of the number of pages of a domain.
+const DOMAIN: u32 = 20;
+
+/// Why a permission was not set: it would take more blocks than the table has slots, or there was no
+/// memory.
+#[derive(Clone, Copy, Debug, PartialEq, Eq)]
+pub enum SetRefusal {
+    Slots,
+    NoMemory,
+}
+
+/// What each of 16 domains may do with each of its 2^20 pages. The table's slots are how many aligned
+/// blocks of one permission other than none it may take to say so.
+#[derive(Debug, Drop)]
+pub struct Protect {
+    slots: u32,
+    cover: u32,
+    domains: Vec<Block>,
+    alloc: Global,
+}
+
+impl Model for Protect {
+    ghost use Rattle.std.specs.Prelude.{map};
+    ghost use Rattle.protect_table.specs.Block.{view_of};
+    ghost use Rattle.protect_table.specs.Protect.{ProtectView, protect_code, IsProtect};
+
+    ghost Value = { ProtectView };
+
+    ghost coded = { protect_code };
+
+    ghost view = { λ s. record { slots = s.slots; domains = map view_of s.domains.items } };
+
+    ghost invariant = { λ s. IsProtect s.slots s.cover (map view_of s.domains.items) };
+}
+
+impl Protect {
+    /// A table in which no page has a permission.
+    pub fn new(alloc: Global, slots: u32) -> Result<Protect, NoMemory>
+        ensures slots { IfOk result (λ table. table.slots ≡ slots) }
+        ensures unmapped { IfOk result (λ table. (page : PageView) → permission_at table page ≡ Perm.No) }
+    {
+        let mut domains = Vec::new(alloc);
+        for _ in 0..16u32 {
+            domains.push(Block::Whole(Perm::No))?;
+        }
+        Ok(Protect {
+            slots,
+            cover: 0,
+            domains,
+            alloc,
+        })
+    }
+
+    /// A table with the permissions of these maps. Of two maps that share a page the later one counts.
+    pub fn of(alloc: Global, slots: u32, maps: &[MapPlan]) -> Result<Protect, NoMemory>
+        requires { cover_of (permission_of maps.now) ≤ slots }
+        ensures slots { IfOk result (λ table. table.slots ≡ slots) }
+        ensures maps { IfOk result (λ table. permission_at table ≡ permission_of maps.now) }
+    {
+        let mut table = Protect::new(alloc, u32::MAX)?;
+        for entry in maps {
+            table.put(&entry.span, entry.perm)?;
+        }
+        table.slots = slots;
+        Ok(table)
+    }
+
+    /// How many blocks the table may take.
+    pub fn slots(&self) -> u32
+        ensures { result ≡ self.now.slots }
+    {
+        self.slots
+    }
+
+    /// The permission of a page.
+    pub fn perm(&self, page: Page) -> Perm
+        ensures { result ≡ permission_at self.now page }
+    {
+        self.domain(page.domain).permission(DOMAIN, page.number)
+    }
+
+    /// How many blocks the table takes.
+    pub fn cover(&self) -> u32
+        ensures cover { result ≡ cover_of (permission_at self.now) }
+        ensures within { result ≤ self.now.slots }
+    {
+        self.cover
+    }
+
+    /// How many blocks it would take if the run of pages were set to the permission.
+    pub fn cover_with(&self, span: &Span, perm: Perm) -> u32
+        ensures { result ≡ cover_of (changed (permission_at self.now) span.now perm) }
+    {
+        let domain = &self.domains[span.domain as usize];
+        let before = domain.tally(DOMAIN);
+        let after = domain.tally_with(DOMAIN, span.base, span.base + span.pages, perm);
+        self.cover - before.blocks + after.blocks
+    }
+
+    /// Sets the run of pages to the permission. A refused call leaves the table as it was.
+    pub fn set(&mut self, span: &Span, perm: Perm) -> Result<(), SetRefusal>
+        ensures ok { OnOk result (permission_at self.new ≡ changed (permission_at self.old) span.now perm) }
+        ensures slots { self.new.slots ≡ self.old.slots }
+        ensures full { (result ≡ Err SetRefusal.Slots)
+            ↔ (self.old.slots < cover_of (changed (permission_at self.old) span.now perm)) }
+        ensures refused { OnErr result (self.new ≡ self.old) }
+    {
+        if self.cover_with(span, perm) > self.slots {
+            return Err(SetRefusal::Slots);
+        }
+        match self.put(span, perm) {
+            Ok(()) => Ok(()),
+            Err(NoMemory) => Err(SetRefusal::NoMemory),
+        }
+    }
+
+    fn put(&mut self, span: &Span, perm: Perm) -> Result<(), NoMemory>
+        requires { cover_of (changed (permission_at self.old) span.now perm) ≤ self.old.slots }
+        ensures ok { OnOk result (permission_at self.new ≡ changed (permission_at self.old) span.now perm) }
+        ensures slots { self.new.slots ≡ self.old.slots }
+        ensures refused { OnErr result (self.new ≡ self.old) }
+    {
+        let domain = span.domain as usize;
+        let end = span.base + span.pages;
+        let block = self.domains[domain].with(self.alloc, DOMAIN, span.base, end, perm)?;
+        self.cover = self.cover_with(span, perm);
+        self.domains[domain] = block;
+        Ok(())
+    }
+
+    /// The first page of the run whose permission is none. None exactly where there is no such page.
+    pub fn first_without(&self, span: &Span) -> Option<Page>
+        ensures { FirstPage (λ page. permission_at self.now page ≡ Perm.No) span.now result }
+    {
+        self.first(span, Sought::Unmapped)
+    }
+
+    /// The first page of the run that has a permission other than none. None exactly where there is no
+    /// such page.
+    pub fn first_with(&self, span: &Span) -> Option<Page>
+        ensures { FirstPage (λ page. permission_at self.now page ≢ Perm.No) span.now result }
+    {
+        self.first(span, Sought::Mapped)
+    }
+
+    fn first(&self, span: &Span, sought: Sought) -> Option<Page>
+        ensures { FirstPage (λ page. is_sought sought (permission_at self.now page) ≡ true) span.now result }
+    {
+        let end = span.base + span.pages;
+        let number = self
+            .domain(span.domain)
+            .first(DOMAIN, span.base, end, sought)?;
+        Some(Page {
+            domain: span.domain,
+            number,
+        })
+    }
+
+    fn domain(&self, number: u8) -> &Block
+        requires { number < 16 }
+        ensures block { view_of result.now ≡ slice_index_or self.now.domains number (whole No) }
+        ensures halved { IsHalved (view_of result.now) 20 }
+    {
+        &self.domains[number as usize]
+    }
+}
+
+#[cfg(test)]
+mod tests {
+    use super::*;
+    use std::test::Fail;
+
+    fn page(number: u32) -> Page
+        requires { number < 1048576 }
+    {
+        Page { domain: 3, number }
+    }
+
+    #[test]
+    fn a_block_more_than_the_slots_is_refused(rt: HostRuntime) -> Result<(), Fail> {
+        let four = Span {
+            domain: 3,
+            base: 4,
+            pages: 4,
+        };
+        let fifth = Span {
+            domain: 3,
+            base: 5,
+            pages: 1,
+        };
+        let upper = Span {
+            domain: 3,
+            base: 6,
+            pages: 2,
+        };
+        let mut table = Protect::new(rt.alloc(), 2)?;
+        assert_eq!(rt; table.slots(), 2);
+        assert_eq!(rt; table.cover(), 0);
+        assert_eq!(rt; table.cover_with(&four, Perm::Rw), 1);
+        assert_eq!(rt; table.set(&four, Perm::Rw), Ok(()));
+        assert_eq!(rt; table.cover(), 1);
+        assert_eq!(rt; table.cover_with(&fifth, Perm::R), 3);
+        assert_eq!(rt; table.set(&fifth, Perm::R), Err(SetRefusal::Slots));
+        assert_eq!(rt; table.cover(), 1);
+        assert_eq!(rt; table.perm(page(5)), Perm::Rw);
+        assert_eq!(rt; table.set(&upper, Perm::R), Ok(()));
+        assert_eq!(rt; table.cover(), 2);
+        assert_eq!(rt; table.perm(page(5)), Perm::Rw);
+        assert_eq!(rt; table.perm(page(6)), Perm::R);
+        assert_eq!(rt; table.perm(page(8)), Perm::No);
+        Ok(())
+    }
+
+    #[test]
+    fn the_first_page_is_found(rt: HostRuntime) -> Result<(), Fail> {
+        let run = Span {
+            domain: 3,
+            base: 0,
+            pages: 64,
+        };
+        let mapped = Span {
+            domain: 3,
+            base: 10,
+            pages: 7,
+        };
+        let maps = [MapPlan {
+            span: mapped,
+            perm: Perm::R,
+        }];
+        let table = Protect::of(rt.alloc(), 16777216, &maps)?;
+        assert_eq!(rt; table.cover(), 3);
+        assert_eq!(rt; table.first_with(&run), Some(page(10)));
+        assert_eq!(rt; table.first_without(&run), Some(page(0)));
+        assert_eq!(rt; table.first_without(&mapped), None);
+        Ok(())
+    }
+}

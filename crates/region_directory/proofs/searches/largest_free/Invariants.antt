@@ -1,0 +1,11 @@
+use Rattle.std.proofs.Common.{ℕ, ◌<◌, ◌≤◌}
+use Rattle.region_directory.specs.Block.{block_of}
+use Rattle.region_directory.specs.Entry.{MeetsNone}
+use Rattle.region_directory.proofs.searches.largest_free.Given as goal
+
+abbrev pub invariant-loop-size : goal.invariant-loop-size
+invariant-loop-size l =
+    (l.size ≤ l.log) × ((k : ℕ) → l.size < k → k ≤ l.log → MeetsNone l.entries (block_of l.page k) → ⊥)
+
+abbrev pub decreases-loop-size : goal.decreases-loop-size
+decreases-loop-size l = l.size

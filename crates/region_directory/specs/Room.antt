@@ -1,0 +1,50 @@
+-- How a full directory makes room for one more entry.
+use Rattle.std.specs.Prelude.{◌≡◌, ◌⊎◌, All, Any, ℕ, Bool, true, false, ◌&&◌, not, List, Option, Some, None, is_none, position}
+use Rattle.std.specs.List.{list_any}
+use Rattle.mind_base.specs.Page.{PageView}
+use Rattle.mind_base.specs.declared.notes.State.{State}
+use Rattle.mind_base.specs.declared.notes.State.TheVariants.{I, S, M}
+use Rattle.region_directory.specs.Block.{in_range}
+use Rattle.region_directory.specs.declared.entries.Busy.{Busy}
+use Rattle.region_directory.specs.declared.entries.Entry.{Entry}
+use Rattle.region_directory.specs.declared.rooms.Room.{Room}
+use Rattle.region_directory.specs.declared.rooms.Room.TheVariants.{Drop, Evict, Wait}
+
+-- the state names no blade
+abbrev pub is_unheld : State → Bool
+is_unheld I = true
+is_unheld (S sharers) = false
+is_unheld (M owner) = false
+
+-- nobody holds a page of the entry, and no transition of it is under way
+abbrev pub is_droppable : Entry → Bool
+is_droppable entry = is_unheld entry.state && is_none entry.busy
+
+-- the transition makes room
+abbrev pub is_for_room : Option Busy → Bool
+is_for_room None = false
+is_for_room (Some busy) = busy.for_room
+
+-- no transition of the entry is under way, and none of these pages is its
+abbrev pub is_evictable : List PageView → Entry → Bool
+is_evictable fetching entry = is_none entry.busy && not (list_any (in_range entry.range) fetching)
+
+-- The first rule that fits: an entry is dropped; a transition that makes room is waited for; an entry is
+-- taken from its holders; else nothing can be done yet.
+abbrev pub first_rule : Option ℕ → Bool → Option ℕ → Room
+first_rule (Some i) clearing evictable = Drop i
+first_rule None true evictable = Wait
+first_rule None false (Some i) = Evict i
+first_rule None false None = Wait
+
+-- what makes room among these entries while these pages are being fetched
+abbrev pub room_of : List Entry → List PageView → Room
+room_of entries fetching = first_rule
+    (position is_droppable entries)
+    (list_any (λ entry. is_for_room entry.busy) entries)
+    (position (is_evictable fetching) entries)
+
+-- no entry can be dropped, and a transition that makes room is under way or no entry can be taken from its holders
+abbrev pub MustWait : List Entry → List PageView → Type 0
+MustWait entries fetching =
+    All (λ entry. is_droppable entry ≡ false) entries × (Any (λ entry. is_for_room entry.busy ≡ true) entries ⊎ All (λ entry. is_evictable fetching entry ≡ false) entries)

@@ -1,0 +1,52 @@
+ghost use Rattle.std.specs.Prelude.{◌≡◌, ◌<◌, ◌≤◌, map, insert, vec_len, vec_capacity};
+ghost use Rattle.region_directory.specs.Entry.{in_state, with_busy, with_hits, plus_hits, changed_at};
+
+use crate::{Busy, Entry};
+use mind_base::State;
+
+/// Puts an entry at a place, where there is memory for it.
+pub fn put_at(entries: &mut Vec<Entry>, place: usize, entry: Entry)
+    requires place { place ≤ vec_len entries.old }
+    requires space { vec_len entries.old < vec_capacity entries.old }
+    ensures entries { entries.new.items ≡ insert entries.old.items place entry }
+    ensures capacity { vec_capacity entries.old ≤ vec_capacity entries.new }
+{
+    let _ = entries.insert(place, entry);
+}
+
+pub fn put_state(entries: &mut Vec<Entry>, i: usize, state: State)
+    requires { i < vec_len entries.old }
+    ensures entries { entries.new.items ≡ changed_at i (in_state state) entries.old.items }
+    ensures capacity { vec_capacity entries.new ≡ vec_capacity entries.old }
+{
+    let entry = &mut entries[i];
+    entry.state = state;
+}
+
+pub fn put_busy(entries: &mut Vec<Entry>, i: usize, busy: Option<Busy>)
+    requires { i < vec_len entries.old }
+    ensures entries { entries.new.items ≡ changed_at i (with_busy busy) entries.old.items }
+    ensures capacity { vec_capacity entries.new ≡ vec_capacity entries.old }
+{
+    let entry = &mut entries[i];
+    entry.busy = busy;
+}
+
+pub fn count_hits(entries: &mut Vec<Entry>, i: usize, count: u32)
+    requires { i < vec_len entries.old }
+    ensures entries { entries.new.items ≡ changed_at i (plus_hits count) entries.old.items }
+    ensures capacity { vec_capacity entries.new ≡ vec_capacity entries.old }
+{
+    let entry = &mut entries[i];
+    entry.hits = entry.hits.saturating_add(count);
+}
+
+pub fn reset_hits(entries: &mut Vec<Entry>)
+    ensures entries { entries.new.items ≡ map (with_hits 0) entries.old.items }
+    ensures capacity { vec_capacity entries.new ≡ vec_capacity entries.old }
+{
+    for i in 0..entries.len() {
+        let entry = &mut entries[i];
+        entry.hits = 0;
+    }
+}

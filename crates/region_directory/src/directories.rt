@@ -1,0 +1,213 @@
+ghost use Rattle.std.specs.Prelude.{◌≡◌, ◌↔◌, ◌+◌, ◌<◌, ◌≤◌, ℕ, [], length, map, insert, remove, slice_get, Some, IsTrue, IsNone, IfSome, IfOk};
+ghost use Rattle.mind_base.specs.Range.{RangeView, IsRange, InRange};
+ghost use Rattle.region_directory.specs.Entry.{HasPage, NoneHas, MeetsNone, place_of, fresh_entry, in_state, with_busy, with_hits, plus_hits, changed_at};
+ghost use Rattle.region_directory.specs.Directory.{DirectoryView, IsDirectory};
+ghost use Rattle.region_directory.specs.Room.{room_of, MustWait};
+
+use crate::changes::{count_hits, put_at, put_busy, put_state, reset_hits};
+use crate::rooms::room_among;
+use crate::searches::{entry_with, largest_free, place_for};
+use crate::{Busy, Entry, Room};
+use mind_base::{NoMemory, Page, Range, State};
+use std::alloc::Global;
+use std::marker::Model;
+
+/// The directory: a list of entries by domain and first page, no two of which share a page, and at
+/// most as many as there are slots. All its memory is taken when it is made.
+#[derive(Drop)]
+pub struct Directory {
+    slots: u32,
+    most: u8,
+    entries: Vec<Entry>,
+}
+
+impl Model for Directory {
+    ghost use Rattle.std.specs.Prelude.{◌≤◌, vec_capacity};
+    ghost use Rattle.region_directory.specs.Directory.{DirectoryView, IsDirectory};
+
+    ghost Value = { DirectoryView };
+
+    ghost view = { λ d. record { slots = d.slots; most = d.most; entries = d.entries.items } };
+
+    ghost invariant = { λ d. (d.slots ≤ vec_capacity d.entries) × IsDirectory (record { slots = d.slots; most = d.most; entries = d.entries.items }) };
+}
+
+impl Directory {
+    /// An empty directory of `slots` entries. It has the memory for all of them, so no other call
+    /// takes any. `most` is the logarithm of the most pages that a merged block may have.
+    pub fn new(alloc: Global, slots: u32, most: u8) -> Result<Directory, NoMemory>
+        ensures made { IfOk result (λ d. d ≡ record { slots = slots; most = most; entries = [] }) }
+        ensures valid { IfOk result IsDirectory }
+    {
+        let entries = Vec::with_capacity(alloc, slots as usize)?;
+        Ok(Directory {
+            slots,
+            most,
+            entries,
+        })
+    }
+
+    /// How many entries there are.
+    pub fn len(&self) -> u32
+        ensures len { result ≡ length self.now.entries }
+        ensures valid { IsDirectory self.now }
+    {
+        self.entries.len() as u32
+    }
+
+    /// Whether there is no entry.
+    pub fn is_empty(&self) -> bool
+        ensures empty { IsTrue result ↔ (self.now.entries ≡ []) }
+        ensures valid { IsDirectory self.now }
+    {
+        self.entries.is_empty()
+    }
+
+    /// How many entries there may be.
+    pub fn slots(&self) -> u32
+        ensures slots { result ≡ self.now.slots }
+        ensures valid { IsDirectory self.now }
+    {
+        self.slots
+    }
+
+    /// Whether every slot has an entry.
+    pub fn is_full(&self) -> bool
+        ensures full { IsTrue result ↔ (length self.now.entries ≡ self.now.slots) }
+        ensures valid { IsDirectory self.now }
+    {
+        self.entries.len() == self.slots as usize
+    }
+
+    /// The index of the entry that has the page; None exactly where no entry has it.
+    pub fn find(&self, page: Page) -> Option<u32>
+        ensures found { IfSome result (λ i. HasPage self.now.entries i page) }
+        ensures only { IfSome result
+            (λ i. (k : ℕ) → HasPage self.now.entries k page → k ≡ i) }
+        ensures none { IsNone result ↔ NoneHas self.now.entries page }
+        ensures valid { IsDirectory self.now }
+    {
+        match entry_with(self.entries.as_slice(), &page) {
+            Some(index) => Some(index as u32),
+            None => None,
+        }
+    }
+
+    /// The entry with this index.
+    pub fn entry(&self, i: u32) -> Entry
+        requires { i < length self.now.entries }
+        ensures entry { slice_get self.now.entries i ≡ Some result }
+        ensures valid { IsDirectory self.now }
+    {
+        self.entries[i as usize]
+    }
+
+    /// The largest aligned block with the page, of at most 2^`log` pages, that shares no page with an
+    /// entry.
+    pub fn new_range(&self, page: Page, log: u8) -> Range
+        requires unknown { NoneHas self.now.entries page }
+        requires size { log ≤ 9 }
+        ensures has { InRange result page }
+        ensures block { IsRange result.domain result.base result.log }
+        ensures size { result.log ≤ log }
+        ensures free { MeetsNone self.now.entries result }
+        ensures largest { (other : RangeView) → IsRange other.domain other.base other.log
+            → InRange other page → other.log ≤ log → MeetsNone self.now.entries other
+            → other.log ≤ result.log }
+        ensures valid { IsDirectory self.now }
+    {
+        largest_free(self.entries.as_slice(), &page, log)
+    }
+
+    /// What makes room in a full directory, while these pages are being fetched.
+    pub fn room(&self, fetching: &[Page]) -> Room
+        requires { length self.now.entries ≡ self.now.slots }
+        ensures room { result ≡ room_of self.now.entries fetching.now }
+        ensures waits { (result ≡ Room.Wait) ↔ MustWait self.now.entries fetching.now }
+        ensures valid { IsDirectory self.now }
+    {
+        room_among(self.entries.as_slice(), fetching)
+    }
+
+    /// Puts an entry for the block at its place: in state I, with no transition and no hits.
+    pub fn insert(&mut self, range: Range)
+        requires space { length self.old.entries < self.old.slots }
+        requires free { MeetsNone self.old.entries range }
+        ensures inserted { self.new ≡ record self.old {
+          entries = insert self.old.entries (place_of self.old.entries range) (fresh_entry range);
+        } }
+        ensures count { length self.new.entries ≡ length self.old.entries + 1 }
+        ensures valid { IsDirectory self.new }
+    {
+        // A block's bounds are known where it is read.
+        let _ = &range.log;
+        let place = place_for(self.entries.as_slice(), &range);
+        put_at(
+            &mut self.entries,
+            place,
+            Entry {
+                range,
+                state: State::I,
+                busy: None,
+                hits: 0,
+            },
+        );
+    }
+
+    /// Drops the entry with this index.
+    pub fn remove(&mut self, i: u32)
+        requires { i < length self.old.entries }
+        ensures removed { self.new ≡ record self.old { entries = remove self.old.entries i } }
+        ensures count { length self.new.entries + 1 ≡ length self.old.entries }
+        ensures valid { IsDirectory self.new }
+    {
+        let _ = self.entries.remove(i as usize);
+    }
+
+    /// Gives the entry with this index another state.
+    pub fn set_state(&mut self, i: u32, state: State)
+        requires { i < length self.old.entries }
+        ensures changed { self.new ≡ record self.old {
+          entries = changed_at i (in_state state) self.old.entries;
+        } }
+        ensures count { length self.new.entries ≡ length self.old.entries }
+        ensures valid { IsDirectory self.new }
+    {
+        put_state(&mut self.entries, i as usize, state);
+    }
+
+    /// Gives the entry with this index another transition, or none.
+    pub fn set_busy(&mut self, i: u32, busy: Option<Busy>)
+        requires { i < length self.old.entries }
+        ensures changed { self.new ≡ record self.old {
+          entries = changed_at i (with_busy busy) self.old.entries;
+        } }
+        ensures count { length self.new.entries ≡ length self.old.entries }
+        ensures valid { IsDirectory self.new }
+    {
+        put_busy(&mut self.entries, i as usize, busy);
+    }
+
+    /// Adds to the hits of the entry with this index, up to the greatest u32.
+    pub fn add_hits(&mut self, i: u32, count: u32)
+        requires { i < length self.old.entries }
+        ensures changed { self.new ≡ record self.old {
+          entries = changed_at i (plus_hits count) self.old.entries;
+        } }
+        ensures count { length self.new.entries ≡ length self.old.entries }
+        ensures valid { IsDirectory self.new }
+    {
+        count_hits(&mut self.entries, i as usize, count);
+    }
+
+    /// Makes the hits of every entry 0.
+    pub fn clear_hits(&mut self)
+        ensures cleared { self.new ≡ record self.old {
+          entries = map (with_hits 0) self.old.entries;
+        } }
+        ensures count { length self.new.entries ≡ length self.old.entries }
+        ensures valid { IsDirectory self.new }
+    {
+        reset_hits(&mut self.entries);
+    }
+}

@@ -1,0 +1,17 @@
+//! The directory of the switch: which blocks of pages have an entry, in what state each is, and how
+//! a full directory makes room.
+#![tactic(auto)]
+
+mod blocks;
+mod changes;
+mod directories;
+mod entries;
+mod rooms;
+mod searches;
+
+pub use directories::Directory;
+pub use entries::{Busy, Entry};
+pub use rooms::Room;
+
+#[cfg(test)]
+mod tests;

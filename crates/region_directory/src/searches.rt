@@ -1,0 +1,55 @@
+ghost use Rattle.std.specs.Prelude.{◌≡◌, ◌≤◌, ◌<◌, ℕ, count_by, position, length, IfSome};
+ghost use Rattle.std.specs.List.{list_all};
+ghost use Rattle.mind_base.specs.Range.{RangeView};
+ghost use Rattle.region_directory.specs.Block.{in_range, is_before, are_apart, block_of};
+ghost use Rattle.region_directory.specs.Entry.{place_of, MeetsNone};
+
+use crate::Entry;
+use crate::blocks::{block_around, comes_before, has_page, stand_apart};
+use mind_base::{Page, Range};
+
+/// The first entry that has the page.
+pub fn entry_with(entries: &[Entry], page: &Page) -> Option<usize>
+    ensures first { result ≡ position (λ entry. in_range entry.range page.now) entries.now }
+    ensures within { IfSome result (λ i. i < length entries.now) }
+{
+    entries
+        .iter()
+        .position(|entry| has_page(&entry.range, page))
+}
+
+/// How many entries come before the block.
+pub fn place_for(entries: &[Entry], range: &Range) -> usize
+    ensures place { result ≡ place_of entries.now range.now }
+    ensures within { result ≤ length entries.now }
+{
+    entries
+        .iter()
+        .filter(|entry| comes_before(&entry.range, range))
+        .count()
+}
+
+fn is_free(entries: &[Entry], range: &Range) -> bool
+    ensures { result ≡ list_all (λ entry. are_apart entry.range range.now) entries.now }
+{
+    entries.iter().all(|entry| stand_apart(&entry.range, range))
+}
+
+/// The largest block with the page, of at most 2^`log` pages, that shares no page with an entry.
+pub fn largest_free(entries: &[Entry], page: &Page, log: u8) -> Range
+    requires { log ≤ 9 }
+    ensures block { result ≡ block_of page.now result.log }
+    ensures size { result.log ≤ log }
+    ensures free { 0 < result.log → MeetsNone entries.now result }
+    ensures largest { (k : ℕ) → result.log < k → k ≤ log → MeetsNone entries.now (block_of page.now k) → ⊥ }
+{
+    let mut size = log;
+    while size > 0 {
+        let block = block_around(page, size);
+        if is_free(entries, &block) {
+            return block;
+        }
+        size -= 1;
+    }
+    block_around(page, 0)
+}
