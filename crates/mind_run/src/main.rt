@@ -6,6 +6,7 @@ use mind_top::{Status, mind};
 use std::env;
 use std::io;
 use std::process::ExitCode;
+use std::rt::Env;
 
 /// The words after the program's name.
 fn words<R: Env + AllocGlobal>(rt: &R) -> io::Result<Vec<String>> {
