@@ -3,10 +3,9 @@
 
 use mind_base::{DirStore, Log, OutSink};
 use mind_top::{Status, mind};
-use std::env;
-use std::io;
 use std::process::ExitCode;
 use std::rt::Env;
+use std::{env, io};
 
 /// The words after the program's name.
 fn words<R: Env + AllocGlobal>(rt: &R) -> io::Result<Vec<String>> {
@@ -19,7 +18,13 @@ fn main(rt: HostRuntime) -> ExitCode {
     let mut sink = OutSink::new(&rt);
     let mut log = Log::new(rt.alloc());
     let status = match words(&rt) {
-        Ok(words) => mind(rt.alloc(), words.as_slice(), &mut store, &mut sink, &mut log),
+        Ok(words) => mind(
+            rt.alloc(),
+            words.as_slice(),
+            &mut store,
+            &mut sink,
+            &mut log,
+        ),
         Err(_) => Status::NoMemory,
     };
     ExitCode::from(status.code())

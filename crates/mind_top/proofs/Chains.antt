@@ -1,9 +1,9 @@
 -- One input is read and judged, and then the rest: for any way to judge it and any rest.
-use Rattle.std.proofs.Common.{◌≡◌, ℕ, ◌+◌, ◌-◌, ◌^◌, ◌<◌, ◌≤◌, ◌⊎◌, inl, inr, min, ◌∙◌, Bool, true, false, cond, nat_lt, List, length, ap, sym, refl, subst, Option, Some, None, Result, Ok, Err, vec_len, arith}
+use Rattle.std.proofs.Common.{◌≡◌, ℕ, ◌≤◌, ◌⊎◌, inl, inr, ◌∙◌, Bool, false, cond, nat_lt, List, length, ap, sym, refl, subst, Option, Some, None, Result, Ok, Err, vec_len, arith}
 use Rattle.std.specs.Global.{Vec}
 use Rattle.std.specs.FinMap as finite
 use Rattle.std.proofs.lemmas.Bool.{le-ltb, lt-ltb}
-use Rattle.mind_base.specs.Store.{Files, held, Rises, FailedBy, MissedStays, ErrorBy, ReadHasCause, TellsHeld, ReadTells}
+use Rattle.mind_base.specs.Store.{Files, held, Rises, FailedBy, ErrorBy, ReadTells}
 use Rattle.mind_base.specs.declared.stores.ReadError.{ReadError}
 use Rattle.mind_base.specs.declared.stores.ReadError.TheVariants as read
 use Rattle.mind_top.specs.Inputs.{Seen, Absent, Long, Bytes, Ending, Missing, Refused, Judged, Ends, Accepts, Accepted, seen_of, Reads}
@@ -31,14 +31,14 @@ fits-limit : (limit n : ℕ) (b : Bool) → nat_lt limit n ≡ b → n ≤ limit
 fits-limit limit n b e le = sym e ∙ le-ltb limit n le
 
 pub reads-bytes : (holds : Option Files) (name : List ℕ) (limit : ℕ) (v : Vec ℕ) → ReadTells (held holds name) limit (Ok v) → length v.items ≤ limit
-  → Reads holds name limit (Bytes v.items)
+    → Reads holds name limit (Bytes v.items)
 reads-bytes None name limit v told short = tt
 reads-bytes (Some files) name limit v told short = ap (λ o. seen_of o limit) told
     ∙ ap (λ b. cond b Long (Bytes v.items)) (fits-limit limit (length v.items) _ refl short)
 
 -- the same by a slice of those bytes
 pub reads-slice : (holds : Option Files) (name : List ℕ) (limit : ℕ) (v : Vec ℕ) (slice : List ℕ) → slice ≡ v.items → ReadTells (held holds name) limit (Ok v) → vec_len v ≤ limit
-  → Reads holds name limit (Bytes slice)
+    → Reads holds name limit (Bytes slice)
 reads-slice holds name limit v slice same told short =
     let P : List ℕ → Type 0 = λ bytes. Reads holds name limit (Bytes bytes) in subst P (sym same) (reads-bytes holds name limit v told (subst (λ n. n ≤ limit) v.ok.0 short))
 
@@ -53,24 +53,24 @@ reads-long (Some files) name limit n (bytes, is, long) = ap (λ o. seen_of o lim
 -- ---- a read that gives no bytes
 
 fault-by : {Y : Type 0} (files : Files) (name : List ℕ) (limit f f' m m' : ℕ) (judged : Seen → Result Y Ending) (after : Result Y Ending → Judged → Type 0)
-  (o : Option (List ℕ)) → finite.get files name ≡ o → judged Absent ≡ Err Missing → EndsBy after → FailedBy (Some o) f f' m m'
-  → (Rises f f' ⊎ Rises m m') × (Rises f f' ⊎ Chain (Some files) name limit judged after (Ends Missing))
+    (o : Option (List ℕ)) → finite.get files name ≡ o → judged Absent ≡ Err Missing → EndsBy after → FailedBy (Some o) f f' m m'
+    → (Rises f f' ⊎ Rises m m') × (Rises f f' ⊎ Chain (Some files) name limit judged after (Ends Missing))
 fault-by files name limit f f' m m' judged after (Some bytes) is absent ends failed = (inl failed, inl failed)
 fault-by {Y} files name limit f f' m m' judged after None is absent ends failed =
     let P : Result Y Ending → Type 0 = λ r. after r (Ends Missing) in
     (failed, inr (Absent, ap (λ o. seen_of o limit) is, subst P (sym absent) (ends Missing)))
 
 fault : {Y : Type 0} (holds : Option Files) (name : List ℕ) (limit f f' m m' : ℕ) (judged : Seen → Result Y Ending) (after : Result Y Ending → Judged → Type 0)
-  → judged Absent ≡ Err Missing → EndsBy after → FailedBy (held holds name) f f' m m'
-  → (Rises f f' ⊎ Rises m m') × FaultTold holds (Chain holds name limit judged after) f f'
+    → judged Absent ≡ Err Missing → EndsBy after → FailedBy (held holds name) f f' m m'
+    → (Rises f f' ⊎ Rises m m') × FaultTold holds (Chain holds name limit judged after) f f'
 fault None name limit f f' m m' judged after absent ends failed = (failed, tt)
 fault (Some files) name limit f f' m m' judged after absent ends failed =
     fault-by files name limit f f' m m' judged after (finite.get files name) refl absent ends failed
 
 pub read-stops : {Y : Type 0} (holds : Option Files) (name : List ℕ) (limit f f' m m' : ℕ) (judged : Seen → Result Y Ending) (after : Result Y Ending → Judged → Type 0)
-  (long : Refusal) (error : ReadError) → judged Absent ≡ Err Missing → judged Long ≡ Err (Refused long) → EndsBy after
-  → ErrorBy (held holds name) f f' m m' limit (Err error) → ReadTells (held holds name) limit (Err error)
-  → Loads holds (Chain holds name limit judged after) f f' m m' (Err (stopped_of error long))
+    (long : Refusal) (error : ReadError) → judged Absent ≡ Err Missing → judged Long ≡ Err (Refused long) → EndsBy after
+    → ErrorBy (held holds name) f f' m m' limit (Err error) → ReadTells (held holds name) limit (Err error)
+    → Loads holds (Chain holds name limit judged after) f f' m m' (Err (stopped_of error long))
 read-stops holds name limit f f' m m' judged after long read.Failed absent is_long ends cause told = fault holds name limit f f' m m' judged after absent ends cause
 read-stops {Y} holds name limit f f' m m' judged after long (read.TooLong n) absent is_long ends cause told =
     let P : Result Y Ending → Type 0 = λ r. after r (Ends (Refused long)) in
@@ -80,8 +80,8 @@ read-stops holds name limit f f' m m' judged after long read.NoMemory absent is_
 -- ---- an input that is refused
 
 pub judge-stops : {X Y : Type 0} (view : X → Y) (holds : Option Files) (name : List ℕ) (limit f f' m m' : ℕ) (judged : Seen → Result Y Ending) (after : Result Y Ending → Judged → Type 0)
-  (bytes : List ℕ) (why : Stopped) → Reads holds name limit (Bytes bytes) → EndsBy after → Gives view (Err why) (judged (Bytes bytes))
-  → Loads holds (Chain holds name limit judged after) f f' m m' (Err why)
+    (bytes : List ℕ) (why : Stopped) → Reads holds name limit (Bytes bytes) → EndsBy after → Gives view (Err why) (judged (Bytes bytes))
+    → Loads holds (Chain holds name limit judged after) f f' m m' (Err why)
 judge-stops {X} {Y} view holds name limit f f' m m' judged after bytes (stopped.Refused refusal) reads ends gives =
     let P : Result Y Ending → Type 0 = λ r. after r (Ends (Refused refusal)) in
     (Bytes bytes, reads, subst P (sym gives) (ends (Refused refusal)))
@@ -91,13 +91,13 @@ judge-stops view holds name limit f f' m m' judged after bytes stopped.NoMemory 
 -- ---- an input that is accepted, and what comes behind it
 
 pub chain-on : {Y : Type 0} (holds : Option Files) (name : List ℕ) (limit : ℕ) (judged : Seen → Result Y Ending) (after : Result Y Ending → Judged → Type 0)
-  (bytes : List ℕ) (y : Y) (j : Judged) → Reads holds name limit (Bytes bytes) → judged (Bytes bytes) ≡ Ok y → after (Ok y) j → Chain holds name limit judged after j
+    (bytes : List ℕ) (y : Y) (j : Judged) → Reads holds name limit (Bytes bytes) → judged (Bytes bytes) ≡ Ok y → after (Ok y) j → Chain holds name limit judged after j
 chain-on {Y} holds name limit judged after bytes y j reads gives rest =
     let P : Result Y Ending → Type 0 = λ r. after r j in (Bytes bytes, reads, subst P (sym gives) rest)
 
 told-on : {Y : Type 0} (holds : Option Files) (name : List ℕ) (limit f f1 f' : ℕ) (judged : Seen → Result Y Ending) (after : Result Y Ending → Judged → Type 0)
-  (bytes : List ℕ) (y : Y) → f ≤ f1 → Reads holds name limit (Bytes bytes) → judged (Bytes bytes) ≡ Ok y
-  → FaultTold holds (after (Ok y)) f1 f' → FaultTold holds (Chain holds name limit judged after) f f'
+    (bytes : List ℕ) (y : Y) → f ≤ f1 → Reads holds name limit (Bytes bytes) → judged (Bytes bytes) ≡ Ok y
+    → FaultTold holds (after (Ok y)) f1 f' → FaultTold holds (Chain holds name limit judged after) f f'
 told-on None name limit f f1 f' judged after bytes y le reads gives rest = tt
 told-on (Some files) name limit f f1 f' judged after bytes y le reads gives (inl rises) = inl (rises-from f f1 f' le rises)
 told-on (Some files) name limit f f1 f' judged after bytes y le reads gives (inr missing) =
@@ -108,8 +108,8 @@ either-on f f1 f' m m1 m' le le' (inl rises) = inl (rises-from f f1 f' le rises)
 either-on f f1 f' m m1 m' le le' (inr rises) = inr (rises-from m m1 m' le' rises)
 
 pub goes-on : {Y : Type 0} (holds : Option Files) (name : List ℕ) (limit f f1 f' m m1 m' : ℕ) (judged : Seen → Result Y Ending) (after : Result Y Ending → Judged → Type 0)
-  (bytes : List ℕ) (y : Y) (result : Result Accepted Stopped) → f ≤ f1 → m ≤ m1 → Reads holds name limit (Bytes bytes) → judged (Bytes bytes) ≡ Ok y
-  → Loads holds (after (Ok y)) f1 f' m1 m' result → Loads holds (Chain holds name limit judged after) f f' m m' result
+    (bytes : List ℕ) (y : Y) (result : Result Accepted Stopped) → f ≤ f1 → m ≤ m1 → Reads holds name limit (Bytes bytes) → judged (Bytes bytes) ≡ Ok y
+    → Loads holds (after (Ok y)) f1 f' m1 m' result → Loads holds (Chain holds name limit judged after) f f' m m' result
 goes-on holds name limit f f1 f' m m1 m' judged after bytes y (Ok accepted) le le' reads gives rest =
     chain-on holds name limit judged after bytes y (Accepts accepted) reads gives rest
 goes-on holds name limit f f1 f' m m1 m' judged after bytes y (Err (stopped.Refused refusal)) le le' reads gives rest =
@@ -120,8 +120,8 @@ goes-on holds name limit f f1 f' m m1 m' judged after bytes y (Err stopped.NoMem
 
 -- what comes behind it was loaded with the store as the read left it, which holds the same
 pub goes-on-with : {Y : Type 0} (holds mid : Option Files) (name : List ℕ) (limit f f1 f' m m1 m' : ℕ) (judged : Seen → Result Y Ending) (after : Option Files → Result Y Ending → Judged → Type 0)
-  (bytes : List ℕ) (y : Y) (result : Result Accepted Stopped) → mid ≡ holds → f ≤ f1 → m ≤ m1 → Reads holds name limit (Bytes bytes) → judged (Bytes bytes) ≡ Ok y
-  → Loads mid (after mid (Ok y)) f1 f' m1 m' result → Loads holds (Chain holds name limit judged (after holds)) f f' m m' result
+    (bytes : List ℕ) (y : Y) (result : Result Accepted Stopped) → mid ≡ holds → f ≤ f1 → m ≤ m1 → Reads holds name limit (Bytes bytes) → judged (Bytes bytes) ≡ Ok y
+    → Loads mid (after mid (Ok y)) f1 f' m1 m' result → Loads holds (Chain holds name limit judged (after holds)) f f' m m' result
 goes-on-with holds mid name limit f f1 f' m m1 m' judged after bytes y result same le le' reads gives rest =
     let P : Option Files → Type 0 = λ h. Loads h (after h (Ok y)) f1 f' m1 m' result in
     goes-on holds name limit f f1 f' m m1 m' judged (after holds) bytes y result le le' reads gives (subst P same rest)

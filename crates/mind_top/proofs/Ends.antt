@@ -1,23 +1,19 @@
 -- From the parts of a call to how it ends.
-use Rattle.std.proofs.Common.{◌≡◌, ℕ, ◌⊎◌, inl, inr, ◌∙◌, List, [], ◌∷◌, ap, sym, refl, subst, Option, Some, None, Result, Ok, Err}
+use Rattle.std.proofs.Common.{◌≡◌, ℕ, ◌⊎◌, inl, inr, ◌∙◌, List, ap, sym, refl, subst, Option, Some, Result, Ok, Err}
 use Rattle.mind_base.specs.Store.{Files, Rises}
-use Rattle.mind_base.specs.Sink.{Appends, AppendsFront}
+use Rattle.mind_base.specs.Sink.{Appends}
 use Rattle.mind_base.specs.declared.notes.Note.{Note}
-use Rattle.mind_top.specs.Words.{Paths, IsRun, IsNoForm, usage_line}
-use Rattle.mind_top.specs.Refusal.{line_of}
+use Rattle.mind_top.specs.Words.{Paths, IsRun, IsNoForm}
 use Rattle.mind_top.specs.Rack.{SketchView}
-use Rattle.mind_top.specs.Inputs.{Seen, Ending, Missing, Refused, Judged, Ends, Accepts, Accepted, rack_judged, image_judged, schedule_judged, AfterSchedule, AfterImage, AfterRack, Judges, schedule_ends, image_ends, rack_ends, judge}
-use Rattle.mind_top.specs.Loading.{FaultTold}
-use Rattle.mind_top.specs.Run.{setup_of, Headline, Stands}
-use Rattle.mind_top.specs.Ending.{Counts, Due, LogStands, EndsWith, Says, Finishes, Answers, status_of_ending, status_of}
-use Rattle.mind_top.specs.declared.refusals.Refusal.{Refusal}
+use Rattle.mind_top.specs.Inputs.{Ending, Missing, Refused, Judged, Ends, Accepts, Accepted, rack_judged, image_judged, schedule_judged, AfterSchedule, AfterImage, AfterRack, Judges, schedule_ends, image_ends, rack_ends, judge}
+use Rattle.mind_top.specs.Ending.{Counts, Due, EndsWith, Says, Finishes, status_of}
 use Rattle.mind_top.specs.declared.statuses.Status.{Status}
 use Rattle.mind_top.specs.declared.statuses.Status.TheVariants as status
 
 -- ---- what was due was written, or the write failed
 
 due-written : (holds : Option Files) (words : List (List ℕ)) (log : List Note) (before now : Counts) (old new : Option (List ℕ)) (text : List ℕ) (due : Status)
-  → Due holds words log due text → Appends old new text → EndsWith holds words log before now old new due
+    → Due holds words log due text → Appends old new text → EndsWith holds words log before now old new due
 due-written holds words log before now old new text status.Done due appends = (text, due, appends)
 due-written holds words log before now old new text status.Usage due appends = (text, due, appends)
 due-written holds words log before now old new text status.Malformed due appends = (text, due, appends)
@@ -26,7 +22,7 @@ due-written holds words log before now old new text status.WriteFault due append
 due-written holds words log before now old new text status.NoMemory due appends = absurd due
 
 pub said : (holds : Option Files) (words : List (List ℕ)) (log : List Note) (before now : Counts) (old new : Option (List ℕ)) (text : List ℕ) (due result : Status)
-  → Due holds words log due text → Says old new before.failed now.failed text due result → EndsWith holds words log before now old new result
+    → Due holds words log due text → Says old new before.failed now.failed text due result → EndsWith holds words log before now old new result
 said holds words log before now old new text due result is_due (inl (same, appends)) =
     let P : Status → Type 0 = λ s. EndsWith holds words log before now old new s in
     subst P (sym same) (due-written holds words log before now old new text due is_due appends)
@@ -36,8 +32,8 @@ said holds words log before now old new text due result is_due (inr (fault, rise
 
 -- a run of accepted inputs
 pub finished : (holds : Option Files) (words : List (List ℕ)) (paths : Paths) (accepted : Accepted) (log : List Note) (before now : Counts) (old new : Option (List ℕ)) (result : Status)
-  → IsRun words paths → Judges holds paths (Accepts accepted) → Finishes accepted log before.failed now.failed old new result
-  → EndsWith holds words log before now old new result
+    → IsRun words paths → Judges holds paths (Accepts accepted) → Finishes accepted log before.failed now.failed old new result
+    → EndsWith holds words log before now old new result
 finished holds words paths accepted log before now old new status.Done is_run judges (text, headline, appends) =
     (text, (paths, is_run, accepted, judges, headline), appends)
 finished holds words paths accepted log before now old new status.WriteFault is_run judges (rises, text, headline, front) =
@@ -55,13 +51,13 @@ after-schedule rack image (Ok steps) j e = e
 after-schedule rack image (Err ending) j e = e
 
 after-image : (files : Files) (schedule : List ℕ) (rack : SketchView) (r : Result (List ℕ) Ending) (j : Judged)
-  → AfterImage (Some files) schedule rack r j → j ≡ image_ends files schedule rack r
+    → AfterImage (Some files) schedule rack r j → j ≡ image_ends files schedule rack r
 after-image files schedule rack (Err ending) j e = e
 after-image files schedule rack (Ok image) j (seen, reads, rest) =
     after-schedule rack image (schedule_judged seen) j rest ∙ ap (λ s. schedule_ends rack image (schedule_judged s)) (sym reads)
 
 after-rack : (files : Files) (schedule : List ℕ) (r : Result SketchView Ending) (j : Judged)
-  → AfterRack (Some files) schedule r j → j ≡ rack_ends files schedule r
+    → AfterRack (Some files) schedule r j → j ≡ rack_ends files schedule r
 after-rack files schedule (Err ending) j e = e
 after-rack files schedule (Ok rack) j (seen, reads, rest) =
     after-image files schedule rack (image_judged rack.at seen) j rest ∙ ap (λ s. image_ends files schedule rack (image_judged rack.at s)) (sym reads)
@@ -84,8 +80,8 @@ called-for files words p q j a b judges = ap status_of (judges-judge files q j j
 -- ---- the clauses of the top call
 
 pub told : (files : Files) (words : List (List ℕ)) (log : List Note) (before now : Counts) (old new : Option (List ℕ)) (result : Status)
-  → EndsWith (Some files) words log before now old new result → (p : Paths) → IsRun words p
-  → ¬ (Rises before.faults now.faults) → ¬ (Rises before.failed now.failed) → (result ≡ status.NoMemory) ⊎ (result ≡ status_of (judge files p))
+    → EndsWith (Some files) words log before now old new result → (p : Paths) → IsRun words p
+    → ¬ (Rises before.faults now.faults) → ¬ (Rises before.failed now.failed) → (result ≡ status.NoMemory) ⊎ (result ≡ status_of (judge files p))
 told files words log before now old new status.Done (text, (q, b, accepted, judges, headline), appends) p a no_fault no_failure =
     inr (called-for files words p q (Accepts accepted) a b judges)
 told files words log before now old new status.Usage (text, (no_form, empty, line), appends) p a no_fault no_failure = absurd (no_form p a)
@@ -98,7 +94,7 @@ told files words log before now old new status.WriteFault (failure, due, text, i
 told files words log before now old new status.NoMemory ends p a no_fault no_failure = inl refl
 
 pub usage-due : (holds : Option Files) (words : List (List ℕ)) (log : List Note) (before now : Counts) (old new : Option (List ℕ)) (result : Status)
-  → EndsWith holds words log before now old new result → IsNoForm words → (result ≡ status.Usage) ⊎ ((result ≡ status.WriteFault) ⊎ (result ≡ status.NoMemory))
+    → EndsWith holds words log before now old new result → IsNoForm words → (result ≡ status.Usage) ⊎ ((result ≡ status.WriteFault) ⊎ (result ≡ status.NoMemory))
 usage-due holds words log before now old new status.Done (text, (q, b, accepted, judges, headline), appends) no_form = absurd (no_form q b)
 usage-due holds words log before now old new status.Usage ends no_form = inl refl
 usage-due holds words log before now old new status.Malformed (text, (q, b, refusal, judges, empty, line), appends) no_form = absurd (no_form q b)

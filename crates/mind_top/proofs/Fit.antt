@@ -1,12 +1,8 @@
 -- The rack of a sketch is fit.
-use Rattle.std.proofs.Common.{◌≡◌, ℕ, zero, suc, ◌+◌, ◌-◌, ◌%◌, ◌^◌, ◌≤◌, ◌∙◌, Bool, true, false, cond, ◌&&◌, not, nat_lt, List, [], ap, sym, refl, subst, arith}
+use Rattle.std.proofs.Common.{◌≡◌, ℕ, zero, suc, ◌-◌, ◌%◌, ◌^◌, ◌≤◌, Bool, true, false, ◌&&◌, not, sym, refl, subst, arith}
 use Rattle.std.proofs.lemmas.Grind.{common_steps}
-use Rattle.std.specs.Option.{IsSome}
-use Rattle.mind_base.specs.Page.{PageView}
-use Rattle.mind_base.specs.Permission.{permission_of}
 use Rattle.mind_base.specs.Cover.{count_below, sum_below, is_uniform, has_uniform_parent, is_in_cover, cover_of}
 use Rattle.mind_base.specs.Fit.{IsFit}
-use Rattle.mind_base.specs.declared.commands.Perm.{Perm}
 use Rattle.mind_base.specs.declared.commands.Perm.TheVariants.{No}
 use Rattle.mind_top.specs.Rack.{SketchView, plan_of, is_place}
 
@@ -37,24 +33,25 @@ place-parts : (at : ℕ) → is_place at ≡ true → (at % 4 ≡ 0) × (at ≤ 
 place-parts at place = (grind (arith, common_steps, place), grind (arith, common_steps, place))
 
 pub plan_of-fit : (sketch : SketchView) → is_place sketch.at ≡ true → sketch.domain ≤ 15 → IsFit (plan_of sketch)
-plan_of-fit sketch place domain = record
-  { slots = (omega arith, omega arith)
-  ; protect = (omega arith, omega arith)
-  ; outliers = omega arith
-  ; region = omega arith
-  ; most = (omega arith, omega arith)
-  ; threshold = omega arith
-  ; blades = (omega arith, omega arith)
-  ; frames = ((omega arith, omega arith), tt)
-  ; memories = (omega arith, omega arith)
-  ; each_memory = (record { spare = omega arith; homes = (omega arith, omega arith); pages = (omega arith, tt) }, tt)
-  ; homes_apart = (tt, tt)
-  ; home_pages = omega arith
-  ; images = (omega arith, omega arith)
-  ; each_image = (place-parts sketch.at place, tt)
-  ; threads = (omega arith, omega arith)
-  ; each_thread = (record { blade = omega arith; domain = omega arith; image = omega arith; queue = (omega arith, omega arith) }, tt)
-  ; maps = omega arith
-  ; each_map = tt
-  ; maps_apart = tt
-  ; cover = subst (λ n. n ≤ 1) (sym cover_of-none) (omega arith) }
+plan_of-fit sketch place domain = record {
+  slots = (omega arith, omega arith);
+  protect = (omega arith, omega arith);
+  outliers = omega arith;
+  region = omega arith;
+  most = (omega arith, omega arith);
+  threshold = omega arith;
+  blades = (omega arith, omega arith);
+  frames = ((omega arith, omega arith), tt);
+  memories = (omega arith, omega arith);
+  each_memory = (record { spare = omega arith; homes = (omega arith, omega arith); pages = (omega arith, tt) }, tt);
+  homes_apart = (tt, tt);
+  home_pages = omega arith;
+  images = (omega arith, omega arith);
+  each_image = (place-parts sketch.at place, tt);
+  threads = (omega arith, omega arith);
+  each_thread = (record { blade = omega arith; domain = omega arith; image = omega arith; queue = (omega arith, omega arith) }, tt);
+  maps = omega arith;
+  each_map = tt;
+  maps_apart = tt;
+  cover = subst (λ n. n ≤ 1) (sym cover_of-none) (omega arith);
+}

@@ -1,5 +1,5 @@
 -- Schedules of equal lines.
-use Rattle.std.proofs.Common.{◌≡◌, ℕ, zero, suc, ◌+◌, ◌*◌, ◌/◌, ◌<◌, ◌≤◌, ◌∙◌, Bool, true, false, cond, nat_eq, eqb, List, [], ◌∷◌, ◌++◌, length, ap, sym, refl, subst, Option, Some, None, arith, append_assoc, append-nil, length-append, add-one}
+use Rattle.std.proofs.Common.{◌≡◌, ℕ, zero, suc, ◌+◌, ◌*◌, ◌/◌, ◌∙◌, Bool, true, false, cond, nat_eq, eqb, List, [], ◌∷◌, ◌++◌, length, ap, sym, refl, subst, Some, None, arith, append_assoc, length-append, add-one}
 use Rattle.std.specs.Cmp.Lexicographic.{pointwise, same_text}
 use Rattle.std.proofs.lemmas.Cmp.{nat_list_eq_equiv}
 use Rattle.std.proofs.lemmas.Bool.{eqb-true}
@@ -39,7 +39,7 @@ no-lines left (suc n) (suc k) e some line =
     no-lines left n k (append_cancel_left step_line _ _ (sym (append_assoc step_line (step_lines n) left) ∙ e)) some line
 
 by-test : (bytes left : List ℕ) (n k : ℕ) (b : Bool) → pointwise nat_eq bytes (step_lines k) ≡ b → bytes ≡ step_lines n ++ left
-  → (left ≡ [] → ⊥) → (Begins left → ⊥) → None ≡ cond (pointwise nat_eq bytes (step_lines k)) (Some k) None
+    → (left ≡ [] → ⊥) → (Begins left → ⊥) → None ≡ cond (pointwise nat_eq bytes (step_lines k)) (Some k) None
 by-test bytes left n k true e whole some line = absurd (no-lines left n k (sym whole ∙ same_text bytes (step_lines k) (sym e)) some line)
 by-test bytes left n k false e whole some line = ap (λ b. cond b (Some k) None) (sym e)
 

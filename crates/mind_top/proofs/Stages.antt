@@ -1,13 +1,13 @@
 -- The stages of a run: their labels replay whole, and their events are all there, in order.
-use Rattle.std.proofs.Common.{◌≡◌, ℕ, zero, suc, ◌+◌, ◌⊎◌, inl, inr, ◌∙◌, Bool, true, false, ◌||◌, cond, List, [], ◌∷◌, ◌++◌, length, ap, sym, refl, subst, Option, Some, None, arith, append_assoc, append-nil, add-one}
-use Rattle.std.specs.List.{filter_map, list_any, cons_option}
+use Rattle.std.proofs.Common.{◌≡◌, ℕ, zero, suc, ◌+◌, ◌⊎◌, inl, inr, ◌∙◌, Bool, true, false, ◌||◌, cond, List, [], ◌∷◌, ◌++◌, length, ap, sym, refl, subst, Option, Some, None, append-nil, add-one}
+use Rattle.std.specs.List.{list_any}
 use Rattle.std.proofs.lemmas.List.Elements.{filter_map-append}
 use Rattle.mind_base.specs.declared.notes.Note.{Note}
 use Rattle.mind_base.specs.declared.notes.Note.TheVariants as note
 use Rattle.mind_base.specs.declared.plans.ThreadPlan.{ThreadPlan}
 use Rattle.tso_machine.specs.State.{Setup, State, start_state, first_thread, image_at}
 use Rattle.tso_machine.specs.Step.{after}
-use Rattle.tso_machine.specs.Replay.{labels, label_of, Replayed, Whole, advanced, replay}
+use Rattle.tso_machine.specs.Replay.{labels, label_of, Whole, advanced, replay}
 use Rattle.tso_machine.specs.Machine.{MachineView, StandsFor}
 use Rattle.tso_machine.specs.declared.labels.Label.TheVariants as label
 use Rattle.std.proofs.lemmas.List.{length-map}
@@ -23,11 +23,11 @@ Replays : Setup → Stage → Type 0
 Replays setup stage = replay setup (start_state setup) (labels stage.notes) ≡ Whole stage.state
 
 with-event : (setup : Setup) (s : State) (notes : List Note) (index : ℕ) → replay setup (start_state setup) (labels notes) ≡ Whole s
-  → replay setup (start_state setup) (labels (notes ++ note.Event index ∷ [])) ≡ Whole s
+    → replay setup (start_state setup) (labels (notes ++ note.Event index ∷ [])) ≡ Whole s
 with-event setup s notes index e = ap (λ ls. replay setup (start_state setup) ls) (labels-none notes (note.Event index) refl) ∙ e
 
 replays-step : (setup : Setup) (stage : Stage) (index : ℕ) (o : Option State) → after setup stage.state (label.Exec 0) ≡ o
-  → Replays setup stage → Replays setup (stepped stage index o)
+    → Replays setup stage → Replays setup (stepped stage index o)
 unfolding Replays
 replays-step setup stage index None e r = with-event setup stage.state stage.notes index r
 replays-step setup stage index (Some next) e r =
@@ -98,12 +98,12 @@ stands-whole setup notes s e =
     whole-front setup (start_state setup) s (labels (before_last notes)) (labels f.0) (ap (λ ls. replay setup (start_state setup) ls) (sym split) ∙ e)
 
 pub stands-event : (setup : Setup) (notes : List Note) (index : ℕ) (s : State) → replay setup (start_state setup) (labels notes) ≡ Whole s
-  → Stands setup (notes ++ note.Event index ∷ [])
+    → Stands setup (notes ++ note.Event index ∷ [])
 stands-event setup notes index s e = (s, ap (λ ns. replay setup (start_state setup) (labels ns)) (before_last-event notes index) ∙ e)
 
 -- the log of a stage stands, and so does that log with one event more
 pub stage-stands : (setup : Setup) (n : ℕ) (old new : List Note) → old ≡ (stage_after setup n).notes
-  → (new ≡ old) ⊎ (new ≡ old ++ note.Event n ∷ []) → Stands setup new
+    → (new ≡ old) ⊎ (new ≡ old ++ note.Event n ∷ []) → Stands setup new
 stage-stands setup n old new at (inl same) = let P : List Note → Type 0 = λ ns. Stands setup ns in
     subst P (sym (same ∙ at)) (stands-whole setup (stage_after setup n).notes _ (stage-replays setup n))
 stage-stands setup n old new at (inr more) = let P : List Note → Type 0 = λ ns. Stands setup ns in
@@ -112,14 +112,15 @@ stage-stands setup n old new at (inr more) = let P : List Note → Type 0 = λ n
 -- ---- the code goes from stage to stage
 
 pub runs-more : (setup : Setup) (n : ℕ) (old new : MachineView) (before behind : List Note)
-  → Runs setup n old before → DoesEvent n old before new behind → new.setup ≡ old.setup → Runs setup (n + 1) new behind
+    → Runs setup n old before → DoesEvent n old before new behind → new.setup ≡ old.setup → Runs setup (n + 1) new behind
 runs-more setup n old new before behind runs done same =
     let P : List Note → Type 0 = λ ns. IsAt new behind (event_after old.setup (record { notes = ns; state = (stage_after setup n).state }) n) in
     let Q : Setup → Type 0 = λ u. IsAt new behind (event_after u (stage_after setup n) n) in
     let R : ℕ → Type 0 = λ k. IsAt new behind (stage_after setup k) in
-    record
-    { setup_is = same ∙ runs.setup_is
-    ; stage = subst R (sym (add-one n)) (subst Q runs.setup_is (subst P runs.stage.0 (done (stage_after setup n).state runs.stage.1))) }
+    record {
+      setup_is = same ∙ runs.setup_is;
+      stage = subst R (sym (add-one n)) (subst Q runs.setup_is (subst P runs.stage.0 (done (stage_after setup n).state runs.stage.1)));
+    }
 
 -- the machine at its start, with an empty log
 pub runs-start : (setup : Setup) (machine : MachineView) (notes : List Note) → machine.setup ≡ setup → StandsFor machine (start_state setup) → notes ≡ [] → Runs machine.setup 0 machine notes
@@ -134,7 +135,7 @@ pub stands-run : (setup : Setup) (n : ℕ) (machine : MachineView) (notes : List
 stands-run setup n machine notes runs = stage-stands setup n notes notes runs.stage.0 (inl refl)
 
 stepped-length : (setup : Setup) (stage : Stage) (index : ℕ) (o : Option State) → after setup stage.state (label.Exec 0) ≡ o
-  → length (stepped stage index o).state.threads ≡ length stage.state.threads
+    → length (stepped stage index o).state.threads ≡ length stage.state.threads
 stepped-length setup stage index None e = refl
 stepped-length setup stage index (Some next) e = after-length setup stage.state next 0 e
 

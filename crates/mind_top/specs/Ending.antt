@@ -1,5 +1,5 @@
 -- How a call of the program ends: its status, what it wrote, and the log that it leaves.
-use Rattle.std.specs.Prelude.{◌≡◌, ◌⊎◌, ℕ, List, [], Option, Some, None}
+use Rattle.std.specs.Prelude.{◌≡◌, ◌⊎◌, ℕ, List, [], Option}
 use Rattle.mind_base.specs.Store.{Files, Rises}
 use Rattle.mind_base.specs.Sink.{Appends, AppendsFront}
 use Rattle.mind_base.specs.declared.notes.Note.{Note}

@@ -1,5 +1,5 @@
 -- The inputs of a run, read and judged one after another: the first that is not held or is refused ends the call.
-use Rattle.std.specs.Prelude.{◌≡◌, ℕ, Bool, nat_lt, List, length, Option, Some, None, Result, Ok, Err, if◌then◌else◌}
+use Rattle.std.specs.Prelude.{◌≡◌, ℕ, nat_lt, List, length, Option, Some, None, Result, Ok, Err, if◌then◌else◌}
 use Rattle.std.specs.FinMap as finite
 use Rattle.mind_base.specs.Store.{Files}
 use Rattle.mind_top.specs.Words.{Paths}

@@ -1,5 +1,5 @@
 -- What the code that loads the inputs answers, whether the store tells what it holds or not.
-use Rattle.std.specs.Prelude.{◌≡◌, ◌⊎◌, ℕ, List, Option, Some, None, Result, Ok, Err}
+use Rattle.std.specs.Prelude.{◌⊎◌, ℕ, Option, Some, None, Result, Ok, Err}
 use Rattle.mind_base.specs.Store.{Files, Rises}
 use Rattle.mind_base.specs.declared.stores.ReadError.{ReadError}
 use Rattle.mind_base.specs.declared.stores.ReadError.TheVariants as read

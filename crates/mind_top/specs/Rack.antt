@@ -1,7 +1,7 @@
 -- Which rack files describe the racks that can be run so far: one thread with one image.
-use Rattle.std.specs.Prelude.{ℕ, ◌%◌, ◌^◌, ℤ, pos, negsuc, codes, Bool, ◌==◌, ◌&&◌, nat_le, List, [], ◌∷◌, Option, Some, None, option_and_then, if◌then◌else◌}
+use Rattle.std.specs.Prelude.{ℕ, ◌%◌, ℤ, pos, negsuc, codes, Bool, ◌==◌, ◌&&◌, nat_le, List, [], ◌∷◌, Option, Some, None, option_and_then, if◌then◌else◌}
 use Rattle.std.specs.Str.{is_utf8}
-use Rattle.toml.specs.Data.{Data, Items, no_items, item, Members, get_member, as_array, as_table, as_integer, as_str}
+use Rattle.toml.specs.Data.{Items, no_items, item, Members, get_member, as_array, as_table, as_integer, as_str}
 use Rattle.toml.specs.Parse.{parse_document}
 use Rattle.mind_base.specs.Name.{name_of}
 use Rattle.mind_base.specs.declared.plans.RackPlan.{RackPlan}
@@ -50,25 +50,32 @@ is_place n = nat_le n 4294967292 && n % 4 == 0
 abbrev pub sketch_of : Members → Members → Option SketchView
 sketch_of image thread =
     option_and_then (λ name. option_and_then (λ at. option_and_then (λ domain. option_and_then (λ number.
-        Some (record { name = name; at = at; domain = domain }))
-        (checked (λ n. n == 0) (number_at (codes "image") thread)))
-        (checked (λ n. nat_le n 15) (number_at (codes "domain") thread)))
-        (checked is_place (number_at (codes "at") image)))
-        (name_at (codes "name") image)
+    Some (record { name = name; at = at; domain = domain }))
+    (checked (λ n. n == 0) (number_at (codes "image") thread)))
+    (checked (λ n. nat_le n 15) (number_at (codes "domain") thread)))
+    (checked is_place (number_at (codes "at") image)))
+    (name_at (codes "name") image)
 
 -- the document has an array of one image and an array of one thread
 abbrev pub rack_of : Members → Option SketchView
 rack_of document =
     option_and_then (λ image. option_and_then (λ thread. sketch_of image thread)
-        (sole_table (codes "thread") document)) (sole_table (codes "image") document)
+    (sole_table (codes "thread") document)) (sole_table (codes "image") document)
 
 -- The rack: one thread on one blade of one frame, with a queue of one store, and one memory blade with
 -- the page 0 of domain 0. Nothing is mapped, and everything else is as small as it can be.
 abbrev pub plan_of : SketchView → RackPlan
-plan_of sketch = record
-  { slots = 1; protect = 1; outliers = 0; region = 0; most = 0; threshold = 0; policy = Threshold
-  ; frames = 1 ∷ []
-  ; memories = record { homes = record { domain = 0; base = 0; pages = 1 } ∷ []; spare = 0 } ∷ []
-  ; images = record { name = sketch.name; at = sketch.at } ∷ []
-  ; threads = record { blade = 0; domain = sketch.domain; image = 0; queue = 1 } ∷ []
-  ; maps = [] }
+plan_of sketch = record {
+  slots = 1;
+  protect = 1;
+  outliers = 0;
+  region = 0;
+  most = 0;
+  threshold = 0;
+  policy = Threshold;
+  frames = 1 ∷ [];
+  memories = record { homes = record { domain = 0; base = 0; pages = 1 } ∷ []; spare = 0 } ∷ [];
+  images = record { name = sketch.name; at = sketch.at } ∷ [];
+  threads = record { blade = 0; domain = sketch.domain; image = 0; queue = 1 } ∷ [];
+  maps = [];
+}

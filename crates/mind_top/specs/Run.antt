@@ -1,11 +1,11 @@
 -- The run that a schedule of steps makes, and what is said of it.
-use Rattle.std.specs.Prelude.{◌≡◌, ℕ, zero, suc, Bool, List, [], ◌∷◌, ◌++◌, filter, Option, Some, None, if◌then◌else◌}
+use Rattle.std.specs.Prelude.{◌≡◌, ℕ, zero, suc, List, [], ◌∷◌, ◌++◌, Option, Some, None, if◌then◌else◌}
 use Rattle.std.specs.List.{list_any, filter_map}
 use Rattle.mind_base.specs.declared.notes.Note.{Note}
 use Rattle.mind_base.specs.declared.notes.Note.TheVariants as note
 use Rattle.tso_machine.specs.State.{Setup, State, start_state}
 use Rattle.tso_machine.specs.Step.{after}
-use Rattle.tso_machine.specs.Replay.{labels, Replayed, Whole, replay}
+use Rattle.tso_machine.specs.Replay.{labels, Whole, replay}
 use Rattle.tso_machine.specs.declared.labels.Label.TheVariants as label
 use Rattle.mind_top.specs.Rack.{plan_of}
 use Rattle.mind_top.specs.Inputs.{Accepted}
@@ -13,10 +13,11 @@ use Rattle.mind_top.specs.Report.{report_text, is_event}
 
 -- the machine of accepted inputs
 abbrev pub setup_of : Accepted → Setup
-setup_of accepted = record
-  { plan = plan_of accepted.rack
-  ; images = record { at = accepted.rack.at; bytes = accepted.image } ∷ []
-  ; commands = [] }
+setup_of accepted = record {
+  plan = plan_of accepted.rack;
+  images = record { at = accepted.rack.at; bytes = accepted.image } ∷ [];
+  commands = [];
+}
 
 -- the number of an event note
 abbrev pub event_of : Note → Option ℕ

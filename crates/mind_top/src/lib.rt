@@ -22,3 +22,6 @@ pub use schedules::steps_in;
 pub use statuses::Status;
 pub use stopped::Stopped;
 pub use top::mind;
+
+#[cfg(test)]
+mod tests;

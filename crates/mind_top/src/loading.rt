@@ -10,6 +10,7 @@ use std::alloc::Global;
 
 /// The greatest lengths of a rack file and of an image, and of a schedule, in bytes.
 const RACK_BYTES: u64 = 65536;
+
 const SCHEDULE_BYTES: u64 = 4194304;
 
 /// What a failed read makes of the run; `long` refuses an input with too many bytes.
@@ -25,7 +26,12 @@ fn stopped_by(error: ReadError, long: Refusal) -> Stopped
 
 /// Reads and judges the rack, then its image, then the schedule. The first that is not held or is
 /// refused decides.
-pub fn load<S: Store>(alloc: Global, store: &mut S, rack: &str, schedule: &str) -> Result<Loaded, Stopped>
+pub(crate) fn load<S: Store>(
+    alloc: Global,
+    store: &mut S,
+    rack: &str,
+    schedule: &str,
+) -> Result<Loaded, Stopped>
     ensures keeps { S.holds store.new ≡ S.holds store.old }
     ensures faults { S.faults store.old ≤ S.faults store.new }
     ensures missed { S.missed store.old ≤ S.missed store.new }
@@ -46,7 +52,12 @@ pub fn load<S: Store>(alloc: Global, store: &mut S, rack: &str, schedule: &str) 
 }
 
 /// Reads and judges the image of a rack, then the schedule.
-fn load_image<S: Store>(alloc: Global, store: &mut S, sketch: Sketch, schedule: &str) -> Result<Loaded, Stopped>
+fn load_image<S: Store>(
+    alloc: Global,
+    store: &mut S,
+    sketch: Sketch,
+    schedule: &str,
+) -> Result<Loaded, Stopped>
     ensures keeps { S.holds store.new ≡ S.holds store.old }
     ensures faults { S.faults store.old ≤ S.faults store.new }
     ensures missed { S.missed store.old ≤ S.missed store.new }

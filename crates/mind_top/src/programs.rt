@@ -10,7 +10,11 @@ fn accesses_by(instr: Instr) -> bool
     ensures { result ≡ accesses instr }
 {
     match instr {
-        Instr::Load { .. } | Instr::Store { .. } | Instr::Lr { .. } | Instr::Sc { .. } | Instr::Amo { .. } => true,
+        Instr::Load { .. }
+        | Instr::Store { .. }
+        | Instr::Lr { .. }
+        | Instr::Sc { .. }
+        | Instr::Amo { .. } => true,
         Instr::Lui { .. }
         | Instr::Auipc { .. }
         | Instr::Jal { .. }

@@ -7,7 +7,9 @@ ghost use Rattle.mind_top.specs.Inputs.{rack_judged, Bytes, parsed};
 ghost use Rattle.mind_top.specs.Judged.{Gives, GivesDocument};
 
 use crate::{Refusal, Stopped};
-use mind_base::{ImagePlan, MemoryPlan, Name, NoMemory, PolicyKind, RackPlan, Sequence, Span, ThreadPlan};
+use mind_base::{
+    ImagePlan, MemoryPlan, Name, NoMemory, PolicyKind, RackPlan, Sequence, Span, ThreadPlan,
+};
 use std::alloc::Global;
 use std::marker::Model;
 use toml::{Table, Value};
@@ -61,7 +63,11 @@ fn place_in(image: &Table) -> Option<u32>
     ensures { result ≡ checked is_place (number_at (codes "at") (table_view image.now)) }
 {
     match number_in(image, "at") {
-        Some(at) => if at <= 4294967292 && at % 4 == 0 { Some(at as u32) } else { None },
+        Some(at) => if at <= 4294967292 && at % 4 == 0 {
+            Some(at as u32)
+        } else {
+            None
+        },
         None => None,
     }
 }
@@ -70,7 +76,11 @@ fn domain_in(thread: &Table) -> Option<u8>
     ensures { result ≡ checked (λ n. nat_le n 15) (number_at (codes "domain") (table_view thread.now)) }
 {
     match number_in(thread, "domain") {
-        Some(domain) => if domain <= 15 { Some(domain as u8) } else { None },
+        Some(domain) => if domain <= 15 {
+            Some(domain as u8)
+        } else {
+            None
+        },
         None => None,
     }
 }
@@ -168,7 +178,11 @@ fn document_from(alloc: Global, bytes: &[u8]) -> Result<Table, Stopped>
     };
     match toml::table_from_str(alloc, text) {
         Ok(document) => Ok(document),
-        Err(e) => if e.is_memory() { Err(Stopped::NoMemory) } else { Err(NOT_TOML) },
+        Err(e) => if e.is_memory() {
+            Err(Stopped::NoMemory)
+        } else {
+            Err(NOT_TOML)
+        },
     }
 }
 

@@ -16,17 +16,19 @@ use std::alloc::Global;
 use tso_machine::{Label, Machine, label_in};
 
 /// The machine of accepted inputs, at its start.
-fn machine_of(alloc: Global, loaded: &Loaded) -> Result<Machine, NoMemory>
+pub(crate) fn machine_of(alloc: Global, loaded: &Loaded) -> Result<Machine, NoMemory>
     requires { is_program loaded.now.rack.at loaded.now.image ≡ true }
     ensures setup { IfOk result (λ machine. machine.setup ≡ setup_of loaded.now) }
     ensures start { IfOk result (λ machine. StandsFor machine (start_state (setup_of loaded.now))) }
 {
     let plan = plan_from(alloc, &loaded.rack)?;
     let bytes = Sequence::from_vec(Vec::from_slice(alloc, loaded.image.as_slice())?);
-    let images = vec![in alloc; Image {
-        at: loaded.rack.at,
-        bytes,
-    }]?;
+    let images = vec![in alloc;
+        Image {
+            at: loaded.rack.at,
+            bytes,
+        },
+    ]?;
     Machine::start(alloc, &plan, images.as_slice(), &[])
 }
 
@@ -106,7 +108,12 @@ fn count_labels(log: &Log) -> u64
     count
 }
 
-fn put_threads(alloc: Global, out: &mut Vec<u8>, machine: &Machine, count: u8) -> Result<(), NoMemory>
+fn put_threads(
+    alloc: Global,
+    out: &mut Vec<u8>,
+    machine: &Machine,
+    count: u8,
+) -> Result<(), NoMemory>
     requires { count ≡ length machine.now.threads }
     ensures { OnOk result (out.new.items ≡ out.old.items ++ thread_lines machine.now.threads) }
 {
@@ -131,7 +138,7 @@ fn report(alloc: Global, machine: &Machine, count: u8, log: &Log) -> Result<Vec<
 
 /// Runs accepted inputs: the log gets the notes of the run, and the answer is the report. After an error
 /// the labels before the last event of the log still replay.
-pub fn run(alloc: Global, loaded: &Loaded, log: &mut Log) -> Result<Vec<u8>, NoMemory>
+pub(crate) fn run(alloc: Global, loaded: &Loaded, log: &mut Log) -> Result<Vec<u8>, NoMemory>
     requires program { is_program loaded.now.rack.at loaded.now.image ≡ true }
     requires few { loaded.now.steps ≤ 4194304 }
     requires empty { log.old.notes ≡ [] }

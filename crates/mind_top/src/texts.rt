@@ -104,7 +104,13 @@ fn put_output(out: &mut Vec<u8>, bytes: &[u8]) -> Result<(), NoMemory>
 }
 
 /// The line of one thread.
-pub fn put_thread(alloc: Global, out: &mut Vec<u8>, number: u8, end: End, output: &[u8]) -> Result<(), NoMemory>
+pub fn put_thread(
+    alloc: Global,
+    out: &mut Vec<u8>,
+    number: u8,
+    end: End,
+    output: &[u8],
+) -> Result<(), NoMemory>
     ensures { OnOk result (out.new.items ≡ out.old.items ++ thread_line_of number end output.now) }
 {
     out.extend_from_slice(b"thread ")?;
@@ -118,7 +124,12 @@ pub fn put_thread(alloc: Global, out: &mut Vec<u8>, number: u8, end: End, output
 }
 
 /// The line of counts.
-pub fn put_counts(alloc: Global, out: &mut Vec<u8>, events: u64, labels: u64) -> Result<(), NoMemory>
+pub fn put_counts(
+    alloc: Global,
+    out: &mut Vec<u8>,
+    events: u64,
+    labels: u64,
+) -> Result<(), NoMemory>
     ensures { OnOk result (out.new.items ≡ out.old.items ++ counts_text events labels) }
 {
     out.extend_from_slice(b"counts events ")?;

@@ -62,7 +62,13 @@ fn answer<S: Store, K: Sink>(
     }
 }
 
-fn top<S: Store, K: Sink>(alloc: Global, words: &[String], store: &mut S, sink: &mut K, log: &mut Log) -> Status
+fn top<S: Store, K: Sink>(
+    alloc: Global,
+    words: &[String],
+    store: &mut S,
+    sink: &mut K,
+    log: &mut Log,
+) -> Status
     requires { log.old.notes ≡ [] }
     ensures { EndsWith (S.holds store.old) (map string_bytes words.now) log.new.notes
         (record { faults = S.faults store.old; missed = S.missed store.old; failed = K.faults sink.old })
@@ -80,7 +86,13 @@ fn top<S: Store, K: Sink>(alloc: Global, words: &[String], store: &mut S, sink: 
 ///
 /// The log gets the notes of the run. It stays empty where no run takes place; where memory ran out, the
 /// labels before its last event note still replay from the machine's start.
-pub fn mind<S: Store, K: Sink>(alloc: Global, words: &[String], store: &mut S, sink: &mut K, log: &mut Log) -> Status
+pub fn mind<S: Store, K: Sink>(
+    alloc: Global,
+    words: &[String],
+    store: &mut S,
+    sink: &mut K,
+    log: &mut Log,
+) -> Status
     requires { log.old.notes ≡ [] }
 
     // Every status, with its cause, what was written, and the log that it leaves.

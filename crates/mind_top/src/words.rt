@@ -13,7 +13,11 @@ pub fn paths_of(words: &[String]) -> Option<(&str, &str)>
         (λ paths. IsRun (map string_bytes words.now) (record { rack = paths.0.now; schedule = paths.1.now })) }
 {
     match words {
-        [form, rack, schedule] => if is_run_word(form.as_str()) { Some((rack.as_str(), schedule.as_str())) } else { None },
+        [form, rack, schedule] => if is_run_word(form.as_str()) {
+            Some((rack.as_str(), schedule.as_str()))
+        } else {
+            None
+        },
         [] => None,
         [_] => None,
         [_, _] => None,

@@ -2,9 +2,6 @@
 use Rattle.std.specs.Prelude.{◌≡◌, ℕ, Bool, true, false, List, [], ◌++◌, Option, Some, None}
 use Rattle.mind_base.specs.Page.{PageView}
 use Rattle.mind_base.specs.Permission.{permission_of}
-use Rattle.mind_base.specs.declared.commands.Command.{Command}
-use Rattle.mind_base.specs.declared.images.Image.{Image}
-use Rattle.mind_base.specs.declared.plans.RackPlan.{RackPlan}
 use Rattle.tso_machine.specs.State.{Setup, Thread, State}
 use Rattle.tso_machine.specs.Memory.{byte_of}
 use Rattle.tso_machine.specs.Step.{after}

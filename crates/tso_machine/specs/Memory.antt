@@ -1,5 +1,5 @@
 -- What memory holds: the last write to a byte says it.
-use Rattle.std.specs.Prelude.{ℕ, ◌/◌, Bool, ◌&&◌, ◌==◌, List, [], ◌∷◌, if◌then◌else◌}
+use Rattle.std.specs.Prelude.{ℕ, ◌&&◌, ◌==◌, List, [], ◌∷◌, if◌then◌else◌}
 use Rattle.mind_base.specs.Page.{page_of}
 use Rattle.mind_base.specs.Home.{in_span}
 use Rattle.tso_machine.specs.State.{Write, Byte, Zeros}

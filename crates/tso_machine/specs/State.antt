@@ -6,7 +6,7 @@ use Rattle.mind_base.specs.Span.{SpanView}
 use Rattle.mind_base.specs.declared.commands.Command.{Command}
 use Rattle.mind_base.specs.declared.commands.Outcome.{Outcome}
 use Rattle.mind_base.specs.declared.ends.End.{End}
-use Rattle.mind_base.specs.declared.ends.End.TheVariants.{Running, Exit, Fault}
+use Rattle.mind_base.specs.declared.ends.End.TheVariants.{Running}
 use Rattle.mind_base.specs.declared.images.Image.{Image}
 use Rattle.mind_base.specs.declared.plans.ImagePlan.{ImagePlan}
 use Rattle.mind_base.specs.declared.plans.MapPlan.{MapPlan}
@@ -60,8 +60,9 @@ image_at images i = unwrap_or (option_map (λ image. image.at) (slice_get images
 
 -- the state at the start: each thread at its image, the maps of the plan, and nothing written
 abbrev pub start_state : Setup → State
-start_state setup = record
-  { threads = map (λ (t : ThreadPlan). first_thread (image_at setup.plan.images t.image)) setup.plan.threads
-  ; writes = []
-  ; perms = setup.plan.maps
-  ; taken = [] }
+start_state setup = record {
+  threads = map (λ (t : ThreadPlan). first_thread (image_at setup.plan.images t.image)) setup.plan.threads;
+  writes = [];
+  perms = setup.plan.maps;
+  taken = [];
+}

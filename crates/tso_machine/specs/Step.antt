@@ -1,5 +1,5 @@
 -- One step of the machine. A label that is not enabled leads nowhere.
-use Rattle.std.specs.Prelude.{ℕ, ◌+◌, ◌-◌, ◌%◌, ◌^◌, ◌==◌, ◌&&◌, nat_le, List, [], ◌∷◌, ◌++◌, length, take, drop, slice_get, slice_set, Option, Some, None, if◌then◌else◌, option_and_then, option_map}
+use Rattle.std.specs.Prelude.{ℕ, ◌+◌, ◌-◌, ◌%◌, ◌==◌, ◌&&◌, nat_le, List, [], ◌∷◌, ◌++◌, length, take, drop, slice_get, slice_set, Option, Some, None, if◌then◌else◌, option_and_then, option_map}
 use Rattle.std.specs.Int.{w32, from_le_bytes}
 use Rattle.rv32_decode.specs.Instr.{instr_of}
 use Rattle.rv32_decode.specs.declared.instruction.Instr.{Instr}
@@ -83,8 +83,8 @@ with_thread threads hart (Some thread) = Some (slice_set threads hart thread)
 abbrev pub threads_after : Setup → List Thread → ℕ → Option (List Thread)
 threads_after setup threads hart =
     option_and_then (λ plan. option_and_then (λ image. option_and_then (λ thread.
-        with_thread threads hart (executed image hart thread))
-        (slice_get threads hart)) (slice_get setup.images plan.image)) (slice_get setup.plan.threads hart)
+    with_thread threads hart (executed image hart thread))
+    (slice_get threads hart)) (slice_get setup.images plan.image)) (slice_get setup.plan.threads hart)
 
 -- The state after a label that is enabled. No store can be buffered and no command is taken yet.
 abbrev pub after : Setup → State → Label → Option State

@@ -1,4 +1,3 @@
-use Rattle.std.proofs.Common.{◌≡◌}
 use Rattle.tso_machine.proofs.Runs.{on_err}
 use Rattle.mind_top.proofs.Stages.{runs-more, stage-stands}
 use Rattle.mind_top.proofs.running.all_events.Goals as goal

@@ -1,4 +1,4 @@
-use Rattle.std.proofs.Common.{◌≡◌, sym, ap}
+use Rattle.std.proofs.Common.{sym, ap}
 use Rattle.tso_machine.proofs.Runs.{on_err}
 use Rattle.mind_top.specs.Run.{setup_of}
 use Rattle.mind_top.proofs.Stages.{stands-empty, stands-run, runs-length, runs-as}

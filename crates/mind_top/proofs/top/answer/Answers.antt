@@ -1,4 +1,4 @@
-use Rattle.std.proofs.Common.{◌≡◌, ◌∙◌, ap}
+use Rattle.std.proofs.Common.{◌∙◌, ap}
 use Rattle.mind_top.specs.Refusal.{line_of}
 use Rattle.mind_top.specs.declared.statuses.Status.TheVariants as status
 use Rattle.mind_top.proofs.Ends.{said, finished}
@@ -10,7 +10,12 @@ returns-in-Ok g c words is_run =
 
 pub returns-in-Err-Refused : goal.returns-in-Err-Refused
 returns-in-Err-Refused g c words is_run =
-    said (g.S.Store.holds c.args.store.now) words c.args.log.now.notes _ _ _ _ c.line.result.now status.Malformed c.say.result
-        ( _, is_run, c.in-Err-Refused.refusal, rw c.in-Err-Refused.field-0-is at c.in-Err-Refused.ensures.loads, c.requires
-        , c.line.ensures ∙ ap line_of c.in-Err-Refused.refusal-is )
-        c.say.ensures
+    said (g.S.Store.holds c.args.store.now) words c.args.log.now.notes _ _ _ _ c.line.result.now status.Malformed c.say.result (
+      _,
+      is_run,
+      c.in-Err-Refused.refusal,
+      rw c.in-Err-Refused.field-0-is at c.in-Err-Refused.ensures.loads,
+      c.requires,
+      c.line.ensures ∙ ap line_of c.in-Err-Refused.refusal-is,
+    )
+    c.say.ensures

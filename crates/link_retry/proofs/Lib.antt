@@ -1,0 +1,4 @@
+pub mod Frames
+pub mod Holding
+pub mod InOrder
+pub mod Receiving

@@ -1,0 +1,110 @@
+-- Go-back-N does what is asked of a link.
+use Rattle.std.proofs.Common.{◌≡◌, ℕ, ◌+◌, ◌-◌, ◌<◌, ◌≤◌, zero, suc, min, List, [], ◌∷◌, ◌++◌, length, take, drop, map, get_or, Bool, cond, refl, subst, sym, ap, arith, inl, inr, eq-eqb}
+use Rattle.std.specs.Prelude.{Option, Some, None, Result, Ok, Err, OnOk, OnErr}
+use Rattle.std.specs.List.{range_with_len}
+use Rattle.std.proofs.lemmas.Bool.{cases_eq, ne_eqb}
+use Rattle.std.proofs.lemmas.List.FromFn.{length-range_with_len}
+use Rattle.link_retry.specs.Wire.{frame_at, without, with_frame, PutsSome}
+use Rattle.link_retry.specs.Link.{LinkView, IsLink, expected, first_kept, Receives, DeliversMessage, AreResent}
+use Rattle.link_retry.specs.GoBackN.{handed_over, after_message, DeliversFrame, all_kept}
+use Rattle.link_retry.proofs.Frames.{All-range, IsStrictlyIncreasing-range, slice_get-range, at_frame}
+
+-- the expected message is handed over
+pub handed_over_expected : (link : LinkView) (number : ℕ) → number ≡ expected link → handed_over link number ≡ take 1 link.pending
+handed_over_expected link number e = ap (λ (b : Bool). cond b (take 1 link.pending) []) (eq-eqb number (expected link) e)
+
+-- and no other
+pub handed_over_other : (link : LinkView) (number : ℕ) → (number ≡ expected link → ⊥) → handed_over link number ≡ []
+handed_over_other link number e = ap (λ (b : Bool). cond b (take 1 link.pending) []) (ne_eqb number (expected link) e)
+
+first_and_rest : (pending : List (List ℕ)) → pending ≡ take 1 pending ++ drop (length (take 1 pending)) pending
+first_and_rest [] = refl
+first_and_rest (x ∷ xs) = refl
+
+one_less : (pending : List (List ℕ)) → 0 < length pending → (0 < length (take 1 pending)) × (length (drop (length (take 1 pending)) pending) + 1 ≡ length pending)
+one_less [] h = absurd (omega arith)
+one_less (x ∷ xs) h = (omega arith, omega arith)
+
+first_of_none : (pending : List (List ℕ)) → 0 < length (take 1 pending) → 0 < length pending
+first_of_none [] h = h
+first_of_none (x ∷ xs) h = omega arith
+
+-- the frame that is expected
+receives_expected : (old : LinkView) (k number : ℕ) → IsLink old → number < old.next → number ≡ expected old → Receives old k number (take 1 old.pending) (record old { pending = drop (length (take 1 old.pending)) old.pending; messages = without old.messages k; acks = with_frame old.acks (old.next - length (drop (length (take 1 old.pending)) old.pending)) })
+receives_expected old k number link sent same =
+    let some : 0 < length old.pending = omega arith in
+    let less = one_less old.pending some in
+    let kept : length old.pending ≤ old.kept = link.pending in
+    let upto : old.kept ≤ old.next = link.kept in
+    record {
+      prefix = first_and_rest old.pending;
+      first = ((λ _. (some, same)), (λ _. less.0));
+      passes = λ below. omega (arith, less.1);
+      messages = refl;
+      acks = refl;
+      next = refl;
+      kept = refl;
+    }
+
+-- any other frame
+receives_other : (old : LinkView) (k number : ℕ) → IsLink old → (number ≡ expected old → ⊥) → Receives old k number [] (record old { messages = without old.messages k; acks = with_frame old.acks (expected old) })
+receives_other old k number link other =
+    let kept : length old.pending ≤ old.kept = link.pending in
+    let upto : old.kept ≤ old.next = link.kept in
+    record {
+      prefix = refl;
+      first = ((λ h. absurd (omega arith)), (λ h. absurd (other h.1)));
+      passes = λ below. omega (arith, other);
+      messages = refl;
+      acks = refl;
+      next = refl;
+      kept = refl;
+    }
+
+-- the link after a frame, by what was handed over
+abbrev after_handing : LinkView → ℕ → List (List ℕ) → LinkView
+after_handing old k taken = record old {
+  pending = drop (length taken) old.pending;
+  messages = without old.messages k;
+  acks = with_frame old.acks (old.next - length (drop (length taken) old.pending));
+}
+
+receives : (old : LinkView) (k number : ℕ) → IsLink old → number < old.next → Receives old k number (handed_over old number) (after_message old k number)
+receives old k number link sent = elim (cases_eq number (expected old)) [
+  | inl same ↦ subst (λ (t : List (List ℕ)). Receives old k number t (after_handing old k t)) (sym (handed_over_expected old number same)) (receives_expected old k number link sent same)
+  | inr other ↦ subst (λ (t : List (List ℕ)). Receives old k number t (after_handing old k t)) (sym (handed_over_other old number other)) (receives_other old k number link other)
+]
+
+delivers : (old : LinkView) (k : ℕ) (frame : Option ℕ) (taken : List (List ℕ)) (new : LinkView) → IsLink old → frame_at old.messages k ≡ frame → DeliversFrame old k frame taken new → DeliversMessage old k frame taken new
+delivers old k None taken new link named d = d
+delivers old k (Some number) taken new link named d =
+    let sent : number < old.next = at_frame (λ x. x < old.next) old.messages k number link.message_numbers named in
+    subst (λ (t : List (List ℕ)). Receives old k number t new) (sym d.0)
+    (subst (λ (l : LinkView). Receives old k number (handed_over old number) l) (sym d.1) (receives old k number link sent))
+
+pub delivers_message : (old : LinkView) (k : ℕ) (taken : List (List ℕ)) (new : LinkView) → IsLink old → DeliversFrame old k (frame_at old.messages k) taken new → DeliversMessage old k (frame_at old.messages k) taken new
+delivers_message old k taken new link d = delivers old k (frame_at old.messages k) taken new link refl d
+
+-- the element at a place is the first of what is left from there
+pub first_from : {X : Type 0} (f : X → List ℕ) (kept : List X) (i : ℕ) (m : X) → i < length kept → m ≡ get_or kept i m → take 1 (drop i (map f kept)) ≡ f m ∷ []
+first_from f [] i m h e = absurd (omega arith)
+first_from f (x ∷ xs) zero m h e = ap (λ y. f y ∷ []) (sym e)
+first_from f (x ∷ xs) (suc i) m h e = first_from f xs i m (omega arith) e
+
+-- the frames of all kept messages are such as may be put
+pub all_kept_are_resent : (link : LinkView) → IsLink link → AreResent link (all_kept link)
+all_kept_are_resent link h =
+    let count : ℕ = min (64 - length link.messages) link.kept in
+    let upto : link.kept ≤ link.next = h.kept in
+    let room : length link.messages ≤ 64 = h.messages in
+    record {
+      kept = All-range (λ n. (first_kept link ≤ n) × (n < link.next)) (first_kept link) count (λ x a b. (a, omega arith));
+      rising = IsStrictlyIncreasing-range (first_kept link) count;
+      room = omega (arith, length-range_with_len (first_kept link) count);
+      first = λ some place. slice_get-range (first_kept link) count (omega arith);
+    }
+
+-- some frames were put, whether memory sufficed for all or not
+pub puts_some : {T E : Type 0} (r : Result T E) (old new : List ℕ) (first count : ℕ) → OnOk r (new ≡ old ++ range_with_len first count) → OnErr r (PutsSome old first count new) → PutsSome old first count new
+puts_some (Ok x) old new first count all some = (count, omega arith, all)
+puts_some (Err e) old new first count all some = some

@@ -1,0 +1,5 @@
+pub mod GoBackN
+pub mod Kept
+pub mod Link
+pub mod Run
+pub mod Wire

@@ -1,0 +1,410 @@
+//! The program over files in memory.
+use crate::loading::load;
+use crate::running::machine_of;
+use crate::{Status, mind};
+use mind_base::{Log, MemSink, MemStore, Name, Note};
+use std::process::Abort;
+use std::test::Fail;
+use tso_machine::Replay;
+
+/// The files of a run, and how it ends.
+struct Row {
+    rack: &'static str,
+    image: &'static [u8],
+    schedule: &'static str,
+    status: Status,
+    text: &'static str,
+}
+
+const RACK: &str = "[[image]]\nname = \"a.bin\"\nat = 0\n[[thread]]\ndomain = 0\nimage = 0\n";
+
+const SIX_STEPS: &str = "step 0\nstep 0\nstep 0\nstep 0\nstep 0\nstep 0\n";
+
+// addi a0,x0,65; addi a7,x0,1; ecall; addi a0,x0,0; addi a7,x0,2; ecall
+const PUTS_A: &[u8] =
+    b"\x13\x05\x10\x04\x93\x08\x10\x00\x73\x00\x00\x00\x13\x05\x00\x00\x93\x08\x20\x00\x73\x00\x00\x00";
+
+static RUNS: [Row; 7] = [
+    // A byte is put.
+    Row {
+        rack: RACK,
+        image: PUTS_A,
+        schedule: SIX_STEPS,
+        status: Status::Done,
+        text: "mind 1\nthread 0 exit 0 out 41\ncounts events 6 labels 6 takes 0 gives 0 downs 0 peak 0 splits 0 merges 0\n",
+    },
+    // Nothing runs under an empty schedule.
+    Row {
+        rack: RACK,
+        image: PUTS_A,
+        schedule: "",
+        status: Status::Done,
+        text: "mind 1\nthread 0 running 00000000 out -\ncounts events 0 labels 0 takes 0 gives 0 downs 0 peak 0 splits 0 merges 0\n",
+    },
+    // A jump to 6.
+    Row {
+        rack: RACK,
+        image: b"\x67\x00\x60\x00",
+        schedule: "step 0\n",
+        status: Status::Done,
+        text: "mind 1\nthread 0 fault target 00000006 at 00000000 out -\ncounts events 1 labels 1 takes 0 gives 0 downs 0 peak 0 splits 0 merges 0\n",
+    },
+    // A word that spells no instruction; a thread that has ended does nothing more.
+    Row {
+        rack: RACK,
+        image: b"\x00\x00\x00\x00",
+        schedule: "step 0\nstep 0\n",
+        status: Status::Done,
+        text: "mind 1\nthread 0 fault illegal 00000000 at 00000000 out -\ncounts events 2 labels 1 takes 0 gives 0 downs 0 peak 0 splits 0 merges 0\n",
+    },
+    // addi x1,x0,1, and then the end of the image.
+    Row {
+        rack: RACK,
+        image: b"\x93\x00\x10\x00",
+        schedule: "step 0\nstep 0\n",
+        status: Status::Done,
+        text: "mind 1\nthread 0 fault fetch 00000004 at 00000004 out -\ncounts events 2 labels 2 takes 0 gives 0 downs 0 peak 0 splits 0 merges 0\n",
+    },
+    // ecall with a7 = 0.
+    Row {
+        rack: RACK,
+        image: b"\x73\x00\x00\x00",
+        schedule: "step 0\n",
+        status: Status::Done,
+        text: "mind 1\nthread 0 fault call 00000000 at 00000000 out -\ncounts events 1 labels 1 takes 0 gives 0 downs 0 peak 0 splits 0 merges 0\n",
+    },
+    // ebreak.
+    Row {
+        rack: RACK,
+        image: b"\x73\x00\x10\x00",
+        schedule: "step 0\n",
+        status: Status::Done,
+        text: "mind 1\nthread 0 fault break 00000000 at 00000000 out -\ncounts events 1 labels 1 takes 0 gives 0 downs 0 peak 0 splits 0 merges 0\n",
+    },
+];
+
+static REFUSALS: [Row; 18] = [
+    // No TOML; the rack is judged before all else.
+    Row {
+        rack: "format =",
+        image: b"",
+        schedule: "step 1\n",
+        status: Status::Malformed,
+        text: "refused rack toml\n",
+    },
+    // Nothing there.
+    Row {
+        rack: "",
+        image: PUTS_A,
+        schedule: SIX_STEPS,
+        status: Status::Malformed,
+        text: "refused rack early\n",
+    },
+    // An odd place.
+    Row {
+        rack: "[[image]]\nname = \"a.bin\"\nat = 2\n[[thread]]\ndomain = 0\nimage = 0\n",
+        image: PUTS_A,
+        schedule: SIX_STEPS,
+        status: Status::Malformed,
+        text: "refused rack early\n",
+    },
+    // A name with a space.
+    Row {
+        rack: "[[image]]\nname = \"a b\"\nat = 0\n[[thread]]\ndomain = 0\nimage = 0\n",
+        image: PUTS_A,
+        schedule: SIX_STEPS,
+        status: Status::Malformed,
+        text: "refused rack early\n",
+    },
+    // No such domain.
+    Row {
+        rack: "[[image]]\nname = \"a.bin\"\nat = 0\n[[thread]]\ndomain = 16\nimage = 0\n",
+        image: PUTS_A,
+        schedule: SIX_STEPS,
+        status: Status::Malformed,
+        text: "refused rack early\n",
+    },
+    // No such image.
+    Row {
+        rack: "[[image]]\nname = \"a.bin\"\nat = 0\n[[thread]]\ndomain = 0\nimage = 1\n",
+        image: PUTS_A,
+        schedule: SIX_STEPS,
+        status: Status::Malformed,
+        text: "refused rack early\n",
+    },
+    // Two images.
+    Row {
+        rack: "[[image]]\nname = \"a.bin\"\nat = 0\n[[image]]\nname = \"a.bin\"\nat = 0\n[[thread]]\ndomain = 0\nimage = 0\n",
+        image: PUTS_A,
+        schedule: SIX_STEPS,
+        status: Status::Malformed,
+        text: "refused rack early\n",
+    },
+    // A place below 0.
+    Row {
+        rack: "[[image]]\nname = \"a.bin\"\nat = -4\n[[thread]]\ndomain = 0\nimage = 0\n",
+        image: PUTS_A,
+        schedule: SIX_STEPS,
+        status: Status::Malformed,
+        text: "refused rack early\n",
+    },
+    // No array of images.
+    Row {
+        rack: "image = 3\n[[thread]]\ndomain = 0\nimage = 0\n",
+        image: PUTS_A,
+        schedule: SIX_STEPS,
+        status: Status::Malformed,
+        text: "refused rack early\n",
+    },
+    // No whole word; the image is judged before the schedule.
+    Row {
+        rack: RACK,
+        image: b"\x13\x05\x10",
+        schedule: "step 1\n",
+        status: Status::Malformed,
+        text: "refused image early 0\n",
+    },
+    // No word.
+    Row {
+        rack: RACK,
+        image: b"",
+        schedule: SIX_STEPS,
+        status: Status::Malformed,
+        text: "refused image early 0\n",
+    },
+    // lw x10,0(x5).
+    Row {
+        rack: RACK,
+        image: b"\x03\xa5\x02\x00",
+        schedule: SIX_STEPS,
+        status: Status::Malformed,
+        text: "refused image early 0\n",
+    },
+    // sw x7,0(x5).
+    Row {
+        rack: RACK,
+        image: b"\x23\xa0\x72\x00",
+        schedule: SIX_STEPS,
+        status: Status::Malformed,
+        text: "refused image early 0\n",
+    },
+    // lr.w x7,(x5).
+    Row {
+        rack: RACK,
+        image: b"\xaf\xa3\x02\x10",
+        schedule: SIX_STEPS,
+        status: Status::Malformed,
+        text: "refused image early 0\n",
+    },
+    // Another thread.
+    Row {
+        rack: RACK,
+        image: PUTS_A,
+        schedule: "step 1\n",
+        status: Status::Malformed,
+        text: "refused schedule early\n",
+    },
+    // No line end.
+    Row {
+        rack: RACK,
+        image: PUTS_A,
+        schedule: "step 0",
+        status: Status::Malformed,
+        text: "refused schedule early\n",
+    },
+    // An empty line.
+    Row {
+        rack: RACK,
+        image: PUTS_A,
+        schedule: "step 0\n\n",
+        status: Status::Malformed,
+        text: "refused schedule early\n",
+    },
+    // Another event.
+    Row {
+        rack: RACK,
+        image: PUTS_A,
+        schedule: "drain 0\n",
+        status: Status::Malformed,
+        text: "refused schedule early\n",
+    },
+];
+
+fn put<R: AllocGlobal>(
+    rt: &R,
+    files: &mut Vec<(Name, Vec<u8>)>,
+    name: &str,
+    bytes: &[u8],
+) -> Result<(), Fail> {
+    let name = Name::of(rt.alloc(), name)?.ok_or("no name")?;
+    files.push((name, bytes.to_vec(rt.alloc())?))?;
+    Ok(())
+}
+
+fn files_of<R: AllocGlobal>(
+    rt: &R,
+    rack: &str,
+    image: &[u8],
+    schedule: &str,
+) -> Result<Vec<(Name, Vec<u8>)>, Fail> {
+    let mut files = Vec::new(rt.alloc());
+    put(rt, &mut files, "r.toml", rack.as_bytes())?;
+    put(rt, &mut files, "a.bin", image)?;
+    put(rt, &mut files, "s.txt", schedule.as_bytes())?;
+    Ok(files)
+}
+
+fn words_of<R: AllocGlobal>(rt: &R, words: &[&str]) -> Result<Vec<String>, Fail> {
+    let mut all = Vec::new(rt.alloc());
+    for word in words {
+        all.push(String::from_str(rt.alloc(), word)?)?;
+    }
+    Ok(all)
+}
+
+/// Runs the words over the files, with these failing reads and this room for output.
+fn expect<R: Abort + AllocGlobal>(
+    rt: &R,
+    words: &[&str],
+    store: &mut MemStore,
+    room: u32,
+    status: Status,
+    text: &str,
+) -> Result<Log, Fail> {
+    let alloc = rt.alloc();
+    let words = words_of(rt, words)?;
+    let mut sink = MemSink::new(alloc, room)?;
+    let mut log = Log::new(alloc);
+    let ended = mind(alloc, words.as_slice(), store, &mut sink, &mut log);
+    assert!(rt; ended == status);
+    assert!(rt; sink.written() == text.as_bytes(), "{text}");
+    Ok(log)
+}
+
+const RUN: [&str; 3] = ["run", "r.toml", "s.txt"];
+
+fn runs<R: Abort + AllocGlobal>(rt: &R, row: &Row) -> Result<(), Fail> {
+    let files = files_of(rt, row.rack, row.image, row.schedule)?;
+    let mut store = MemStore::new(files, Vec::new(rt.alloc()));
+    let _log = expect(rt, &RUN, &mut store, 4096, row.status, row.text)?;
+    Ok(())
+}
+
+#[test]
+fn programs_and_their_reports(rt: HostRuntime) -> Result<(), Fail> {
+    for row in &RUNS {
+        runs(&rt, row)?;
+    }
+    Ok(())
+}
+
+#[test]
+fn refused_inputs(rt: HostRuntime) -> Result<(), Fail> {
+    for row in &REFUSALS {
+        runs(&rt, row)?;
+    }
+    Ok(())
+}
+
+const WORDS: [&str; 4] = ["run", "r.toml", "s.txt", "more"];
+
+#[test]
+fn words_of_no_form(rt: HostRuntime) -> Result<(), Fail> {
+    for count in [0usize, 1, 2, 4] {
+        let mut store = MemStore::new(Vec::new(rt.alloc()), Vec::new(rt.alloc()));
+        let _log = expect(
+            &rt,
+            &WORDS[..count],
+            &mut store,
+            64,
+            Status::Usage,
+            "usage: mind run RACK SCHEDULE\n",
+        )?;
+    }
+    Ok(())
+}
+
+#[test]
+fn a_failing_read(rt: HostRuntime) -> Result<(), Fail> {
+    let files = files_of(&rt, RACK, PUTS_A, SIX_STEPS)?;
+    let mut store = MemStore::new(files, vec![in rt.alloc(); 1u32]?);
+    let _log = expect(&rt, &RUN, &mut store, 4096, Status::ReadFault, "")?;
+    Ok(())
+}
+
+#[test]
+fn a_missing_image(rt: HostRuntime) -> Result<(), Fail> {
+    let mut files = Vec::new(rt.alloc());
+    put(&rt, &mut files, "r.toml", RACK.as_bytes())?;
+    put(&rt, &mut files, "s.txt", SIX_STEPS.as_bytes())?;
+    let mut store = MemStore::new(files, Vec::new(rt.alloc()));
+    let _log = expect(&rt, &RUN, &mut store, 4096, Status::ReadFault, "")?;
+    Ok(())
+}
+
+#[test]
+fn a_sink_of_five_bytes(rt: HostRuntime) -> Result<(), Fail> {
+    let mut store = MemStore::new(
+        files_of(&rt, RACK, PUTS_A, SIX_STEPS)?,
+        Vec::new(rt.alloc()),
+    );
+    let _log = expect(&rt, &RUN, &mut store, 5, Status::WriteFault, "mind ")?;
+    Ok(())
+}
+
+/// So many line ends.
+fn blank<R: AllocGlobal>(rt: &R, count: u32) -> Result<Vec<u8>, Fail> {
+    let mut bytes = Vec::new(rt.alloc());
+    for _ in 0..count {
+        bytes.push(b'\n')?;
+    }
+    Ok(bytes)
+}
+
+#[test]
+fn an_input_past_its_limit(rt: HostRuntime) -> Result<(), Fail> {
+    let long = blank(&rt, 65537)?;
+    let mut files = Vec::new(rt.alloc());
+    put(&rt, &mut files, "r.toml", long.as_slice())?;
+    let mut store = MemStore::new(files, Vec::new(rt.alloc()));
+    let _log = expect(
+        &rt,
+        &RUN,
+        &mut store,
+        4096,
+        Status::Malformed,
+        "refused rack early\n",
+    )?;
+    Ok(())
+}
+
+#[test]
+fn the_log_of_a_run(rt: HostRuntime) -> Result<(), Fail> {
+    let mut store = MemStore::new(
+        files_of(&rt, RACK, PUTS_A, "step 0\n")?,
+        Vec::new(rt.alloc()),
+    );
+    let log = expect(&rt, &RUN, &mut store, 4096, Status::Done, ONE_STEP)?;
+    assert!(rt; log.len() == 2);
+    assert!(rt; log.get(0) == Note::Event { index: 0 });
+    assert!(rt; log.get(1) == Note::Exec { hart: 0 });
+    Ok(())
+}
+
+const ONE_STEP: &str =
+    "mind 1\nthread 0 running 00000004 out -\ncounts events 1 labels 1 takes 0 gives 0 downs 0 peak 0 splits 0 merges 0\n";
+
+#[test]
+fn a_log_replays_up_to_what_is_not_enabled(rt: HostRuntime) -> Result<(), Fail> {
+    let mut store = MemStore::new(files_of(&rt, RACK, PUTS_A, "")?, Vec::new(rt.alloc()));
+    let loaded = load(rt.alloc(), &mut store, "r.toml", "s.txt")
+        .ok()
+        .ok_or("refused")?;
+    let mut machine = machine_of(rt.alloc(), &loaded)?;
+    let mut log = Log::new(rt.alloc());
+    log.add(Note::Exec { hart: 0 })?;
+    assert!(rt; machine.replay(&log)? == Replay::Whole);
+    log.add(Note::Drain { hart: 0 })?;
+    assert!(rt; machine.replay(&log)? == Replay::Stuck { label: 1 });
+    Ok(())
+}

@@ -1,0 +1,33 @@
+-- The queue in which a thread's stores wait.
+use Rattle.std.specs.Prelude.{◌≡◌, ℕ, ◌+◌, ◌/◌, ◌<◌, ◌≤◌, Bool, ◌&&◌, nat_le, nat_lt, IsTrue, IsFalse, List, ◌∷◌, ◌++◌, length, All}
+use Rattle.mind_base.specs.Pending.{PendingView, IsPending, covers, byte_at}
+
+-- the stores that wait, the oldest first, and how many may
+pub record QueueView : Type 0 where
+  pub stores : List PendingView
+  pub capacity : ℕ
+
+-- a queue has 1 to 64 places, and no more stores than places; each store is aligned
+pub record IsStoreQueue (queue : QueueView) : Type 0 where
+  pub some : 0 < queue.capacity
+  pub most : queue.capacity ≤ 64
+  pub fits : length queue.stores ≤ queue.capacity
+  pub aligned : All (λ store. IsPending store.address store.size) queue.stores
+
+-- the byte at an address is that of a store which covers it, and no newer store does
+pub record IsNewestByte (stores : List PendingView) (address byte : ℕ) : Type 0 where
+  pub older : List PendingView
+  pub store : PendingView
+  pub newer : List PendingView
+  pub split : stores ≡ older ++ store ∷ newer
+  pub covered : IsTrue (covers store address)
+  pub newest : All (λ s. IsFalse (covers s address)) newer
+  pub byte_is : byte ≡ byte_at store address
+
+-- the number of the page that a store changes
+abbrev pub page_number : PendingView → ℕ
+page_number store = store.address / 4096
+
+-- the test whether a store lies in one of so many pages from a page number on
+abbrev pub lies_in : ℕ → ℕ → PendingView → Bool
+lies_in base pages store = nat_le base (page_number store) && nat_lt (page_number store) (base + pages)

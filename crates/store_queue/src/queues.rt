@@ -1,0 +1,128 @@
+ghost use Rattle.std.specs.Prelude.{◌≡◌, ◌+◌, ◌<◌, ◌≤◌, ◌↔◌, [], ◌∷◌, ◌++◌, length, drop, slice_get, None, Some, IsTrue, IsFalse, IsNone, IfSome, IfNone, All, IfOk, IsErr, OnOk, IfErr, OnErr, if◌then◌else◌};
+ghost use Rattle.std.specs.List.{list_any};
+ghost use Rattle.mind_base.specs.Pending.{covers, byte_at, newest_byte as newest_byte_of};
+ghost use Rattle.store_queue.specs.StoreQueue.{IsStoreQueue, IsNewestByte, lies_in};
+
+use circular_buffer::HeapCircularBuffer;
+use mind_base::{NoMemory, Pending};
+use std::alloc::Global;
+use std::marker::Model;
+
+/// The stores of a thread that wait, the oldest first, at most as many as the queue's capacity, which
+/// is 1 to 64. All its memory is taken when it is made.
+#[derive(Debug, Drop)]
+pub struct StoreQueue {
+    stores: HeapCircularBuffer<Pending>,
+}
+
+impl Model for StoreQueue {
+    ghost use Rattle.store_queue.specs.StoreQueue.{QueueView, IsStoreQueue};
+
+    ghost Value = { QueueView };
+
+    ghost view = { λ q. record { stores = q.stores.items; capacity = q.stores.capacity } };
+
+    ghost invariant = { λ q. IsStoreQueue (record { stores = q.stores.items; capacity = q.stores.capacity }) };
+}
+
+impl StoreQueue {
+    /// An empty queue of that many places, 1 to 64.
+    pub fn new(alloc: Global, capacity: u32) -> Result<StoreQueue, NoMemory>
+        requires some { 0 < capacity }
+        requires most { capacity ≤ 64 }
+        ensures stores { IfOk result (λ queue. queue.stores ≡ []) }
+        ensures capacity { IfOk result (λ queue. queue.capacity ≡ capacity) }
+        ensures shape { IfOk result IsStoreQueue }
+    {
+        let stores = HeapCircularBuffer::with_capacity(alloc, capacity as usize)?;
+        Ok(StoreQueue { stores })
+    }
+
+    /// Puts a store behind the others. A full queue stays as it is and hands the store back.
+    pub fn push(&mut self, store: Pending) -> Result<(), Pending>
+        ensures full { IsErr result ↔ (length self.old.stores ≡ self.old.capacity) }
+        ensures ok { OnOk result (self.new ≡ record self.old { stores = self.old.stores ++ store ∷ [] }) }
+        ensures back { IfErr result (λ back. back ≡ store) }
+        ensures err { OnErr result (self.new ≡ self.old) }
+        ensures shape { IsStoreQueue self.new }
+    {
+        // A field that is read tells that the store is aligned.
+        let _address = store.address;
+        self.stores.try_push_back(store)
+    }
+
+    /// The oldest store, which stays.
+    pub fn front(&self) -> Option<Pending>
+        ensures oldest { result ≡ slice_get self.now.stores 0 }
+        ensures empty { IsNone result ↔ (self.now.stores ≡ []) }
+        ensures shape { IsStoreQueue self.now }
+    {
+        self.stores.front().copied()
+    }
+
+    /// Takes the oldest store out.
+    pub fn pop(&mut self) -> Option<Pending>
+        ensures oldest { result ≡ slice_get self.old.stores 0 }
+        ensures empty { IsNone result ↔ (self.old.stores ≡ []) }
+        ensures rest { self.new ≡ record self.old { stores = drop 1 self.old.stores } }
+        ensures shape { IsStoreQueue self.new }
+    {
+        self.stores.pop_front()
+    }
+
+    pub fn len(&self) -> u32
+        ensures len { result ≡ length self.now.stores }
+        ensures shape { IsStoreQueue self.now }
+    {
+        self.stores.len() as u32
+    }
+
+    /// Whether as many stores wait as there are places.
+    pub fn is_full(&self) -> bool
+        ensures full { IsTrue result ↔ (length self.now.stores ≡ self.now.capacity) }
+        ensures shape { IsStoreQueue self.now }
+    {
+        self.stores.is_full()
+    }
+
+    /// The byte for `address` in the newest store that covers it; None exactly where no store does.
+    pub fn newest_byte(&self, address: u32) -> Option<u8>
+        ensures byte { result ≡ newest_byte_of self.now.stores address }
+        ensures newest { IfSome result (IsNewestByte self.now.stores address) }
+        ensures none { IfNone result (All (λ store. IsFalse (covers store address)) self.now.stores) }
+    {
+        let mut byte = None;
+        for store in self.stores.iter() {
+            if let Some(newer) = byte_of(store, address) {
+                byte = Some(newer);
+            }
+        }
+        byte
+    }
+
+    /// Whether a store lies in one of the `pages` pages from page number `base` on.
+    pub fn holds_in(&self, base: u32, pages: u32) -> bool
+        requires { base + pages ≤ 1048576 }
+        ensures { result ≡ list_any (lies_in base pages) self.now.stores }
+    {
+        for store in self.stores.iter() {
+            let page = store.address / 4096;
+            if base <= page && page < base + pages {
+                return true;
+            }
+        }
+        false
+    }
+}
+
+// The byte that a store has at an address, where it covers it.
+fn byte_of(store: &Pending, address: u32) -> Option<u8>
+    ensures { result ≡ (if covers store.now address then Some (byte_at store.now address) else None) }
+{
+    if store.address <= address && address - store.address < store.size as u32 {
+        let bytes = store.value.to_le_bytes();
+        Some(bytes[(address - store.address) as usize])
+    } else {
+        None
+    }
+}

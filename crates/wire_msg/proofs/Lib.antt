@@ -1,0 +1,5 @@
+pub mod Fields
+pub mod Images
+pub mod KindLaws
+pub mod Messages
+pub mod Parts

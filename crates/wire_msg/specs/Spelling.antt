@@ -1,0 +1,93 @@
+-- How each message is spelled in bytes: a first byte for its kind, and its fields. Numbers have four bytes,
+-- the highest first.
+use Rattle.std.specs.Prelude.{ℕ, ◌+◌, ◌*◌, Bool, List, [], ◌∷◌, ◌++◌, Option, Some, None, if◌then◌else◌}
+use Rattle.std.specs.Int.{w32, to_be_bytes}
+use Rattle.mind_base.specs.Page.{PageView}
+use Rattle.mind_base.specs.Range.{RangeView}
+use Rattle.mind_base.specs.Span.{SpanView}
+use Rattle.mind_base.specs.declared.commands.Perm.{Perm}
+use Rattle.mind_base.specs.declared.commands.Perm.TheVariants.{No, R, Rw}
+use Rattle.page_image.specs.PageImage.{PageImageView, spelling_of}
+use Rattle.wire_msg.specs.declared.msgs.Msg.{Msg}
+use Rattle.wire_msg.specs.declared.msgs.Msg.TheVariants.{Get, Fill, Deny, Back, Inv, Lower, Ack, Close, Closed, Reopen, Read, Image, Write, Zero}
+
+unfoldable pub number_bytes : ℕ → List ℕ
+number_bytes n = to_be_bytes w32 n
+
+-- the number of a page among the pages of all domains, of which each has 2 ^ 20
+abbrev pub page_number : PageView → ℕ
+page_number page = page.domain * 1048576 + page.number
+
+abbrev pub page_bytes : PageView → List ℕ
+page_bytes page = number_bytes (page_number page)
+
+-- the page of the block's base, and its log
+abbrev pub range_bytes : RangeView → List ℕ
+range_bytes range = page_bytes (record { domain = range.domain; number = range.base }) ++ range.log ∷ []
+
+-- the page of the run's base, and how many pages there are
+abbrev pub span_bytes : SpanView → List ℕ
+span_bytes span = page_bytes (record { domain = span.domain; number = span.base }) ++ number_bytes span.pages
+
+-- a page, or the largest number for none
+abbrev pub asked_bytes : Option PageView → List ℕ
+asked_bytes None = number_bytes 4294967295
+asked_bytes (Some page) = page_bytes page
+
+abbrev pub flag_bytes : Bool → List ℕ
+flag_bytes flag = (if flag then 1 else 0) ∷ []
+
+-- 2 says that the domain may write, and 1 that the blade may at once
+abbrev pub perm_byte : Perm → ℕ
+perm_byte No = 0
+perm_byte R = 0
+perm_byte Rw = 2
+
+abbrev pub fill_bytes : Perm → Bool → List ℕ
+fill_bytes perm writable = (perm_byte perm + (if writable then 1 else 0)) ∷ []
+
+-- a blade, or 255 for a copy
+abbrev pub blade_bytes : Option ℕ → List ℕ
+blade_bytes None = 255 ∷ []
+blade_bytes (Some blade) = blade ∷ []
+
+-- the one spelling of an image on the wire
+unfoldable pub image_bytes : PageImageView → List ℕ
+image_bytes image = spelling_of image
+
+-- the first byte
+abbrev pub kind_of : Msg → ℕ
+kind_of (Get page write) = 1
+kind_of (Fill page perm writable image) = 2
+kind_of (Deny page) = 3
+kind_of (Back page image) = 4
+kind_of (Inv number range asked) = 5
+kind_of (Lower number range asked) = 6
+kind_of (Ack number count) = 7
+kind_of (Close number span ends) = 8
+kind_of (Closed number) = 9
+kind_of (Reopen number) = 10
+kind_of (Read phys blade page) = 11
+kind_of (Image blade page image) = 12
+kind_of (Write phys image) = 13
+kind_of (Zero phys pages) = 14
+
+-- the bytes after it
+abbrev pub fields_of : Msg → List ℕ
+fields_of (Get page write) = page_bytes page ++ flag_bytes write
+fields_of (Fill page perm writable image) = page_bytes page ++ (fill_bytes perm writable ++ image_bytes image)
+fields_of (Deny page) = page_bytes page
+fields_of (Back page image) = page_bytes page ++ image_bytes image
+fields_of (Inv number range asked) = number_bytes number ++ (range_bytes range ++ asked_bytes asked)
+fields_of (Lower number range asked) = number_bytes number ++ (range_bytes range ++ page_bytes asked)
+fields_of (Ack number count) = number_bytes number ++ number_bytes count
+fields_of (Close number span ends) = number_bytes number ++ (span_bytes span ++ flag_bytes ends)
+fields_of (Closed number) = number_bytes number
+fields_of (Reopen number) = number_bytes number
+fields_of (Read phys blade page) = number_bytes phys ++ (blade_bytes blade ++ page_bytes page)
+fields_of (Image blade page image) = blade_bytes blade ++ (page_bytes page ++ image_bytes image)
+fields_of (Write phys image) = number_bytes phys ++ image_bytes image
+fields_of (Zero phys pages) = number_bytes phys ++ number_bytes pages
+
+abbrev pub spelling : Msg → List ℕ
+spelling message = kind_of message ∷ fields_of message

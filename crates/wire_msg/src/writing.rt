@@ -1,0 +1,271 @@
+ghost use Rattle.std.specs.Prelude.{◌≡◌, ◌<◌, ◌^◌, ◌++◌, ◌∷◌, [], take, IfSome, OnOk, OnErr, option_copied};
+ghost use Rattle.page_image.specs.PageImage.{IsPageImage};
+ghost use Rattle.wire_msg.specs.Spelling.{spelling, number_bytes, page_bytes, range_bytes, span_bytes, asked_bytes, flag_bytes, fill_bytes, blade_bytes, image_bytes};
+ghost use Rattle.wire_msg.specs.WellFormed.{FieldsAgree, IsWellFormed, IsPageView, IsRangeView, IsSpanView, IsAsked};
+ghost use Rattle.wire_msg.specs.Writing.{head_of, FitsHead, image_in};
+
+use crate::Msg;
+use byteorder::{BigEndian, ByteOrder};
+use mind_base::{NoMemory, Page, Perm, Range, Span};
+use page_image::PageImage;
+
+/// Appends the one spelling of a message. After an error `out` is as it was.
+pub fn encode(msg: &Msg, out: &mut Vec<u8>) -> Result<(), NoMemory>
+    requires { FieldsAgree msg.now }
+    ensures ok { OnOk result (out.new.items ≡ out.old.items ++ spelling msg.now) }
+    ensures err { OnErr result (out.new.items ≡ out.old.items) }
+    ensures formed { OnOk result (IsWellFormed msg.now) }
+{
+    let mut head = Vec::with_capacity(*out.allocator(), 16)?;
+    put_head(&mut head, msg)?;
+    let held = out.len();
+    out.extend_from_slice(head.as_slice())?;
+    match image_of(msg) {
+        None => Ok(()),
+        Some(image) => put_image(out, image, held),
+    }
+}
+
+/// Appends the spelling of an image. After an error the first `held` bytes are left.
+#[tactic(auto, unfolding(crate::specs::Spelling::image_bytes))]
+fn put_image(out: &mut Vec<u8>, image: &PageImage, held: usize) -> Result<(), NoMemory>
+    ensures ok { OnOk result (out.new.items ≡ out.old.items ++ image_bytes image.now) }
+    ensures err { OnErr result (out.new.items ≡ take held out.old.items) }
+    ensures fits { IsPageImage image.now }
+{
+    match image.to_bytes(out) {
+        Ok(()) => Ok(()),
+        Err(failure) => {
+            out.truncate(held);
+            Err(failure)
+        }
+    }
+}
+
+/// The image that the message has as its last field.
+fn image_of(msg: &Msg) -> Option<&PageImage>
+    ensures { option_copied result ≡ image_in msg.now }
+{
+    match msg {
+        Msg::Fill { image, .. } => Some(image),
+        Msg::Back { image, .. } => Some(image),
+        Msg::Image { image, .. } => Some(image),
+        Msg::Write { image, .. } => Some(image),
+        _ => None,
+    }
+}
+
+/// Appends the first byte of the message and all its fields but an image.
+fn put_head(head: &mut Vec<u8>, msg: &Msg) -> Result<(), NoMemory>
+    ensures ok { OnOk result (head.new.items ≡ head.old.items ++ head_of msg.now) }
+    ensures fits { OnOk result (FitsHead msg.now) }
+{
+    match msg {
+        Msg::Get { page, write } => put_get(head, *page, *write),
+        Msg::Fill {
+            page,
+            perm,
+            writable,
+            ..
+        } => put_fill(head, *page, *perm, *writable),
+        Msg::Deny { page } => put_page(head, 3, *page),
+        Msg::Back { page, .. } => put_page(head, 4, *page),
+        Msg::Inv {
+            number,
+            range,
+            asked,
+        } => put_inv(head, *number, *range, *asked),
+        Msg::Lower {
+            number,
+            range,
+            asked,
+        } => put_lower(head, *number, *range, *asked),
+        Msg::Ack { number, count } => put_numbers(head, 7, *number, *count),
+        Msg::Close { number, span, ends } => put_close(head, *number, *span, *ends),
+        Msg::Closed { number } => put_number(head, 9, *number),
+        Msg::Reopen { number } => put_number(head, 10, *number),
+        Msg::Read { phys, blade, page } => put_read(head, *phys, *blade, *page),
+        Msg::Image { blade, page, .. } => put_image_head(head, *blade, *page),
+        Msg::Write { phys, .. } => put_number(head, 13, *phys),
+        Msg::Zero { phys, pages } => put_numbers(head, 14, *phys, *pages),
+    }
+}
+
+#[tactic(auto, unfolding(crate::specs::Spelling::number_bytes))]
+fn add_number(head: &mut Vec<u8>, number: u32) -> Result<(), NoMemory>
+    ensures ok { OnOk result (head.new.items ≡ head.old.items ++ number_bytes number) }
+    ensures fits { number < 2 ^ 32 }
+{
+    let mut bytes = [0u8; 4];
+    BigEndian::write_u32(&mut bytes, number);
+    head.extend_from_slice(&bytes)?;
+    Ok(())
+}
+
+fn add_byte(head: &mut Vec<u8>, byte: u8) -> Result<(), NoMemory>
+    ensures ok { OnOk result (head.new.items ≡ head.old.items ++ byte ∷ []) }
+{
+    head.push(byte)?;
+    Ok(())
+}
+
+fn add_page(head: &mut Vec<u8>, page: Page) -> Result<(), NoMemory>
+    ensures ok { OnOk result (head.new.items ≡ head.old.items ++ page_bytes page) }
+    ensures fits { IsPageView page }
+{
+    add_number(head, u32::from(page.domain) * 1_048_576 + page.number)
+}
+
+fn add_range(head: &mut Vec<u8>, range: Range) -> Result<(), NoMemory>
+    ensures ok { OnOk result (head.new.items ≡ head.old.items ++ range_bytes range) }
+    ensures fits { IsRangeView range }
+{
+    add_number(head, u32::from(range.domain) * 1_048_576 + range.base)?;
+    add_byte(head, range.log)
+}
+
+fn add_span(head: &mut Vec<u8>, span: Span) -> Result<(), NoMemory>
+    ensures ok { OnOk result (head.new.items ≡ head.old.items ++ span_bytes span) }
+    ensures fits { IsSpanView span }
+{
+    add_number(head, u32::from(span.domain) * 1_048_576 + span.base)?;
+    add_number(head, span.pages)
+}
+
+fn add_asked(head: &mut Vec<u8>, asked: Option<Page>) -> Result<(), NoMemory>
+    ensures ok { OnOk result (head.new.items ≡ head.old.items ++ asked_bytes asked) }
+    ensures fits { IsAsked asked }
+{
+    match asked {
+        None => add_number(head, u32::MAX),
+        Some(page) => add_page(head, page),
+    }
+}
+
+fn add_flag(head: &mut Vec<u8>, flag: bool) -> Result<(), NoMemory>
+    ensures ok { OnOk result (head.new.items ≡ head.old.items ++ flag_bytes flag) }
+{
+    add_byte(head, u8::from(flag))
+}
+
+fn add_perm(head: &mut Vec<u8>, perm: Perm, writable: bool) -> Result<(), NoMemory>
+    ensures ok { OnOk result (head.new.items ≡ head.old.items ++ fill_bytes perm writable) }
+{
+    let perm = match perm {
+        Perm::No | Perm::R => 0,
+        Perm::Rw => 2,
+    };
+    add_byte(head, perm + u8::from(writable))
+}
+
+fn add_blade(head: &mut Vec<u8>, blade: Option<u8>) -> Result<(), NoMemory>
+    ensures ok { OnOk result (head.new.items ≡ head.old.items ++ blade_bytes blade) }
+{
+    match blade {
+        None => add_byte(head, 255),
+        Some(blade) => add_byte(head, blade),
+    }
+}
+
+fn put_number(head: &mut Vec<u8>, kind: u8, number: u32) -> Result<(), NoMemory>
+    ensures ok { OnOk result (head.new.items ≡ head.old.items ++ kind ∷ number_bytes number) }
+    ensures fits { OnOk result (number < 2 ^ 32) }
+{
+    add_byte(head, kind)?;
+    add_number(head, number)
+}
+
+fn put_numbers(head: &mut Vec<u8>, kind: u8, first: u32, second: u32) -> Result<(), NoMemory>
+    ensures ok { OnOk result (head.new.items
+        ≡ head.old.items ++ kind ∷ (number_bytes first ++ number_bytes second)) }
+    ensures fits { OnOk result ((first < 2 ^ 32) × (second < 2 ^ 32)) }
+{
+    add_byte(head, kind)?;
+    add_number(head, first)?;
+    add_number(head, second)
+}
+
+fn put_page(head: &mut Vec<u8>, kind: u8, page: Page) -> Result<(), NoMemory>
+    ensures ok { OnOk result (head.new.items ≡ head.old.items ++ kind ∷ page_bytes page) }
+    ensures fits { OnOk result (IsPageView page) }
+{
+    add_byte(head, kind)?;
+    add_page(head, page)
+}
+
+fn put_get(head: &mut Vec<u8>, page: Page, write: bool) -> Result<(), NoMemory>
+    ensures ok { OnOk result (head.new.items ≡ head.old.items ++ 1 ∷ (page_bytes page ++ flag_bytes write)) }
+    ensures fits { OnOk result (IsPageView page) }
+{
+    add_byte(head, 1)?;
+    add_page(head, page)?;
+    add_flag(head, write)
+}
+
+fn put_fill(head: &mut Vec<u8>, page: Page, perm: Perm, writable: bool) -> Result<(), NoMemory>
+    ensures ok { OnOk result (head.new.items
+        ≡ head.old.items ++ 2 ∷ (page_bytes page ++ fill_bytes perm writable)) }
+    ensures fits { OnOk result (IsPageView page) }
+{
+    add_byte(head, 2)?;
+    add_page(head, page)?;
+    add_perm(head, perm, writable)
+}
+
+fn put_inv(
+    head: &mut Vec<u8>,
+    number: u32,
+    range: Range,
+    asked: Option<Page>,
+) -> Result<(), NoMemory>
+    ensures ok { OnOk result (head.new.items
+        ≡ head.old.items ++ 5 ∷ (number_bytes number ++ (range_bytes range ++ asked_bytes asked))) }
+    ensures fits { OnOk result ((number < 2 ^ 32) × IsRangeView range × IsAsked asked) }
+{
+    add_byte(head, 5)?;
+    add_number(head, number)?;
+    add_range(head, range)?;
+    add_asked(head, asked)
+}
+
+fn put_lower(head: &mut Vec<u8>, number: u32, range: Range, asked: Page) -> Result<(), NoMemory>
+    ensures ok { OnOk result (head.new.items
+        ≡ head.old.items ++ 6 ∷ (number_bytes number ++ (range_bytes range ++ page_bytes asked))) }
+    ensures fits { OnOk result ((number < 2 ^ 32) × IsRangeView range × IsPageView asked) }
+{
+    add_byte(head, 6)?;
+    add_number(head, number)?;
+    add_range(head, range)?;
+    add_page(head, asked)
+}
+
+fn put_close(head: &mut Vec<u8>, number: u32, span: Span, ends: bool) -> Result<(), NoMemory>
+    ensures ok { OnOk result (head.new.items
+        ≡ head.old.items ++ 8 ∷ (number_bytes number ++ (span_bytes span ++ flag_bytes ends))) }
+    ensures fits { OnOk result ((number < 2 ^ 32) × IsSpanView span) }
+{
+    add_byte(head, 8)?;
+    add_number(head, number)?;
+    add_span(head, span)?;
+    add_flag(head, ends)
+}
+
+fn put_read(head: &mut Vec<u8>, phys: u32, blade: Option<u8>, page: Page) -> Result<(), NoMemory>
+    ensures ok { OnOk result (head.new.items
+        ≡ head.old.items ++ 11 ∷ (number_bytes phys ++ (blade_bytes blade ++ page_bytes page))) }
+    ensures fits { OnOk result ((phys < 2 ^ 32) × IsPageView page) }
+{
+    add_byte(head, 11)?;
+    add_number(head, phys)?;
+    add_blade(head, blade)?;
+    add_page(head, page)
+}
+
+fn put_image_head(head: &mut Vec<u8>, blade: Option<u8>, page: Page) -> Result<(), NoMemory>
+    ensures ok { OnOk result (head.new.items ≡ head.old.items ++ 12 ∷ (blade_bytes blade ++ page_bytes page)) }
+    ensures fits { OnOk result (IsPageView page) }
+{
+    add_byte(head, 12)?;
+    add_blade(head, blade)?;
+    add_page(head, page)
+}
