@@ -1,0 +1,2 @@
+pub mod RequestFacts
+pub mod FetchedPages
