@@ -1,0 +1,9 @@
+pub mod Accepted
+pub mod Documents
+pub mod FitHomes
+pub mod FitMaps
+pub mod Fitness
+pub mod HomePages
+pub mod Judging
+pub mod Placing
+pub mod Walks

@@ -1,0 +1,22 @@
+-- What the top table of a rack file says beside its arrays.
+use Rattle.std.specs.Prelude.{codes, Result, Ok}
+use Rattle.toml.specs.Data.{Members}
+use Rattle.mind_base.specs.declared.plans.PolicyKind.TheVariants.{Threshold}
+use Rattle.rack_file.specs.Keys.{Refused, and_then, keys_judged, known_judged, number_at}
+use Rattle.rack_file.specs.Tables.{top_keys, names_in}
+use Rattle.rack_file.specs.declared.sections.Section.TheVariants.{Top}
+use Rattle.rack_file.specs.declared.settings.Settings.{Settings}
+
+abbrev pub settings_at : Members → Settings
+settings_at top = record {
+  slots = number_at (codes "slots") top;
+  protect = number_at (codes "protect") top;
+  outliers = number_at (codes "outliers") top;
+  region = number_at (codes "region") top;
+  most = number_at (codes "most") top;
+  threshold = number_at (codes "threshold") top;
+  policy = Threshold;
+}
+
+abbrev pub settings_judged : Members → Result Settings Refused
+settings_judged top = and_then (keys_judged (codes "") top top_keys) (λ done. and_then (known_judged (codes "") top (names_in Top)) (λ known. Ok (settings_at top)))

@@ -1,0 +1,146 @@
+ghost use Rattle.std.specs.Prelude.{◌≡◌, ◌≤◌, [], codes, length, IfOk};
+ghost use Rattle.toml.specs.View.{view, table_view, items_view};
+ghost use Rattle.rack_file.specs.Keys.{numbered, items_judged};
+ghost use Rattle.rack_file.specs.Tables.{blade_judged, blades_judged, image_judged, images_judged, thread_judged, threads_judged};
+ghost use Rattle.rack_file.specs.Judged.{Gives};
+
+use crate::keys::array_in;
+use crate::refusals::{RackRefusal, element_path};
+use crate::tables::{Named, blade_in, image_in, thread_in};
+use mind_base::{ImagePlan, Sequence, ThreadPlan};
+use std::alloc::Global;
+use toml::{Table, Value};
+
+fn next_blade(alloc: Global, value: &Value, number: usize) -> Result<u32, RackRefusal>
+    ensures { Gives (λ x. x) result (blade_judged (numbered (codes "blade") number) (view value.now)) }
+{
+    let place = match element_path(alloc, "blade", number) {
+        Ok(place) => place,
+        Err(e) => return Err(e),
+    };
+    blade_in(alloc, place.as_str(), value)
+}
+
+fn blades_of(alloc: Global, values: &[Value]) -> Result<Sequence<u32>, RackRefusal>
+    ensures count { IfOk result (λ xs. length xs ≤ length values.now) }
+    ensures walk { Gives (λ xs. xs) result (items_judged (λ done. blade_judged) (codes "blade") [] (items_view values.now)) }
+{
+    let mut blades = Sequence::new(alloc);
+    for value in values {
+        let blade = match next_blade(alloc, value, blades.len()) {
+            Ok(blade) => blade,
+            Err(e) => return Err(e),
+        };
+        if blades.push(blade).is_err() {
+            return Err(RackRefusal::NoMemory);
+        }
+    }
+    Ok(blades)
+}
+
+/// The frames of the blades of a rack.
+pub(crate) fn blades_in(alloc: Global, document: &Table) -> Result<Sequence<u32>, RackRefusal>
+    ensures count { IfOk result (λ xs. length xs ≤ 8) }
+    ensures array { Gives (λ xs. xs) result (blades_judged (table_view document.now)) }
+{
+    let values = match array_in(alloc, "", document, "blade", 1, 8) {
+        Ok(values) => values,
+        Err(e) => return Err(e),
+    };
+    blades_of(alloc, values)
+}
+
+fn next_image(alloc: Global, value: &Value, number: usize) -> Result<ImagePlan, RackRefusal>
+    ensures { Gives (λ x. x) result (image_judged (numbered (codes "image") number) (view value.now)) }
+{
+    let place = match element_path(alloc, "image", number) {
+        Ok(place) => place,
+        Err(e) => return Err(e),
+    };
+    image_in(alloc, place.as_str(), value)
+}
+
+fn images_of(alloc: Global, values: &[Value]) -> Result<Sequence<ImagePlan>, RackRefusal>
+    ensures count { IfOk result (λ xs. length xs ≤ length values.now) }
+    ensures walk { Gives (λ xs. xs) result (items_judged (λ done. image_judged) (codes "image") [] (items_view values.now)) }
+{
+    let mut images = Sequence::new(alloc);
+    for value in values {
+        let image = match next_image(alloc, value, images.len()) {
+            Ok(image) => image,
+            Err(e) => return Err(e),
+        };
+        if images.push(image).is_err() {
+            return Err(RackRefusal::NoMemory);
+        }
+    }
+    Ok(images)
+}
+
+/// The images of a rack.
+pub(crate) fn images_in(alloc: Global, document: &Table) -> Result<Sequence<ImagePlan>, RackRefusal>
+    ensures count { IfOk result (λ xs. length xs ≤ 16) }
+    ensures array { Gives (λ xs. xs) result (images_judged (table_view document.now)) }
+{
+    let values = match array_in(alloc, "", document, "image", 1, 16) {
+        Ok(values) => values,
+        Err(e) => return Err(e),
+    };
+    images_of(alloc, values)
+}
+
+fn next_thread(
+    alloc: Global,
+    value: &Value,
+    number: usize,
+    named: Named,
+) -> Result<ThreadPlan, RackRefusal>
+    requires blades { named.blades ≤ 8 }
+    requires images { named.images ≤ 16 }
+    ensures { Gives (λ x. x) result (thread_judged named.blades named.images (numbered (codes "thread") number) (view value.now)) }
+{
+    let place = match element_path(alloc, "thread", number) {
+        Ok(place) => place,
+        Err(e) => return Err(e),
+    };
+    thread_in(alloc, place.as_str(), value, named)
+}
+
+fn threads_of(
+    alloc: Global,
+    values: &[Value],
+    named: Named,
+) -> Result<Sequence<ThreadPlan>, RackRefusal>
+    requires blades { named.blades ≤ 8 }
+    requires images { named.images ≤ 16 }
+    ensures { Gives (λ xs. xs) result (items_judged (λ done. thread_judged named.blades named.images) (codes "thread") [] (items_view values.now)) }
+{
+    let mut threads = Sequence::new(alloc);
+    for value in values {
+        let thread = match next_thread(alloc, value, threads.len(), named) {
+            Ok(thread) => thread,
+            Err(e) => return Err(e),
+        };
+        if threads.push(thread).is_err() {
+            return Err(RackRefusal::NoMemory);
+        }
+    }
+    Ok(threads)
+}
+
+/// The threads of a rack, on its blades and with its images.
+pub(crate) fn threads_in(
+    alloc: Global,
+    document: &Table,
+    named: Named,
+) -> Result<Sequence<ThreadPlan>, RackRefusal>
+    requires blades { named.blades ≤ 8 }
+    requires images { named.images ≤ 16 }
+    ensures { Gives (λ xs. xs) result (threads_judged named.blades named.images (table_view document.now)) }
+{
+    let values = match array_in(alloc, "", document, "thread", 1, 64) {
+        Ok(values) => values,
+        Err(e) => return Err(e),
+    };
+    threads_of(alloc, values, named)
+}

@@ -1,0 +1,242 @@
+ghost use Rattle.std.specs.Prelude.{◌≡◌, ◌++◌, [], codes, not, ◌||◌, nat_le, length};
+ghost use Rattle.std.specs.List.{list_any};
+ghost use Rattle.toml.specs.View.{view, table_view, items_view};
+ghost use Rattle.mind_base.specs.Fit.{all_homes};
+ghost use Rattle.rack_file.specs.Keys.{numbered, items_judged};
+ghost use Rattle.rack_file.specs.Tables.{meets, home_judged, homes_judged, memory_judged, memories_judged, home_pages, pages_in, left_after};
+ghost use Rattle.rack_file.specs.Judged.{Gives};
+
+use crate::keys::{array_in, number_in, table_in};
+use crate::refusals::{RackFault, RackRefusal, element_path, key_path, refused};
+use crate::sections::{Section, check_known};
+use crate::tables::span_in;
+use mind_base::{MemoryPlan, Sequence, Span};
+use std::alloc::Global;
+use toml::{Table, Value};
+
+fn meets(a: &Span, b: &Span) -> bool
+    ensures { result ≡ meets a.now b.now }
+{
+    a.domain == b.domain && a.base < b.base + b.pages && b.base < a.base + a.pages
+}
+
+fn meets_any(span: &Span, spans: &[Span]) -> bool
+    ensures { result ≡ list_any (meets span.now) spans.now }
+{
+    spans.iter().any(|other| meets(span, other))
+}
+
+fn meets_homes(span: &Span, memories: &[MemoryPlan]) -> bool
+    ensures { result ≡ list_any (λ memory. list_any (meets span.now) memory.homes) memories.now }
+{
+    memories
+        .iter()
+        .any(|memory| meets_any(span, memory.homes.as_slice()))
+}
+
+fn meets_either(span: &Span, memories: &[MemoryPlan], homes: &[Span]) -> bool
+    ensures { result ≡ (list_any (λ memory. list_any (meets span.now) memory.homes) memories.now || list_any (meets span.now) homes.now) }
+{
+    meets_homes(span, memories) || meets_any(span, homes)
+}
+
+/// Whether the run shares no page with a home of these memory blades, or with one of these homes.
+fn is_apart(span: &Span, memories: &[MemoryPlan], homes: &[Span]) -> bool
+    ensures { result ≡ not (list_any (meets span.now) (all_homes memories.now ++ homes.now)) }
+{
+    !meets_either(span, memories, homes)
+}
+
+/// The home that a value describes, behind those of these memory blades and these homes.
+fn home_in(
+    alloc: Global,
+    path: &str,
+    value: &Value,
+    memories: &[MemoryPlan],
+    homes: &[Span],
+) -> Result<Span, RackRefusal>
+    ensures { Gives (λ span. span) result (home_judged (all_homes memories.now ++ homes.now) path.now (view value.now)) }
+{
+    let table = match table_in(alloc, path, value) {
+        Ok(table) => table,
+        Err(e) => return Err(e),
+    };
+    let span = match span_in(alloc, path, table) {
+        Ok(span) => span,
+        Err(e) => return Err(e),
+    };
+    match check_known(alloc, Section::Home, path, table) {
+        Ok(()) => {}
+        Err(e) => return Err(e),
+    }
+    if is_apart(&span, memories, homes) {
+        Ok(span)
+    } else {
+        Err(refused(alloc, RackFault::Overlap, path))
+    }
+}
+
+/// The next home of an array at a path.
+fn next_home(
+    alloc: Global,
+    path: &str,
+    value: &Value,
+    memories: &[MemoryPlan],
+    homes: &Sequence<Span>,
+) -> Result<Span, RackRefusal>
+    ensures { Gives (λ span. span) result (home_judged (all_homes memories.now ++ homes.now) (numbered path.now (length homes.now)) (view value.now)) }
+{
+    let place = match element_path(alloc, path, homes.len()) {
+        Ok(place) => place,
+        Err(e) => return Err(e),
+    };
+    home_in(alloc, place.as_str(), value, memories, homes.as_slice())
+}
+
+fn homes_of(
+    alloc: Global,
+    path: &str,
+    values: &[Value],
+    memories: &[MemoryPlan],
+) -> Result<Sequence<Span>, RackRefusal>
+    ensures { Gives (λ homes. homes) result (items_judged (λ done. home_judged (all_homes memories.now ++ done)) path.now [] (items_view values.now)) }
+{
+    let mut homes = Sequence::new(alloc);
+    for value in values {
+        let home = match next_home(alloc, path, value, memories, &homes) {
+            Ok(home) => home,
+            Err(e) => return Err(e),
+        };
+        if homes.push(home).is_err() {
+            return Err(RackRefusal::NoMemory);
+        }
+    }
+    Ok(homes)
+}
+
+fn homes_in(
+    alloc: Global,
+    path: &str,
+    table: &Table,
+    memories: &[MemoryPlan],
+) -> Result<Sequence<Span>, RackRefusal>
+    ensures { Gives (λ homes. homes) result (homes_judged (all_homes memories.now) path.now (table_view table.now)) }
+{
+    let values = match array_in(alloc, path, table, "homes", 1, 16) {
+        Ok(values) => values,
+        Err(e) => return Err(e),
+    };
+    let place = match key_path(alloc, path, "homes") {
+        Ok(place) => place,
+        Err(e) => return Err(e),
+    };
+    homes_of(alloc, place.as_str(), values, memories)
+}
+
+/// The memory blade that a value describes, behind these.
+fn memory_in(
+    alloc: Global,
+    path: &str,
+    value: &Value,
+    memories: &[MemoryPlan],
+) -> Result<MemoryPlan, RackRefusal>
+    ensures { Gives (λ memory. memory) result (memory_judged memories.now path.now (view value.now)) }
+{
+    let table = match table_in(alloc, path, value) {
+        Ok(table) => table,
+        Err(e) => return Err(e),
+    };
+    let spare = match number_in(alloc, path, table, "spare", 0, 4096) {
+        Ok(spare) => spare,
+        Err(e) => return Err(e),
+    };
+    let homes = match homes_in(alloc, path, table, memories) {
+        Ok(homes) => homes,
+        Err(e) => return Err(e),
+    };
+    match check_known(alloc, Section::Memory, path, table) {
+        Ok(()) => Ok(MemoryPlan { homes, spare }),
+        Err(e) => Err(e),
+    }
+}
+
+fn next_memory(
+    alloc: Global,
+    value: &Value,
+    memories: &Sequence<MemoryPlan>,
+) -> Result<MemoryPlan, RackRefusal>
+    ensures { Gives (λ memory. memory) result (memory_judged memories.now (numbered (codes "memory") (length memories.now)) (view value.now)) }
+{
+    let place = match element_path(alloc, "memory", memories.len()) {
+        Ok(place) => place,
+        Err(e) => return Err(e),
+    };
+    memory_in(alloc, place.as_str(), value, memories.as_slice())
+}
+
+fn memories_of(alloc: Global, values: &[Value]) -> Result<Sequence<MemoryPlan>, RackRefusal>
+    ensures { Gives (λ memories. memories) result (items_judged memory_judged (codes "memory") [] (items_view values.now)) }
+{
+    let mut memories = Sequence::new(alloc);
+    for value in values {
+        let memory = match next_memory(alloc, value, &memories) {
+            Ok(memory) => memory,
+            Err(e) => return Err(e),
+        };
+        if memories.push(memory).is_err() {
+            return Err(RackRefusal::NoMemory);
+        }
+    }
+    Ok(memories)
+}
+
+/// What is left of a number of pages without those of these runs. None exactly where they have more.
+fn left_by(pages: u32, spans: &[Span]) -> Option<u32>
+    ensures { result ≡ left_after pages (pages_in spans.now) }
+{
+    let mut left = pages;
+    for span in spans {
+        let taken = span.pages;
+        if taken > left {
+            return None;
+        }
+        left -= taken;
+    }
+    Some(left)
+}
+
+/// Whether all homes together have at most so many pages.
+fn has_room(pages: u32, memories: &[MemoryPlan]) -> bool
+    ensures { result ≡ nat_le (home_pages memories.now) pages }
+{
+    let mut left = pages;
+    for memory in memories {
+        match left_by(left, memory.homes.as_slice()) {
+            Some(rest) => left = rest,
+            None => return false,
+        }
+    }
+    true
+}
+
+/// The memory blades of a rack.
+pub(crate) fn memories_in(
+    alloc: Global,
+    document: &Table,
+) -> Result<Sequence<MemoryPlan>, RackRefusal>
+    ensures { Gives (λ memories. memories) result (memories_judged (table_view document.now)) }
+{
+    let values = match array_in(alloc, "", document, "memory", 1, 8) {
+        Ok(values) => values,
+        Err(e) => return Err(e),
+    };
+    let memories = match memories_of(alloc, values) {
+        Ok(memories) => memories,
+        Err(e) => return Err(e),
+    };
+    if has_room(16384, memories.as_slice()) {
+        Ok(memories)
+    } else {
+        Err(refused(alloc, RackFault::Limit, "memory"))
+    }
+}

@@ -1,0 +1,230 @@
+ghost use Rattle.std.specs.Prelude.{◌≡◌, ◌++◌, [], codes, map, nat_le, length, Ok, Err, OnOk, IfOk, ◌∷◌};
+ghost use Rattle.toml.specs.Data.{get_member};
+ghost use Rattle.toml.specs.View.{view, table_view, items_view};
+ghost use Rattle.mind_base.specs.Span.{SpanView};
+ghost use Rattle.mind_base.specs.Fit.{all_homes};
+ghost use Rattle.mind_base.specs.Permission.{permission_of};
+ghost use Rattle.mind_base.specs.Cover.{cover_of};
+ghost use Rattle.protect_table.specs.Protect.{permission_at, changed};
+ghost use Rattle.control_plane.specs.Outcome.{are_mapped, are_unmapped, are_placed};
+ghost use Rattle.rack_file.specs.Keys.{numbered, keys_judged, items_judged, optional_array_judged};
+ghost use Rattle.rack_file.specs.Tables.{home_entry, map_at, map_keys, map_judged, maps_judged, maps_within};
+ghost use Rattle.rack_file.specs.Judged.{Gives, Reads};
+
+use crate::keys::{array_in, member_at, table_in};
+use crate::refusals::{RackFault, RackRefusal, element_path, refused};
+use crate::sections::{Section, check_known};
+use crate::tables::{perm_in, span_in};
+use control_plane::apply;
+use mind_base::{Command, MapPlan, MemoryPlan, NoMemory, Perm, Sequence, Span};
+use protect_table::Protect;
+use std::alloc::Global;
+use toml::{Table, Value};
+
+fn add_entries(entries: &mut Vec<MapPlan>, homes: &[Span]) -> Result<(), NoMemory>
+    ensures { OnOk result (entries.new.items ≡ entries.old.items ++ map home_entry homes.now) }
+{
+    for home in homes {
+        entries.push(MapPlan {
+            span: *home,
+            perm: Perm::R,
+        })?;
+    }
+    Ok(())
+}
+
+fn home_entries(alloc: Global, memories: &[MemoryPlan]) -> Result<Vec<MapPlan>, NoMemory>
+    ensures { IfOk result (λ entries. entries.items ≡ map home_entry (all_homes memories.now)) }
+{
+    let mut entries = Vec::new(alloc);
+    for memory in memories {
+        add_entries(&mut entries, memory.homes.as_slice())?;
+    }
+    Ok(entries)
+}
+
+/// A table in which the pages with a home have a permission.
+fn homes_table(alloc: Global, memories: &[MemoryPlan]) -> Result<Protect, NoMemory>
+    ensures { IfOk result (λ table. are_mapped (permission_at table) ≡ are_placed memories.now) }
+{
+    let entries = home_entries(alloc, memories)?;
+    match Protect::of(alloc, u32::MAX, entries.as_slice()) {
+        Ok(table) => Ok(table),
+        Err(e) => Err(e),
+    }
+}
+
+fn is_placed(homes: &Protect, span: &Span) -> bool
+    ensures { result ≡ are_mapped (permission_at homes.now) span.now }
+{
+    homes.first_without(span).is_none()
+}
+
+fn is_unmapped(mapped: &Protect, span: &Span) -> bool
+    ensures { result ≡ are_unmapped (permission_at mapped.now) span.now }
+{
+    mapped.first_with(span).is_none()
+}
+
+/// The keys of a map's table.
+fn map_from(alloc: Global, path: &str, table: &Table) -> Result<MapPlan, RackRefusal>
+    ensures { Reads (λ entry. entry) result (keys_judged path.now (table_view table.now) map_keys) (map_at (table_view table.now)) }
+{
+    let span = match span_in(alloc, path, table) {
+        Ok(span) => span,
+        Err(e) => return Err(e),
+    };
+    match perm_in(alloc, path, table) {
+        Ok(perm) => Ok(MapPlan { span, perm }),
+        Err(e) => Err(e),
+    }
+}
+
+/// The map that a value describes, where these pages have a home and those are mapped.
+fn map_in(
+    alloc: Global,
+    path: &str,
+    value: &Value,
+    homes: &Protect,
+    mapped: &Protect,
+) -> Result<MapPlan, RackRefusal>
+    ensures { Gives (λ entry. entry) result (map_judged (are_mapped (permission_at homes.now)) (permission_at mapped.now) path.now (view value.now)) }
+{
+    let table = match table_in(alloc, path, value) {
+        Ok(table) => table,
+        Err(e) => return Err(e),
+    };
+    let entry = match map_from(alloc, path, table) {
+        Ok(entry) => entry,
+        Err(e) => return Err(e),
+    };
+    match check_known(alloc, Section::Map, path, table) {
+        Ok(()) => {}
+        Err(e) => return Err(e),
+    }
+    if !is_placed(homes, &entry.span) {
+        return Err(refused(alloc, RackFault::Unplaced, path));
+    }
+    if !is_unmapped(mapped, &entry.span) {
+        return Err(refused(alloc, RackFault::Overlap, path));
+    }
+    Ok(entry)
+}
+
+/// The next map behind these, which the table has.
+fn next_map(
+    alloc: Global,
+    value: &Value,
+    maps: &Sequence<MapPlan>,
+    homes: &Protect,
+    mapped: &Protect,
+) -> Result<MapPlan, RackRefusal>
+    requires { permission_at mapped.now ≡ permission_of maps.now }
+    ensures { Gives (λ entry. entry) result (map_judged (are_mapped (permission_at homes.now)) (permission_of maps.now) (numbered (codes "map") (length maps.now)) (view value.now)) }
+{
+    let place = match element_path(alloc, "map", maps.len()) {
+        Ok(place) => place,
+        Err(e) => return Err(e),
+    };
+    map_in(alloc, place.as_str(), value, homes, mapped)
+}
+
+/// Puts a map behind these into the table that has them, and has room for any.
+fn put(mapped: &mut Protect, maps: &Sequence<MapPlan>, entry: &MapPlan) -> Result<(), NoMemory>
+    requires maps { permission_at mapped.old ≡ permission_of maps.now }
+    requires room { mapped.old.slots ≡ 4294967295 }
+    ensures ok { OnOk result (permission_at mapped.new ≡ permission_of (maps.now ++ entry.now ∷ [])) }
+    ensures slots { mapped.new.slots ≡ mapped.old.slots }
+{
+    let command = Command::Map {
+        span: entry.span,
+        perm: entry.perm,
+    };
+    match apply(&command, mapped) {
+        Ok(()) => Ok(()),
+        Err(e) => Err(e),
+    }
+}
+
+/// The maps of an array, and how many blocks they take.
+#[derive(Drop)]
+struct Mapped {
+    maps: Sequence<MapPlan>,
+    cover: u32,
+}
+
+fn maps_of(alloc: Global, values: &[Value], homes: &Protect) -> Result<Mapped, RackRefusal>
+    ensures maps { Gives (λ mapped. mapped.maps) result (items_judged (λ done. map_judged (are_mapped (permission_at homes.now)) (permission_of done)) (codes "map") [] (items_view values.now)) }
+    ensures cover { IfOk result (λ mapped. mapped.cover ≡ cover_of (permission_of mapped.maps)) }
+{
+    let mut maps = Sequence::new(alloc);
+    let mut table = match Protect::of(alloc, u32::MAX, &[]) {
+        Ok(table) => table,
+        Err(_) => return Err(RackRefusal::NoMemory),
+    };
+    for value in values {
+        let entry = match next_map(alloc, value, &maps, homes, &table) {
+            Ok(entry) => entry,
+            Err(e) => return Err(e),
+        };
+        match put(&mut table, &maps, &entry) {
+            Ok(()) => {}
+            Err(_) => return Err(RackRefusal::NoMemory),
+        }
+        match maps.push(entry) {
+            Ok(()) => {}
+            Err(_) => return Err(RackRefusal::NoMemory),
+        }
+    }
+    let cover = table.cover();
+    Ok(Mapped { maps, cover })
+}
+
+fn map_values<'a>(alloc: Global, document: &'a Table) -> Result<&'a [Value], RackRefusal>
+    ensures { Gives (λ values. items_view values.now) result (optional_array_judged (codes "map") 0 256 (get_member (codes "map") (table_view document.now))) }
+{
+    match member_at(document, "map") {
+        Some(_) => array_in(alloc, "", document, "map", 0, 256),
+        None => Ok(&[]),
+    }
+}
+
+/// The maps of an array, which take at most `most` blocks.
+fn maps_within(
+    alloc: Global,
+    values: &[Value],
+    homes: &Protect,
+    most: u32,
+) -> Result<Sequence<MapPlan>, RackRefusal>
+    ensures { Gives (λ maps. maps) result (maps_within (are_mapped (permission_at homes.now)) most (items_view values.now)) }
+{
+    let mapped = match maps_of(alloc, values, homes) {
+        Ok(mapped) => mapped,
+        Err(e) => return Err(e),
+    };
+    if mapped.cover > most {
+        return Err(refused(alloc, RackFault::Slots, "map"));
+    }
+    let Mapped { maps, cover: _ } = mapped;
+    Ok(maps)
+}
+
+/// The maps of a rack with these homes, which take at most `most` blocks.
+pub(crate) fn maps_in(
+    alloc: Global,
+    document: &Table,
+    memories: &[MemoryPlan],
+    most: u32,
+) -> Result<Sequence<MapPlan>, RackRefusal>
+    ensures { Gives (λ maps. maps) result (maps_judged (are_placed memories.now) most (table_view document.now)) }
+{
+    let values = match map_values(alloc, document) {
+        Ok(values) => values,
+        Err(e) => return Err(e),
+    };
+    let homes = match homes_table(alloc, memories) {
+        Ok(homes) => homes,
+        Err(_) => return Err(RackRefusal::NoMemory),
+    };
+    maps_within(alloc, values, &homes, most)
+}

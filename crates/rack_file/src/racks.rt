@@ -1,0 +1,105 @@
+ghost use Rattle.std.specs.Prelude.{◌≡◌, [], IfOk};
+ghost use Rattle.mind_base.specs.Fit.{IsFit};
+ghost use Rattle.toml.specs.View.{table_view};
+ghost use Rattle.rack_file.specs.Racks.{document_of, rack_judged, top_judged};
+ghost use Rattle.rack_file.specs.Judged.{Gives, GivesDocument};
+
+use crate::arrays::{blades_in, images_in, threads_in};
+use crate::homes::memories_in;
+use crate::maps::maps_in;
+use crate::refusals::{Path, RackFault, RackRefusal};
+use crate::settings::settings_in;
+use crate::tables::Named;
+use mind_base::RackPlan;
+use std::alloc::Global;
+use toml::Table;
+
+fn no_document(alloc: Global) -> RackRefusal
+    ensures { result ≡ RackRefusal.Refused RackFault.Toml [] }
+{
+    RackRefusal::Refused {
+        what: RackFault::Toml,
+        path: Path::from_text(String::new(alloc)),
+    }
+}
+
+/// The document that the bytes spell.
+fn document_from(alloc: Global, bytes: &[u8]) -> Result<Table, RackRefusal>
+    ensures { GivesDocument result (document_of bytes.now) }
+{
+    let text = match std::str::from_utf8(bytes) {
+        Ok(text) => text,
+        Err(_) => return Err(no_document(alloc)),
+    };
+    match toml::table_from_str(alloc, text) {
+        Ok(document) => Ok(document),
+        Err(e) => if e.is_memory() {
+            Err(RackRefusal::NoMemory)
+        } else {
+            Err(no_document(alloc))
+        },
+    }
+}
+
+/// The rack that a document describes.
+fn rack_in(alloc: Global, document: &Table) -> Result<RackPlan, RackRefusal>
+    ensures { Gives (λ plan. plan) result (top_judged (table_view document.now)) }
+{
+    let settings = match settings_in(alloc, document) {
+        Ok(settings) => settings,
+        Err(e) => return Err(e),
+    };
+    let frames = match blades_in(alloc, document) {
+        Ok(frames) => frames,
+        Err(e) => return Err(e),
+    };
+    let memories = match memories_in(alloc, document) {
+        Ok(memories) => memories,
+        Err(e) => return Err(e),
+    };
+    let images = match images_in(alloc, document) {
+        Ok(images) => images,
+        Err(e) => return Err(e),
+    };
+    let named = Named {
+        blades: frames.len() as u32,
+        images: images.len() as u32,
+    };
+    let threads = match threads_in(alloc, document, named) {
+        Ok(threads) => threads,
+        Err(e) => return Err(e),
+    };
+    match maps_in(alloc, document, memories.as_slice(), settings.protect) {
+        Ok(maps) => Ok(RackPlan {
+            slots: settings.slots,
+            protect: settings.protect,
+            outliers: settings.outliers,
+            region: settings.region,
+            most: settings.most,
+            threshold: settings.threshold,
+            policy: settings.policy,
+            frames,
+            memories,
+            images,
+            threads,
+            maps,
+        }),
+        Err(e) => Err(e),
+    }
+}
+
+/// Reads a rack file. What is refused is the first thing that is wrong, in the order in which the
+/// tables and their keys are listed.
+pub fn rack_of(alloc: Global, bytes: &[u8]) -> Result<RackPlan, RackRefusal>
+    ensures judged { Gives (λ plan. plan) result (rack_judged (document_of bytes.now)) }
+    ensures fit { IfOk result (λ plan. IsFit plan) }
+{
+    let document = match document_from(alloc, bytes) {
+        Ok(document) => document,
+        Err(e) => return Err(e),
+    };
+    match rack_in(alloc, &document) {
+        Ok(plan) => Ok(plan),
+        Err(e) => Err(e),
+    }
+}

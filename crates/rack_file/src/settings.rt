@@ -1,0 +1,114 @@
+ghost use Rattle.std.specs.Prelude.{◌≡◌, ◌≤◌, codes, IfOk};
+ghost use Rattle.std.specs.Str.{bytes_eq};
+ghost use Rattle.toml.specs.Data.{get_member};
+ghost use Rattle.toml.specs.View.{view, table_view};
+ghost use Rattle.mind_base.specs.declared.plans.PolicyKind.TheVariants.{Threshold};
+ghost use Rattle.rack_file.specs.Keys.{key_judged, keys_judged, known_judged, number_at, value_judged, under};
+ghost use Rattle.rack_file.specs.Tables.{policy_key, most_key, top_keys, names_in};
+ghost use Rattle.rack_file.specs.Settings.{settings_at, settings_judged};
+ghost use Rattle.rack_file.specs.Judged.{Gives, Reads};
+
+use crate::keys::{member_at, number_in};
+use crate::refusals::{RackFault, RackRefusal, refused_key};
+use crate::sections::{Section, check_known};
+use mind_base::PolicyKind;
+use std::alloc::Global;
+use toml::Table;
+
+/// What the top table of a rack file says beside its arrays.
+#[derive(Clone, Copy, Debug, PartialEq, Eq)]
+pub(crate) struct Settings {
+    pub slots: u32,
+    pub protect: u32,
+    pub outliers: u32,
+    pub region: u8,
+    pub most: u8,
+    pub threshold: u32,
+    pub policy: PolicyKind,
+}
+
+fn policy_in(alloc: Global, table: &Table) -> Result<PolicyKind, RackRefusal>
+    ensures { Reads (λ kind. kind) result (key_judged (codes "") (table_view table.now) policy_key) Threshold }
+{
+    let value = match member_at(table, "policy") {
+        Some(value) => value,
+        None => return Ok(PolicyKind::Threshold),
+    };
+    match value.as_str() {
+        Some(text) => if text == "threshold" {
+            Ok(PolicyKind::Threshold)
+        } else {
+            Err(refused_key(alloc, RackFault::Limit, "", "policy"))
+        },
+        None => Err(refused_key(alloc, RackFault::Kind, "", "policy")),
+    }
+}
+
+/// The highest size of a block of the directory, at least that of the first ones.
+fn most_in(alloc: Global, table: &Table, region: u32) -> Result<u32, RackRefusal>
+    requires { region ≡ number_at (codes "region") (table_view table.now) }
+    ensures reads { Reads (λ n. n) result (key_judged (codes "") (table_view table.now) most_key) (number_at (codes "most") (table_view table.now)) }
+    ensures within { IfOk result (λ n. n ≤ 9) }
+{
+    number_in(alloc, "", table, "most", region, 9)
+}
+
+/// The plain keys of the top table.
+fn settings_from(alloc: Global, table: &Table) -> Result<Settings, RackRefusal>
+    ensures { Reads (λ settings. settings) result (keys_judged (codes "") (table_view table.now) top_keys) (settings_at (table_view table.now)) }
+{
+    let _format = match number_in(alloc, "", table, "format", 1, 1) {
+        Ok(format) => format,
+        Err(e) => return Err(e),
+    };
+    let slots = match number_in(alloc, "", table, "slots", 1, 4096) {
+        Ok(slots) => slots,
+        Err(e) => return Err(e),
+    };
+    let protect = match number_in(alloc, "", table, "protect", 1, 4096) {
+        Ok(protect) => protect,
+        Err(e) => return Err(e),
+    };
+    let outliers = match number_in(alloc, "", table, "outliers", 0, 1024) {
+        Ok(outliers) => outliers,
+        Err(e) => return Err(e),
+    };
+    let region = match number_in(alloc, "", table, "region", 0, 9) {
+        Ok(region) => region,
+        Err(e) => return Err(e),
+    };
+    let most = match most_in(alloc, table, region) {
+        Ok(most) => most,
+        Err(e) => return Err(e),
+    };
+    let threshold = match number_in(alloc, "", table, "threshold", 0, 1000000) {
+        Ok(threshold) => threshold,
+        Err(e) => return Err(e),
+    };
+    match policy_in(alloc, table) {
+        Ok(policy) => Ok(Settings {
+            slots,
+            protect,
+            outliers,
+            region: region as u8,
+            most: most as u8,
+            threshold,
+            policy,
+        }),
+        Err(e) => Err(e),
+    }
+}
+
+/// The plain keys of the top table, which has no others but its arrays.
+pub(crate) fn settings_in(alloc: Global, table: &Table) -> Result<Settings, RackRefusal>
+    ensures { Gives (λ settings. settings) result (settings_judged (table_view table.now)) }
+{
+    let settings = match settings_from(alloc, table) {
+        Ok(settings) => settings,
+        Err(e) => return Err(e),
+    };
+    match check_known(alloc, Section::Top, "", table) {
+        Ok(()) => Ok(settings),
+        Err(e) => Err(e),
+    }
+}

@@ -1,0 +1,220 @@
+ghost use Rattle.std.specs.Prelude.{◌≡◌, ◌≤◌, ◌+◌, ◌-◌, ◌<◌, codes, IfOk};
+ghost use Rattle.std.specs.Str.{bytes_eq};
+ghost use Rattle.toml.specs.View.{view, table_view};
+ghost use Rattle.mind_base.specs.declared.plans.PolicyKind.TheVariants.{Threshold};
+ghost use Rattle.rack_file.specs.Keys.{key_judged, keys_judged, number_at, text_at};
+ghost use Rattle.rack_file.specs.Tables.{pages_key, span_keys, span_at, at_key, name_key, perm_key, perm_of, policy_key, most_key, top_keys, blade_judged, image_judged, thread_judged, thread_keys, thread_at};
+ghost use Rattle.rack_file.specs.Judged.{Gives, Reads};
+
+use crate::keys::{natural_in, number_in, table_in, text_in};
+use crate::refusals::{RackFault, RackRefusal, refused_key};
+use crate::sections::{Section, check_known};
+use mind_base::{ImagePlan, Name, Perm, Span, ThreadPlan};
+use std::alloc::Global;
+use toml::{Table, Value};
+
+/// The number of pages of a run from the page `base` on, which ends inside its domain.
+fn pages_in(alloc: Global, path: &str, table: &Table, base: u32) -> Result<u32, RackRefusal>
+    requires { base ≡ number_at (codes "page") (table_view table.now) }
+    ensures reads { Reads (λ n. n) result (key_judged path.now (table_view table.now) pages_key) (number_at (codes "pages") (table_view table.now)) }
+    ensures within { IfOk result (λ n. (1 ≤ n) × (n ≤ 4096) × (base + n ≤ 1048576)) }
+{
+    match natural_in(alloc, path, table, "pages") {
+        Err(e) => Err(e),
+        Ok(Some(n)) => if 1 <= n && n <= 4096 && u64::from(base) + n <= 1048576 {
+            Ok(n as u32)
+        } else {
+            Err(refused_key(alloc, RackFault::Limit, path, "pages"))
+        },
+        Ok(None) => Err(refused_key(alloc, RackFault::Limit, path, "pages")),
+    }
+}
+
+/// The run of pages that a table names.
+pub(crate) fn span_in(alloc: Global, path: &str, table: &Table) -> Result<Span, RackRefusal>
+    ensures { Reads (λ span. span) result (keys_judged path.now (table_view table.now) span_keys) (span_at (table_view table.now)) }
+{
+    let domain = match number_in(alloc, path, table, "domain", 0, 15) {
+        Ok(domain) => domain,
+        Err(e) => return Err(e),
+    };
+    let base = match number_in(alloc, path, table, "page", 0, 1048575) {
+        Ok(base) => base,
+        Err(e) => return Err(e),
+    };
+    match pages_in(alloc, path, table, base) {
+        Ok(pages) => Ok(Span {
+            domain: domain as u8,
+            base,
+            pages,
+        }),
+        Err(e) => Err(e),
+    }
+}
+
+/// The number of frames of a blade.
+pub(crate) fn blade_in(alloc: Global, path: &str, value: &Value) -> Result<u32, RackRefusal>
+    ensures { Gives (λ n. n) result (blade_judged path.now (view value.now)) }
+{
+    let table = match table_in(alloc, path, value) {
+        Ok(table) => table,
+        Err(e) => return Err(e),
+    };
+    let frames = match number_in(alloc, path, table, "frames", 1, 1024) {
+        Ok(frames) => frames,
+        Err(e) => return Err(e),
+    };
+    match check_known(alloc, Section::Blade, path, table) {
+        Ok(()) => Ok(frames),
+        Err(e) => Err(e),
+    }
+}
+
+/// The name of an image's file.
+fn name_in(alloc: Global, path: &str, table: &Table) -> Result<Name, RackRefusal>
+    ensures { Reads (λ name. name) result (key_judged path.now (table_view table.now) name_key) (text_at (codes "name") (table_view table.now)) }
+{
+    let text = match text_in(alloc, path, table, "name") {
+        Ok(text) => text,
+        Err(e) => return Err(e),
+    };
+    match Name::of(alloc, text) {
+        Ok(Some(name)) => Ok(name),
+        Ok(None) => Err(refused_key(alloc, RackFault::Limit, path, "name")),
+        Err(_) => Err(RackRefusal::NoMemory),
+    }
+}
+
+/// The address at which an image stands.
+fn address_in(alloc: Global, path: &str, table: &Table) -> Result<u32, RackRefusal>
+    ensures { Reads (λ n. n) result (key_judged path.now (table_view table.now) at_key) (number_at (codes "at") (table_view table.now)) }
+{
+    match natural_in(alloc, path, table, "at") {
+        Err(e) => Err(e),
+        Ok(Some(n)) => if n <= 4294967292 && n % 4 == 0 {
+            Ok(n as u32)
+        } else {
+            Err(refused_key(alloc, RackFault::Limit, path, "at"))
+        },
+        Ok(None) => Err(refused_key(alloc, RackFault::Limit, path, "at")),
+    }
+}
+
+/// An image's plan.
+pub(crate) fn image_in(alloc: Global, path: &str, value: &Value) -> Result<ImagePlan, RackRefusal>
+    ensures { Gives (λ plan. plan) result (image_judged path.now (view value.now)) }
+{
+    let table = match table_in(alloc, path, value) {
+        Ok(table) => table,
+        Err(e) => return Err(e),
+    };
+    let name = match name_in(alloc, path, table) {
+        Ok(name) => name,
+        Err(e) => return Err(e),
+    };
+    let at = match address_in(alloc, path, table) {
+        Ok(at) => at,
+        Err(e) => return Err(e),
+    };
+    match check_known(alloc, Section::Image, path, table) {
+        Ok(()) => Ok(ImagePlan { name, at }),
+        Err(e) => Err(e),
+    }
+}
+
+/// How many blades and images the threads may name, both at least one.
+#[derive(Clone, Copy, Debug, PartialEq, Eq)]
+pub(crate) struct Named {
+    pub blades: u32,
+    pub images: u32,
+}
+
+/// The keys of a thread's table.
+fn thread_from(
+    alloc: Global,
+    path: &str,
+    table: &Table,
+    named: Named,
+) -> Result<ThreadPlan, RackRefusal>
+    requires blades { named.blades ≤ 8 }
+    requires images { named.images ≤ 16 }
+    ensures { Reads (λ plan. plan) result (keys_judged path.now (table_view table.now) (thread_keys named.blades named.images)) (thread_at (table_view table.now)) }
+{
+    let blade = match number_in(
+        alloc,
+        path,
+        table,
+        "blade",
+        0,
+        named.blades.saturating_sub(1),
+    ) {
+        Ok(blade) => blade,
+        Err(e) => return Err(e),
+    };
+    let domain = match number_in(alloc, path, table, "domain", 0, 15) {
+        Ok(domain) => domain,
+        Err(e) => return Err(e),
+    };
+    let image = match number_in(
+        alloc,
+        path,
+        table,
+        "image",
+        0,
+        named.images.saturating_sub(1),
+    ) {
+        Ok(image) => image,
+        Err(e) => return Err(e),
+    };
+    match number_in(alloc, path, table, "queue", 1, 64) {
+        Ok(queue) => Ok(ThreadPlan {
+            blade: blade as u8,
+            domain: domain as u8,
+            image: image as u8,
+            queue,
+        }),
+        Err(e) => Err(e),
+    }
+}
+
+/// A thread's plan.
+pub(crate) fn thread_in(
+    alloc: Global,
+    path: &str,
+    value: &Value,
+    named: Named,
+) -> Result<ThreadPlan, RackRefusal>
+    requires blades { named.blades ≤ 8 }
+    requires images { named.images ≤ 16 }
+    ensures { Gives (λ plan. plan) result (thread_judged named.blades named.images path.now (view value.now)) }
+{
+    let table = match table_in(alloc, path, value) {
+        Ok(table) => table,
+        Err(e) => return Err(e),
+    };
+    let plan = match thread_from(alloc, path, table, named) {
+        Ok(plan) => plan,
+        Err(e) => return Err(e),
+    };
+    match check_known(alloc, Section::Thread, path, table) {
+        Ok(()) => Ok(plan),
+        Err(e) => Err(e),
+    }
+}
+
+/// The permission of a map.
+pub(crate) fn perm_in(alloc: Global, path: &str, table: &Table) -> Result<Perm, RackRefusal>
+    ensures { Reads (λ perm. perm) result (key_judged path.now (table_view table.now) perm_key) (perm_of (text_at (codes "perm") (table_view table.now))) }
+{
+    let text = match text_in(alloc, path, table, "perm") {
+        Ok(text) => text,
+        Err(e) => return Err(e),
+    };
+    if text == "rw" {
+        Ok(Perm::Rw)
+    } else if text == "r" {
+        Ok(Perm::R)
+    } else {
+        Err(refused_key(alloc, RackFault::Limit, path, "perm"))
+    }
+}

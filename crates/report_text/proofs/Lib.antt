@@ -1,0 +1,4 @@
+pub mod Lines
+pub mod Peaks
+pub mod Samples
+pub mod Tallies

@@ -1,0 +1,103 @@
+-- The rack of the tests is fit, and its machine keeps its threads.
+use Rattle.std.proofs.Common.{◌≡◌, ℕ, zero, suc, ◌-◌, ◌^◌, ◌≤◌, ◌∙◌, Bool, true, false, ◌&&◌, not, List, [], ◌∷◌, length, ap, sym, refl, subst, arith, Option, Some, None}
+use Rattle.mind_base.specs.Cover.{count_below, sum_below, is_uniform, has_uniform_parent, is_in_cover, cover_of}
+use Rattle.mind_base.specs.Fit.{IsFit, FitImages}
+use Rattle.mind_base.specs.declared.commands.Perm.TheVariants.{No}
+use Rattle.mind_base.specs.declared.images.Image.{Image}
+use Rattle.mind_base.specs.declared.plans.RackPlan.{RackPlan}
+use Rattle.tso_machine.specs.State.{State}
+use Rattle.tso_machine.specs.Step.{after}
+use Rattle.tso_machine.specs.Machine.{MachineView, Leads, LeadsTo}
+use Rattle.tso_machine.specs.declared.labels.Label.TheVariants.{Exec}
+use Rattle.tso_machine.proofs.Threads.{after-length}
+use Rattle.report_text.specs.Sample.{sample_plan, HasThree}
+
+false-right : (a b : Bool) → (a && false) && b ≡ false
+false-right true b = refl
+false-right false b = refl
+
+count_below-none : (test : ℕ → Bool) → ((j : ℕ) → test j ≡ false) → (n : ℕ) → count_below test n ≡ 0
+unfolding count_below
+count_below-none test h zero = refl
+count_below-none test h (suc n) = rw (count_below-none test h n, h n) refl
+
+sum_below-none : (f : ℕ → ℕ) → ((k : ℕ) → f k ≡ 0) → (n : ℕ) → sum_below f n ≡ 0
+unfolding sum_below
+sum_below-none f h zero = refl
+sum_below-none f h (suc n) = rw (sum_below-none f h n, h n) refl
+
+-- a block of pages without permission is in no cover
+no-block : (domain k j : ℕ) → is_in_cover (λ page. No) domain k j ≡ false
+unfolding is_in_cover
+no-block domain k j = false-right (is_uniform (λ page. No) domain k j) (not (has_uniform_parent (λ page. No) domain k j))
+
+cover_of-none : cover_of (λ page. No) ≡ 0
+unfolding cover_of
+cover_of-none = sum_below-none _ (λ domain. sum_below-none _ (λ k. count_below-none _ (no-block domain k) (2 ^ (20 - k))) 21) 16
+
+pub sample-fit : (name : List ℕ) → IsFit (sample_plan name)
+sample-fit name = record {
+  slots = (omega arith, omega arith);
+  protect = (omega arith, omega arith);
+  outliers = omega arith;
+  region = omega arith;
+  most = (omega arith, omega arith);
+  threshold = omega arith;
+  blades = (omega arith, omega arith);
+  frames = ((omega arith, omega arith), tt);
+  memories = (omega arith, omega arith);
+  each_memory = (record { spare = omega arith; homes = (omega arith, omega arith); pages = (omega arith, tt) }, tt);
+  homes_apart = (tt, tt);
+  home_pages = omega arith;
+  images = (omega arith, omega arith);
+  each_image = ((omega arith, omega arith), ((omega arith, omega arith), tt));
+  threads = (omega arith, omega arith);
+  each_thread = (
+    record { blade = omega arith; domain = omega arith; image = omega arith; queue = (omega arith, omega arith) },
+    (
+      record { blade = omega arith; domain = omega arith; image = omega arith; queue = (omega arith, omega arith) },
+      (record { blade = omega arith; domain = omega arith; image = omega arith; queue = (omega arith, omega arith) }, tt),
+    ),
+  );
+  maps = omega arith;
+  each_map = tt;
+  maps_apart = tt;
+  cover = subst (λ n. n ≤ 1) (sym cover_of-none) (omega arith);
+}
+
+pub plan-fit : (plan : RackPlan) (name : List ℕ) → plan ≡ sample_plan name → IsFit plan
+plan-fit plan name e = subst IsFit (sym e) (sample-fit name)
+
+sample-images : (low high : List ℕ) (name : List ℕ) → length low ≡ 24 → length high ≡ 4
+    → FitImages (sample_plan name).images (record { at = 0; bytes = low } ∷ record { at = 4096; bytes = high } ∷ [])
+sample-images low high name e f = (
+  record { at = refl; some = omega arith; most = omega arith; words = omega arith; end = omega arith },
+  (record { at = refl; some = omega arith; most = omega arith; words = omega arith; end = omega arith }, tt),
+)
+
+pub images-fit : (plan : RackPlan) (name : List ℕ) (images : List Image) (low high : List ℕ) → plan ≡ sample_plan name
+    → images ≡ record { at = 0; bytes = low } ∷ record { at = 4096; bytes = high } ∷ [] → length low ≡ 24 → length high ≡ 4
+    → FitImages plan.images images
+images-fit plan name images low high e f h k =
+    let P : RackPlan → Type 0 = λ p. FitImages p.images images in
+    let Q : List Image → Type 0 = λ is. FitImages (sample_plan name).images is in
+    subst P (sym e) (subst Q (sym f) (sample-images low high name h k))
+
+-- by what a step leads to
+three-by : (old new : MachineView) (hart : ℕ) (enabled : Bool) (h : HasThree old) (o : Option State) → after old.setup h.state (Exec hart) ≡ o
+    → LeadsTo enabled old new o → HasThree new
+three-by old new hart enabled h None e leads = subst HasThree (sym leads.1) h
+three-by old new hart enabled h (Some state) e leads = record {
+  state = state;
+  stands = leads.1;
+  three = after-length old.setup h.state state hart e ∙ h.three;
+}
+
+pub three-after : (old new : MachineView) (hart : ℕ) (enabled : Bool) → HasThree old → Leads enabled (Exec hart) old new → HasThree new
+three-after old new hart enabled h leads = three-by old new hart enabled h (after old.setup h.state (Exec hart)) refl (leads h.state h.stands)
+
+pub three-threads : (machine : MachineView) (plan : RackPlan) (name : List ℕ) → HasThree machine → plan ≡ sample_plan name → length machine.threads ≡ length plan.threads
+three-threads machine plan name h e = ap length h.stands.threads ∙ h.three ∙ sym (ap (λ p. length p.threads) e)
+
+pub plan-few : (plan : RackPlan) (name : List ℕ) → plan ≡ sample_plan name → length plan.threads ≤ 64
+plan-few plan name e = let three : length plan.threads ≡ 3 = ap (λ p. length p.threads) e in omega arith

@@ -1,0 +1,6 @@
+pub mod Counts
+pub mod Digits
+pub mod Force
+pub mod Report
+pub mod Sample
+pub mod ThreadLine

@@ -1,0 +1,259 @@
+//! Whole reports and lines of counts, written by hand from the format.
+
+ghost use Rattle.std.specs.Prelude.{◌≡◌, [], ◌∷◌, length, IfOk, OnOk};
+ghost use Rattle.report_text.specs.Sample.{sample_plan, HasThree};
+
+use crate::counts::{counts_in, put_counts};
+use crate::report;
+use mind_base::{
+    Image, ImagePlan, Log, MemoryPlan, Name, NoMemory, Note, Outcome, Page, PolicyKind, RackPlan,
+    Range, Sequence, Span, State, ThreadPlan,
+};
+use std::alloc::Global;
+use std::test::Fail;
+use tso_machine::{Label, Machine};
+
+// Puts `A` and exits with 0: addi a0, zero, 65; addi a7, zero, 1; ecall; addi a0, zero, 0; addi a7, zero, 2; ecall.
+static PUTS_A: [u8; 24] = [
+    0x13, 0x05, 0x10, 0x04, 0x93, 0x08, 0x10, 0x00, 0x73, 0x00, 0x00, 0x00, 0x13, 0x05, 0x00, 0x00,
+    0x93, 0x08, 0x20, 0x00, 0x73, 0x00, 0x00, 0x00,
+];
+
+// No instruction.
+static NOTHING: [u8; 4] = [0, 0, 0, 0];
+
+fn thread_in(image: u8) -> ThreadPlan
+    ensures { result ≡ record { blade = 0; domain = 0; image = image; queue = 1 } }
+{
+    ThreadPlan {
+        blade: 0,
+        domain: 0,
+        image,
+        queue: 1,
+    }
+}
+
+fn plan_of(alloc: Global, name: &Name) -> Result<RackPlan, NoMemory>
+    ensures { IfOk result (λ plan. plan ≡ sample_plan name.now) }
+{
+    let home = Span {
+        domain: 0,
+        base: 0,
+        pages: 1,
+    };
+    let memory = MemoryPlan {
+        homes: Sequence::from_vec(vec![in alloc; home]?),
+        spare: 0,
+    };
+    let low = ImagePlan {
+        name: name.copy(alloc)?,
+        at: 0,
+    };
+    let high = ImagePlan {
+        name: name.copy(alloc)?,
+        at: 4096,
+    };
+    Ok(RackPlan {
+        slots: 1,
+        protect: 1,
+        outliers: 0,
+        region: 0,
+        most: 0,
+        threshold: 0,
+        policy: PolicyKind::Threshold,
+        frames: Sequence::from_vec(vec![in alloc; 1u32]?),
+        memories: Sequence::from_vec(vec![in alloc; memory]?),
+        images: Sequence::from_vec(vec![in alloc; low, high]?),
+        threads: Sequence::from_vec(vec![in alloc; thread_in(0), thread_in(0), thread_in(1)]?),
+        maps: Sequence::new(alloc),
+    })
+}
+
+fn images_in(alloc: Global) -> Result<Vec<Image>, NoMemory>
+    ensures { IfOk result (λ images. images.items ≡ record { at = 0; bytes = PUTS_A } ∷ record { at = 4096; bytes = NOTHING } ∷ []) }
+{
+    let low = Image {
+        at: 0,
+        bytes: Sequence::from_vec(Vec::from_slice(alloc, &PUTS_A)?),
+    };
+    let high = Image {
+        at: 4096,
+        bytes: Sequence::from_vec(Vec::from_slice(alloc, &NOTHING)?),
+    };
+    let images = vec![in alloc; low, high]?;
+    Ok(images)
+}
+
+fn machine_of(alloc: Global, name: &Name, plan: &RackPlan) -> Result<Machine, NoMemory>
+    requires { plan.now ≡ sample_plan name.now }
+    ensures plan { IfOk result (λ machine. machine.setup.plan ≡ plan.now) }
+    ensures three { IfOk result (λ machine. HasThree machine) }
+{
+    let images = images_in(alloc)?;
+    let machine = Machine::start(alloc, plan, images.as_slice(), &[])?;
+    Ok(machine)
+}
+
+fn run_thread(machine: &mut Machine, hart: u8, steps: u8) -> Result<(), NoMemory>
+    requires { HasThree machine.old }
+    ensures setup { machine.new.setup ≡ machine.old.setup }
+    ensures three { OnOk result (HasThree machine.new) }
+{
+    for i in 0..steps {
+        machine.step(Label::Exec { hart })?;
+    }
+    Ok(())
+}
+
+fn report_on(
+    alloc: Global,
+    name: &Name,
+    plan: &RackPlan,
+    machine: &Machine,
+    log: &Log,
+) -> Result<Vec<u8>, NoMemory>
+    requires plan { plan.now ≡ sample_plan name.now }
+    requires made { machine.now.setup.plan ≡ plan.now }
+    requires three { HasThree machine.now }
+{
+    let text = report(alloc, plan, machine, &[], log)?;
+    Ok(text)
+}
+
+/// The machine behind six steps of its first thread, three of the second and one of the third.
+fn stopped_machine(alloc: Global, name: &Name, plan: &RackPlan) -> Result<Machine, NoMemory>
+    requires { plan.now ≡ sample_plan name.now }
+    ensures plan { IfOk result (λ machine. machine.setup.plan ≡ plan.now) }
+    ensures three { IfOk result (λ machine. HasThree machine) }
+{
+    let mut machine = machine_of(alloc, name, plan)?;
+    run_thread(&mut machine, 0, 6)?;
+    run_thread(&mut machine, 1, 3)?;
+    run_thread(&mut machine, 2, 1)?;
+    Ok(machine)
+}
+
+fn short_log(alloc: Global) -> Result<Log, NoMemory> {
+    let mut log = Log::new(alloc);
+    log.add(Note::Event { index: 0 })?;
+    log.add(Note::Exec { hart: 0 })?;
+    Ok(log)
+}
+
+fn report_of_name(alloc: Global, name: &Name) -> Result<Vec<u8>, NoMemory> {
+    let plan = plan_of(alloc, name)?;
+    let machine = stopped_machine(alloc, name, &plan)?;
+    let log = short_log(alloc)?;
+    report_on(alloc, name, &plan, &machine, &log)
+}
+
+#[test]
+fn a_report_of_each_end(rt: HostRuntime) -> Result<(), Fail> {
+    let name = Name::of(rt.alloc(), "a.bin")?.ok_or("no name")?;
+    let text = report_of_name(rt.alloc(), &name)?;
+    assert_eq!(rt;
+        text.as_slice(),
+        b"mind 1\nthread 0 exit 0 out 41\nthread 1 running 0000000c out 41\nthread 2 fault illegal 00000000 at 00001000 out -\ncounts events 1 labels 1 takes 0 gives 0 downs 0 peak 0 splits 0 merges 0\n".as_slice()
+    );
+    Ok(())
+}
+
+fn line_of(alloc: Global, notes: &[Note]) -> Result<Vec<u8>, NoMemory> {
+    let mut log = Log::new(alloc);
+    for note in notes {
+        log.add(*note)?;
+    }
+    let counts = counts_in(alloc, &log)?;
+    let mut line = Vec::new(alloc);
+    put_counts(alloc, &mut line, &counts)?;
+    Ok(line)
+}
+
+#[test]
+fn each_note_once(rt: HostRuntime) -> Result<(), Fail> {
+    let page = Page {
+        domain: 0,
+        number: 4,
+    };
+    let range = Range {
+        domain: 0,
+        base: 4,
+        log: 1,
+    };
+    let notes = [
+        Note::Event { index: 0 },
+        Note::Exec { hart: 0 },
+        Note::Drain { hart: 1 },
+        Note::Command { index: 0 },
+        Note::Moved {
+            index: 1,
+            outcome: Outcome::Fine,
+        },
+        Note::Take {
+            blade: 0,
+            page,
+            writable: true,
+        },
+        Note::Down { blade: 0, page },
+        Note::Give { blade: 0, page },
+        Note::Region {
+            range,
+            state: State::I,
+        },
+        Note::Split { range },
+        Note::Merge { range },
+        Note::Gone { range },
+    ];
+    assert_eq!(rt;
+        line_of(rt.alloc(), &notes)?.as_slice(),
+        b"counts events 1 labels 3 takes 1 gives 1 downs 1 peak 2 splits 1 merges 1\n".as_slice()
+    );
+    Ok(())
+}
+
+#[test]
+fn notes_of_entries_that_are_not_there(rt: HostRuntime) -> Result<(), Fail> {
+    let one = Range {
+        domain: 0,
+        base: 0,
+        log: 0,
+    };
+    let two = Range {
+        domain: 0,
+        base: 4,
+        log: 1,
+    };
+    let lower = Range {
+        domain: 0,
+        base: 4,
+        log: 0,
+    };
+    let shared = State::S { sharers: 5 };
+    let notes = [
+        Note::Region {
+            range: two,
+            state: State::I,
+        },
+        Note::Region {
+            range: two,
+            state: shared,
+        },
+        Note::Gone { range: one },
+        Note::Split { range: one },
+        Note::Region {
+            range: one,
+            state: shared,
+        },
+        Note::Split { range: one },
+        Note::Merge { range: two },
+        Note::Split { range: two },
+        Note::Gone { range: lower },
+        Note::Merge { range: two },
+        Note::Merge { range: one },
+    ];
+    assert_eq!(rt;
+        line_of(rt.alloc(), &notes)?.as_slice(),
+        b"counts events 0 labels 0 takes 0 gives 0 downs 0 peak 3 splits 3 merges 3\n".as_slice()
+    );
+    Ok(())
+}

@@ -1,0 +1,4 @@
+pub mod Cuts
+pub mod Fitting
+pub mod Reading
+pub mod WrittenOut

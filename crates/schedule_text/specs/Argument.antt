@@ -1,0 +1,61 @@
+-- What the arguments of a line stand for, from left to right.
+use Rattle.std.specs.Prelude.{ℕ, ◌+◌, ◌%◌, ◌^◌, ◌||◌, ◌==◌, nat_lt, List, codes, Result, Ok, Err, if◌then◌else◌}
+use Rattle.std.specs.Str.{bytes_eq}
+use Rattle.mind_base.specs.declared.numbers.NumberFault.{NumberFault}
+use Rattle.mind_base.specs.declared.numbers.NumberFault.TheVariants.{NotANumber, TooLarge}
+use Rattle.mind_base.specs.declared.commands.Perm.{Perm}
+use Rattle.mind_base.specs.declared.commands.Perm.TheVariants as perms
+use Rattle.mind_base.specs.Number.{number_of}
+use Rattle.mind_base.specs.Page.{PageView}
+use Rattle.mind_base.specs.Span.{SpanView}
+use Rattle.mind_base.specs.Range.{RangeView}
+use Rattle.schedule_text.specs.declared.faults.LineFault.{LineFault}
+use Rattle.schedule_text.specs.declared.faults.LineFault.TheVariants as faults
+use Rattle.schedule_text.specs.Refusal.{◌>>=◌}
+use Rattle.schedule_text.specs.Word.{word_at}
+
+-- a number that is too large is out of its range
+abbrev pub numbered : Result ℕ NumberFault → Result ℕ LineFault
+numbered (Ok n) = Ok n
+numbered (Err (NotANumber place)) = Err faults.Number
+numbered (Err (TooLarge place)) = Err faults.Range
+
+-- a number from 0 to the limit
+unfoldable pub number_up_to : ℕ → List ℕ → Result ℕ LineFault
+number_up_to limit word = numbered (number_of word limit)
+
+-- a number below the bound
+unfoldable pub number_below : ℕ → List ℕ → Result ℕ LineFault
+number_below bound word = do
+  number ← number_up_to 4294967295 word
+  if nat_lt number bound then Ok number else Err faults.Range
+
+-- r or rw
+unfoldable pub perm_of : List ℕ → Result Perm LineFault
+perm_of word =
+    if bytes_eq word (codes "r") then Ok perms.R else if bytes_eq word (codes "rw") then Ok perms.Rw else Err faults.Perm
+
+-- a domain and a page number
+unfoldable pub page_at : ℕ → List ℕ → Result PageView LineFault
+page_at from line = do
+  domain ← number_up_to 15 (word_at from line)
+  number ← number_up_to 1048575 (word_at (from + 1) line)
+  Ok (record { domain = domain; number = number })
+
+-- a domain, the first page, and 1 to 4096 pages that lie in the domain
+unfoldable pub span_at : List ℕ → Result SpanView LineFault
+span_at line = do
+  page ← page_at 1 line
+  pages ← number_up_to 4096 (word_at 3 line)
+  if pages == 0 || nat_lt 1048576 (page.number + pages)
+      then Err faults.Range
+      else Ok (record { domain = page.domain; base = page.number; pages = pages })
+
+-- a domain, the first page, and the logarithm of the number of pages, of which the first is a multiple
+unfoldable pub range_at : List ℕ → Result RangeView LineFault
+range_at line = do
+  page ← page_at 1 line
+  log ← number_up_to 9 (word_at 3 line)
+  if page.number % 2 ^ log == 0
+      then Ok (record { domain = page.domain; base = page.number; log = log })
+      else Err faults.Range

@@ -1,0 +1,11 @@
+pub mod Argument
+pub mod Asked
+pub mod Entry
+pub mod Event
+pub mod Keyword
+pub mod Link
+pub mod Refusal
+pub mod Round
+pub mod Schedule
+pub mod Size
+pub mod Word
