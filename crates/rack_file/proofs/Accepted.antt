@@ -1,10 +1,10 @@
 -- What is known of keys, tables and arrays that are accepted.
-use Rattle.std.proofs.Common.{◌≡◌, ℕ, zero, suc, ◌+◌, ◌-◌, ◌<◌, ◌≤◌, ◌∙◌, Bool, true, false, cond, not, ◌&&◌, ◌||◌, nat_le, nat_lt, List, [], ◌∷◌, ◌++◌, length, refl, sym, ap, subst, Option, Some, None, Result, Ok, Err, ℤ, arith, unwrap_or, option_and_then}
+use Rattle.std.proofs.Common.{◌≡◌, ℕ, ◌+◌, Bool, true, false, List, [], ◌∷◌, ◌++◌, length, refl, ap, subst, Option, Some, None, Result, Ok, Err, ℤ, arith, unwrap_or, option_and_then}
 use Rattle.std.specs.List.{AllByRecursion}
 use Rattle.std.proofs.lemmas.Grind.{common_steps}
 use Rattle.mind_base.specs.Fit.{Within}
-use Rattle.toml.specs.Data.{Data, Items, no_items, item, Members, get_member, as_integer, as_array}
-use Rattle.rack_file.specs.Keys.{Refused, and_then, demand, Key, Number, within, passes, natural_of, there_judged, kind_judged, natural_judged, value_judged, key_judged, keys_judged, number_at, under, count, numbered, items_judged, array_judged}
+use Rattle.toml.specs.Data.{Data, Items, no_items, item, Members, as_integer, as_array}
+use Rattle.rack_file.specs.Keys.{Refused, and_then, demand, Key, Number, within, passes, natural_of, kind_judged, value_judged, key_judged, keys_judged, number_at, count, numbered, items_judged, array_judged}
 use Rattle.rack_file.specs.declared.refusals.RackFault.{RackFault}
 
 -- two things that were accepted one after the other

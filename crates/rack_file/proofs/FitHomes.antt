@@ -1,5 +1,5 @@
 -- What is accepted is a fit plan: its memory blades.
-use Rattle.std.proofs.Common.{◌≡◌, ℕ, ◌+◌, ◌≤◌, ◌∙◌, Bool, true, false, not, ◌&&◌, nat_le, codes, List, [], ◌∷◌, ◌++◌, length, refl, sym, ap, subst, Result, Ok, arith, append_assoc}
+use Rattle.std.proofs.Common.{◌≡◌, ℕ, ◌+◌, ◌≤◌, ◌∙◌, Bool, true, false, not, ◌&&◌, nat_le, codes, List, [], ◌∷◌, ◌++◌, length, refl, sym, ap, subst, Ok, arith, append_assoc}
 use Rattle.std.specs.List.{AllByRecursion, list_any}
 use Rattle.std.proofs.lemmas.Grind.{common_steps}
 use Rattle.mind_base.specs.Span.{SpanView}
@@ -11,7 +11,7 @@ use Rattle.rack_file.specs.Tables.{span_keys, memory_keys, pages_key, names_in, 
 use Rattle.rack_file.specs.declared.refusals.RackFault.TheVariants.{Overlap, Limit}
 use Rattle.rack_file.specs.declared.sections.Section.TheVariants as section
 use Rattle.rack_file.proofs.Accepted.{both-ok, demand-ok, number-ok, all-push, items-keep, items-count, array-ok}
-use Rattle.rack_file.proofs.Fitness.{Accepts, all-keys, number-in, table-keys, apart-push}
+use Rattle.rack_file.proofs.Fitness.{all-keys, number-in, table-keys, apart-push}
 
 not-true : (b : Bool) → not b ≡ true → b ≡ false
 not-true true e = sym e

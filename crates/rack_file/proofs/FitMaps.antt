@@ -1,15 +1,13 @@
 -- What is accepted is a fit plan: its maps, and the whole.
-use Rattle.std.proofs.Common.{◌≡◌, ◌≢◌, ℕ, ◌+◌, ◌≤◌, ◌<◌, ◌∙◌, Bool, true, false, cond, not, ◌&&◌, ◌||◌, ◌==◌, nat_le, nat_lt, codes, List, [], ◌∷◌, ◌++◌, length, map, refl, sym, ap, subst, is_some, Result, Ok, Option, Some, None, arith}
-use Rattle.std.specs.Option.{IsSome}
+use Rattle.std.proofs.Common.{◌≡◌, ◌≢◌, ℕ, ◌≤◌, Bool, true, false, cond, ◌==◌, nat_le, codes, List, [], ◌∷◌, ◌++◌, length, map, refl, subst, is_some, Ok, Option, Some, None, arith}
 use Rattle.std.specs.List.{AllByRecursion}
-use Rattle.std.specs.Str.{bytes_eq}
 use Rattle.std.proofs.lemmas.Grind.{common_steps}
 use Rattle.mind_base.specs.Page.{PageView}
 use Rattle.mind_base.specs.Span.{SpanView, InSpan}
 use Rattle.mind_base.specs.Home.{in_span, home_of}
 use Rattle.mind_base.specs.Permission.{permission_from, permission_of}
 use Rattle.mind_base.specs.Cover.{level, cover_of}
-use Rattle.mind_base.specs.Fit.{Within, IsApart, AreApart, IsFitMap, IsFit}
+use Rattle.mind_base.specs.Fit.{IsApart, AreApart, IsFitMap, IsFit}
 use Rattle.mind_base.specs.declared.commands.Perm.{Perm}
 use Rattle.mind_base.specs.declared.commands.Perm.TheVariants.{No, R, Rw}
 use Rattle.mind_base.specs.declared.plans.MemoryPlan.{MemoryPlan}
@@ -18,8 +16,8 @@ use Rattle.mind_base.specs.declared.plans.RackPlan.{RackPlan}
 use Rattle.toml.specs.Data.{Data, Items, no_items, Members, get_member}
 use Rattle.control_plane.specs.Outcome.{are_placed, are_unmapped}
 use Rattle.control_plane.proofs.Runs.{all_in-holds}
-use Rattle.rack_file.specs.Keys.{Refused, and_then, demand, array_judged, optional_array_judged, items_judged, count}
-use Rattle.rack_file.specs.Tables.{map_keys, table_judged, span_at, map_at, perm_of, map_judged, maps_within, maps_judged, blades_judged, memories_judged, images_judged, threads_judged}
+use Rattle.rack_file.specs.Keys.{and_then, demand, optional_array_judged, items_judged, count}
+use Rattle.rack_file.specs.Tables.{map_keys, table_judged, span_at, map_at, map_judged, maps_within, maps_judged, blades_judged, memories_judged, images_judged, threads_judged}
 use Rattle.rack_file.specs.Settings.{settings_judged}
 use Rattle.rack_file.specs.Racks.{plan_of, top_judged}
 use Rattle.rack_file.specs.declared.refusals.RackFault.TheVariants.{Overlap, Unplaced, Slots}

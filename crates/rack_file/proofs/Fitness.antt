@@ -1,21 +1,19 @@
 -- What is accepted is a fit plan: the settings, blades, memory blades, images and threads.
-use Rattle.std.proofs.Common.{◌≡◌, ◌≢◌, ℕ, zero, suc, ◌+◌, ◌-◌, ◌%◌, ◌<◌, ◌≤◌, ◌∙◌, Bool, true, false, cond, not, ◌&&◌, ◌||◌, ◌==◌, nat_le, nat_lt, codes, List, [], ◌∷◌, ◌++◌, length, map, sum, refl, sym, ap, subst, Option, Some, None, Result, Ok, Err, arith, append_assoc}
-use Rattle.std.specs.List.{AllByRecursion, list_any, flat_map}
+use Rattle.std.proofs.Common.{◌≡◌, ℕ, ◌-◌, ◌%◌, ◌≤◌, true, false, ◌&&◌, ◌==◌, nat_le, codes, List, [], ◌∷◌, ◌++◌, length, subst, Ok, arith}
+use Rattle.std.specs.List.{AllByRecursion, list_any}
 use Rattle.std.proofs.lemmas.Grind.{common_steps}
-use Rattle.mind_base.specs.Page.{PageView}
-use Rattle.mind_base.specs.Span.{SpanView, InSpan}
-use Rattle.mind_base.specs.Fit.{Within, IsApart, AreApart, IsFitMemory, IsFitImage, IsFitThread, all_homes}
-use Rattle.mind_base.specs.declared.plans.MemoryPlan.{MemoryPlan}
+use Rattle.mind_base.specs.Span.{SpanView}
+use Rattle.mind_base.specs.Fit.{Within, IsApart, AreApart, IsFitImage, IsFitThread}
 use Rattle.mind_base.specs.declared.plans.ImagePlan.{ImagePlan}
 use Rattle.mind_base.specs.declared.plans.ThreadPlan.{ThreadPlan}
 use Rattle.toml.specs.Data.{Data, Members, get_member, as_table}
-use Rattle.rack_file.specs.Keys.{Refused, and_then, demand, Key, within, number_key, kind_judged, key_judged, keys_judged, known_judged, number_at, text_at, array_judged, items_judged, count, under}
-use Rattle.rack_file.specs.Tables.{top_keys, blade_keys, memory_keys, span_keys, image_keys, thread_keys, names_in, table_judged, blade_judged, blades_judged, image_judged, images_judged, thread_judged, threads_judged, thread_at, span_at, meets, home_judged}
+use Rattle.rack_file.specs.Keys.{and_then, Key, within, number_key, kind_judged, key_judged, keys_judged, known_judged, number_at, text_at, array_judged, items_judged, under}
+use Rattle.rack_file.specs.Tables.{top_keys, blade_keys, image_keys, thread_keys, names_in, table_judged, blade_judged, blades_judged, image_judged, images_judged, thread_judged, threads_judged, thread_at, meets}
 use Rattle.rack_file.specs.Settings.{settings_at, settings_judged}
 use Rattle.rack_file.specs.declared.sections.Section.{Section}
 use Rattle.rack_file.specs.declared.sections.Section.TheVariants as section
 use Rattle.rack_file.specs.declared.settings.Settings.{Settings}
-use Rattle.rack_file.proofs.Accepted.{both-ok, demand-ok, within-parts, first-ok, number-ok, all-push, items-keep, items-count, array-ok}
+use Rattle.rack_file.proofs.Accepted.{both-ok, within-parts, first-ok, number-ok, all-push, items-keep, items-count, array-ok}
 
 -- each key is accepted
 abbrev pub Accepts : List ℕ → Members → List Key → Type 0

@@ -1,8 +1,7 @@
 -- How what the code answers meets how things are judged one after another.
-use Rattle.std.proofs.Common.{◌≡◌, ℕ, ◌∙◌, List, refl, sym, ap, subst, Result, Ok, Err, Bool, true, false, cond}
-use Rattle.rack_file.specs.Keys.{Refused, and_then, demand}
-use Rattle.rack_file.specs.Judged.{Says, Stops, Gives, Reads}
-use Rattle.rack_file.specs.declared.refusals.RackFault.{RackFault}
+use Rattle.std.proofs.Common.{◌≡◌, ◌∙◌, sym, ap, subst, Result, Ok, Err}
+use Rattle.rack_file.specs.Keys.{Refused, and_then}
+use Rattle.rack_file.specs.Judged.{Says, Stops, Gives}
 use Rattle.rack_file.specs.declared.refusals.RackRefusal.{RackRefusal}
 use Rattle.rack_file.specs.declared.refusals.RackRefusal.TheVariants as refusal
 

@@ -1,5 +1,5 @@
 -- Whether pages have a home, by a table that lets the homes be read.
-use Rattle.std.proofs.Common.{◌≡◌, ℕ, ◌+◌, ◌<◌, ◌∙◌, Bool, true, false, ◌||◌, nat_lt, List, [], ◌∷◌, map, is_some, refl, sym, ap, cond}
+use Rattle.std.proofs.Common.{◌≡◌, ◌+◌, ◌∙◌, Bool, true, false, ◌||◌, nat_lt, List, [], ◌∷◌, map, is_some, refl, sym, cond}
 use Rattle.std.proofs.Math.Path.{fun_ext}
 use Rattle.std.specs.List.{list_any}
 use Rattle.mind_base.specs.Page.{PageView}

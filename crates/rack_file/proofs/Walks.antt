@@ -1,7 +1,6 @@
 -- Walks over the elements of an array.
-use Rattle.std.proofs.Common.{◌≡◌, ℕ, zero, suc, ◌+◌, ◌<◌, ◌≤◌, ◌∙◌, List, [], ◌∷◌, ◌++◌, length, drop, get_or, refl, sym, ap, subst, Result, Ok, Err, arith}
-use Rattle.std.proofs.lemmas.List.{drop_more}
-use Rattle.toml.specs.Data.{Data, Items, no_items, item}
+use Rattle.std.proofs.Common.{◌≡◌, ℕ, zero, suc, ◌+◌, ◌<◌, ◌≤◌, ◌∙◌, List, [], ◌∷◌, ◌++◌, length, drop, get_or, refl, sym, ap, subst, Result, Ok, arith}
+use Rattle.toml.specs.Data.{Data, Items, item}
 use Rattle.toml.specs.View.{view, items_view}
 use Rattle.toml.specs.declared.value.Value.{Value}
 use Rattle.toml.proofs.Views.{items_view-drop}

@@ -1,5 +1,5 @@
 -- Which rack files are accepted, and the first thing that is wrong with the others.
-use Rattle.std.specs.Prelude.{ℕ, codes, List, [], length, Option, Some, None, Result, Ok, Err, if◌then◌else◌}
+use Rattle.std.specs.Prelude.{ℕ, List, [], length, Option, Some, None, Result, Ok, Err, if◌then◌else◌}
 use Rattle.std.specs.Str.{is_utf8}
 use Rattle.toml.specs.Data.{Members}
 use Rattle.toml.specs.Parse.{parse_document}

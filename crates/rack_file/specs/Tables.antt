@@ -1,9 +1,8 @@
 -- The tables of a rack file: their keys, and what each describes.
-use Rattle.std.specs.Prelude.{ℕ, ◌+◌, ◌-◌, ◌%◌, codes, Bool, not, ◌&&◌, ◌||◌, ◌==◌, nat_lt, nat_le, List, [], ◌∷◌, ◌++◌, length, map, sum, Option, Some, None, Result, Ok, Err, if◌then◌else◌}
+use Rattle.std.specs.Prelude.{ℕ, ◌+◌, ◌-◌, ◌%◌, codes, Bool, not, ◌&&◌, ◌||◌, ◌==◌, nat_lt, nat_le, List, [], ◌∷◌, ◌++◌, map, sum, Option, Some, None, Result, Ok, if◌then◌else◌}
 use Rattle.std.specs.List.{list_any}
-use Rattle.std.specs.Str.{is_utf8, bytes_eq}
+use Rattle.std.specs.Str.{bytes_eq}
 use Rattle.toml.specs.Data.{Data, Items, Members, get_member, as_table}
-use Rattle.toml.specs.Parse.{parse_document}
 use Rattle.mind_base.specs.Page.{PageView}
 use Rattle.mind_base.specs.Span.{SpanView}
 use Rattle.mind_base.specs.Name.{is_name}
@@ -16,12 +15,9 @@ use Rattle.mind_base.specs.declared.plans.MemoryPlan.{MemoryPlan}
 use Rattle.mind_base.specs.declared.plans.ImagePlan.{ImagePlan}
 use Rattle.mind_base.specs.declared.plans.ThreadPlan.{ThreadPlan}
 use Rattle.mind_base.specs.declared.plans.MapPlan.{MapPlan}
-use Rattle.mind_base.specs.declared.plans.RackPlan.{RackPlan}
-use Rattle.mind_base.specs.declared.plans.PolicyKind.TheVariants.{Threshold}
-use Rattle.control_plane.specs.Outcome.{are_placed, are_unmapped}
-use Rattle.rack_file.specs.Keys.{Refused, and_then, demand, Rule, Number, Text, OptionalText, Key, within, number_key, kind_judged, keys_judged, names_of, known_judged, number_at, text_at, array_judged, optional_array_judged, items_judged, under}
-use Rattle.rack_file.specs.declared.refusals.RackFault.{RackFault}
-use Rattle.rack_file.specs.declared.refusals.RackFault.TheVariants.{Toml, Kind, Limit, Overlap, Unplaced, Slots}
+use Rattle.control_plane.specs.Outcome.{are_unmapped}
+use Rattle.rack_file.specs.Keys.{Refused, and_then, demand, Number, Text, OptionalText, Key, within, number_key, kind_judged, keys_judged, names_of, known_judged, number_at, text_at, array_judged, optional_array_judged, items_judged, under}
+use Rattle.rack_file.specs.declared.refusals.RackFault.TheVariants.{Limit, Overlap, Unplaced, Slots}
 use Rattle.rack_file.specs.declared.sections.Section.{Section}
 use Rattle.rack_file.specs.declared.sections.Section.TheVariants as section
 

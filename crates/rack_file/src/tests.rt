@@ -42,10 +42,9 @@ fn word(what: RackFault) -> &'static str {
     }
 }
 
-/// What is answered to the rack of these parts: `ok`, or the fault and its path.
-fn answer(rt: &HostRuntime, parts: &[&str]) -> Result<String, Fail> {
-    let text = joined(rt, parts)?;
-    match rack_of(rt.alloc(), text.as_bytes()) {
+/// What is answered to this rack: `ok`, or the fault and its path.
+fn answer(rt: &HostRuntime, rack: &str) -> Result<String, Fail> {
+    match rack_of(rt.alloc(), rack.as_bytes()) {
         Ok(_) => joined(rt, &["ok"]),
         Err(RackRefusal::NoMemory) => joined(rt, &["no memory"]),
         Err(RackRefusal::Refused { what, path }) => {
@@ -84,99 +83,100 @@ fn a_rack_is_read(rt: HostRuntime) -> Result<(), Fail> {
     Ok(())
 }
 
+/// A rack file, and what stands of its refusal behind `refused rack`.
+struct Row {
+    rack: &'static str,
+    wanted: &'static str,
+}
+
+static BAD: [Row; 20] = [
+    Row {
+        rack: "format =",
+        wanted: "toml ",
+    },
+    Row {
+        rack: "format = 1\nprotect = 8\noutliers = 2\nregion = 0\nmost = 9\nthreshold = 0\n[[blade]]\nframes = 2\n[[blade]]\nframes = 2\n[[memory]]\nspare = 4\nhomes = [{ domain = 0, page = 0, pages = 16 }]\n[[memory]]\nspare = 4\nhomes = [{ domain = 0, page = 16, pages = 16 }]\n[[image]]\nname = \"a.bin\"\nat = 0\n[[image]]\nname = \"b.bin\"\nat = 0\n[[thread]]\nblade = 0\ndomain = 0\nimage = 0\nqueue = 2\n[[thread]]\nblade = 1\ndomain = 0\nimage = 1\nqueue = 2\n[[map]]\ndomain = 0\npage = 1\npages = 2\nperm = \"rw\"\n",
+        wanted: "missing slots",
+    },
+    Row {
+        rack: "slots = \"4\"\nformat = 1\nprotect = 8\noutliers = 2\nregion = 0\nmost = 9\nthreshold = 0\n[[blade]]\nframes = 2\n[[blade]]\nframes = 2\n[[memory]]\nspare = 4\nhomes = [{ domain = 0, page = 0, pages = 16 }]\n[[memory]]\nspare = 4\nhomes = [{ domain = 0, page = 16, pages = 16 }]\n[[image]]\nname = \"a.bin\"\nat = 0\n[[image]]\nname = \"b.bin\"\nat = 0\n[[thread]]\nblade = 0\ndomain = 0\nimage = 0\nqueue = 2\n[[thread]]\nblade = 1\ndomain = 0\nimage = 1\nqueue = 2\n[[map]]\ndomain = 0\npage = 1\npages = 2\nperm = \"rw\"\n",
+        wanted: "kind slots",
+    },
+    Row {
+        rack: "slots = 0\nformat = 1\nprotect = 8\noutliers = 2\nregion = 0\nmost = 9\nthreshold = 0\n[[blade]]\nframes = 2\n[[blade]]\nframes = 2\n[[memory]]\nspare = 4\nhomes = [{ domain = 0, page = 0, pages = 16 }]\n[[memory]]\nspare = 4\nhomes = [{ domain = 0, page = 16, pages = 16 }]\n[[image]]\nname = \"a.bin\"\nat = 0\n[[image]]\nname = \"b.bin\"\nat = 0\n[[thread]]\nblade = 0\ndomain = 0\nimage = 0\nqueue = 2\n[[thread]]\nblade = 1\ndomain = 0\nimage = 1\nqueue = 2\n[[map]]\ndomain = 0\npage = 1\npages = 2\nperm = \"rw\"\n",
+        wanted: "limit slots",
+    },
+    Row {
+        rack: "slots = -1\nformat = 1\nprotect = 8\noutliers = 2\nregion = 0\nmost = 9\nthreshold = 0\n[[blade]]\nframes = 2\n[[blade]]\nframes = 2\n[[memory]]\nspare = 4\nhomes = [{ domain = 0, page = 0, pages = 16 }]\n[[memory]]\nspare = 4\nhomes = [{ domain = 0, page = 16, pages = 16 }]\n[[image]]\nname = \"a.bin\"\nat = 0\n[[image]]\nname = \"b.bin\"\nat = 0\n[[thread]]\nblade = 0\ndomain = 0\nimage = 0\nqueue = 2\n[[thread]]\nblade = 1\ndomain = 0\nimage = 1\nqueue = 2\n[[map]]\ndomain = 0\npage = 1\npages = 2\nperm = \"rw\"\n",
+        wanted: "limit slots",
+    },
+    Row {
+        rack: "format = 1\nslots = 4\nprotect = 8\noutliers = 2\nregion = 1\nmost = 0\nthreshold = 0\n[[blade]]\nframes = 2\n[[blade]]\nframes = 2\n[[memory]]\nspare = 4\nhomes = [{ domain = 0, page = 0, pages = 16 }]\n[[memory]]\nspare = 4\nhomes = [{ domain = 0, page = 16, pages = 16 }]\n[[image]]\nname = \"a.bin\"\nat = 0\n[[image]]\nname = \"b.bin\"\nat = 0\n[[thread]]\nblade = 0\ndomain = 0\nimage = 0\nqueue = 2\n[[thread]]\nblade = 1\ndomain = 0\nimage = 1\nqueue = 2\n[[map]]\ndomain = 0\npage = 1\npages = 2\nperm = \"rw\"\n",
+        wanted: "limit most",
+    },
+    Row {
+        rack: "color = 1\nformat = 1\nslots = 4\nprotect = 8\noutliers = 2\nregion = 0\nmost = 9\nthreshold = 0\n[[blade]]\nframes = 2\n[[blade]]\nframes = 2\n[[memory]]\nspare = 4\nhomes = [{ domain = 0, page = 0, pages = 16 }]\n[[memory]]\nspare = 4\nhomes = [{ domain = 0, page = 16, pages = 16 }]\n[[image]]\nname = \"a.bin\"\nat = 0\n[[image]]\nname = \"b.bin\"\nat = 0\n[[thread]]\nblade = 0\ndomain = 0\nimage = 0\nqueue = 2\n[[thread]]\nblade = 1\ndomain = 0\nimage = 1\nqueue = 2\n[[map]]\ndomain = 0\npage = 1\npages = 2\nperm = \"rw\"\n",
+        wanted: "unknown top",
+    },
+    Row {
+        rack: "color = 1\nformat = 1\nslots = 4\nprotect = 8\noutliers = 2\nregion = 0\nmost = 9\nthreshold = 0\n[[blade]]\nframes = 0\n[[blade]]\nframes = 2\n[[memory]]\nspare = 4\nhomes = [{ domain = 0, page = 0, pages = 16 }]\n[[memory]]\nspare = 4\nhomes = [{ domain = 0, page = 16, pages = 16 }]\n[[image]]\nname = \"a.bin\"\nat = 0\n[[image]]\nname = \"b.bin\"\nat = 0\n[[thread]]\nblade = 0\ndomain = 0\nimage = 0\nqueue = 2\n[[thread]]\nblade = 1\ndomain = 0\nimage = 1\nqueue = 2\n[[map]]\ndomain = 0\npage = 1\npages = 2\nperm = \"rw\"\n",
+        wanted: "unknown top",
+    },
+    Row {
+        rack: "format = 1\nslots = 4\nprotect = 8\noutliers = 2\nregion = 0\nmost = 9\nthreshold = 0\n[[blade]]\nframes = 0\n[[blade]]\nframes = 2\n[[memory]]\nspare = 4\nhomes = [{ domain = 0, page = 0, pages = 16 }]\n[[memory]]\nspare = 4\nhomes = [{ domain = 0, page = 16, pages = 16 }]\n[[image]]\nname = \"a.bin\"\nat = 0\n[[image]]\nname = \"b.bin\"\nat = 0\n[[thread]]\nblade = 0\ndomain = 0\nimage = 0\nqueue = 2\n[[thread]]\nblade = 1\ndomain = 0\nimage = 1\nqueue = 2\n[[map]]\ndomain = 0\npage = 1\npages = 2\nperm = \"rw\"\n",
+        wanted: "limit blade.0.frames",
+    },
+    Row {
+        rack: "format = 1\nslots = 4\nprotect = 8\noutliers = 2\nregion = 0\nmost = 9\nthreshold = 0\n[[memory]]\nspare = 4\nhomes = [{ domain = 0, page = 0, pages = 16 }]\n[[memory]]\nspare = 4\nhomes = [{ domain = 0, page = 16, pages = 16 }]\n[[image]]\nname = \"a.bin\"\nat = 0\n[[image]]\nname = \"b.bin\"\nat = 0\n[[thread]]\nblade = 0\ndomain = 0\nimage = 0\nqueue = 2\n[[thread]]\nblade = 1\ndomain = 0\nimage = 1\nqueue = 2\n[[map]]\ndomain = 0\npage = 1\npages = 2\nperm = \"rw\"\n",
+        wanted: "missing blade",
+    },
+    Row {
+        rack: "blade = 3\nformat = 1\nslots = 4\nprotect = 8\noutliers = 2\nregion = 0\nmost = 9\nthreshold = 0\n[[memory]]\nspare = 4\nhomes = [{ domain = 0, page = 0, pages = 16 }]\n[[memory]]\nspare = 4\nhomes = [{ domain = 0, page = 16, pages = 16 }]\n[[image]]\nname = \"a.bin\"\nat = 0\n[[image]]\nname = \"b.bin\"\nat = 0\n[[thread]]\nblade = 0\ndomain = 0\nimage = 0\nqueue = 2\n[[thread]]\nblade = 1\ndomain = 0\nimage = 1\nqueue = 2\n[[map]]\ndomain = 0\npage = 1\npages = 2\nperm = \"rw\"\n",
+        wanted: "kind blade",
+    },
+    Row {
+        rack: "blade = [1]\nformat = 1\nslots = 4\nprotect = 8\noutliers = 2\nregion = 0\nmost = 9\nthreshold = 0\n[[memory]]\nspare = 4\nhomes = [{ domain = 0, page = 0, pages = 16 }]\n[[memory]]\nspare = 4\nhomes = [{ domain = 0, page = 16, pages = 16 }]\n[[image]]\nname = \"a.bin\"\nat = 0\n[[image]]\nname = \"b.bin\"\nat = 0\n[[thread]]\nblade = 0\ndomain = 0\nimage = 0\nqueue = 2\n[[thread]]\nblade = 1\ndomain = 0\nimage = 1\nqueue = 2\n[[map]]\ndomain = 0\npage = 1\npages = 2\nperm = \"rw\"\n",
+        wanted: "kind blade.0",
+    },
+    Row {
+        rack: "format = 1\nslots = 4\nprotect = 8\noutliers = 2\nregion = 0\nmost = 9\nthreshold = 0\n[[blade]]\nframes = 2\n[[blade]]\nframes = 2\n[[blade]]\nframes = 2\n[[blade]]\nframes = 2\n[[blade]]\nframes = 2\n[[blade]]\nframes = 2\n[[blade]]\nframes = 2\n[[blade]]\nframes = 2\n[[blade]]\nframes = 2\n[[memory]]\nspare = 4\nhomes = [{ domain = 0, page = 0, pages = 16 }]\n[[memory]]\nspare = 4\nhomes = [{ domain = 0, page = 16, pages = 16 }]\n[[image]]\nname = \"a.bin\"\nat = 0\n[[image]]\nname = \"b.bin\"\nat = 0\n[[thread]]\nblade = 0\ndomain = 0\nimage = 0\nqueue = 2\n[[thread]]\nblade = 1\ndomain = 0\nimage = 1\nqueue = 2\n[[map]]\ndomain = 0\npage = 1\npages = 2\nperm = \"rw\"\n",
+        wanted: "limit blade",
+    },
+    Row {
+        rack: "format = 1\nslots = 4\nprotect = 8\noutliers = 2\nregion = 0\nmost = 9\nthreshold = 0\n[[blade]]\nframes = 2\n[[blade]]\nframes = 2\n[[memory]]\nspare = 4\nhomes = [{ domain = 0, page = 0, pages = 16 }]\n[[memory]]\nspare = 4\nhomes = [{ domain = 0, page = 8, pages = 16 }]\n[[image]]\nname = \"a.bin\"\nat = 0\n[[image]]\nname = \"b.bin\"\nat = 0\n[[thread]]\nblade = 0\ndomain = 0\nimage = 0\nqueue = 2\n[[thread]]\nblade = 1\ndomain = 0\nimage = 1\nqueue = 2\n[[map]]\ndomain = 0\npage = 1\npages = 2\nperm = \"rw\"\n",
+        wanted: "overlap memory.1.homes.0",
+    },
+    Row {
+        rack: "format = 1\nslots = 4\nprotect = 8\noutliers = 2\nregion = 0\nmost = 9\nthreshold = 0\n[[blade]]\nframes = 2\n[[blade]]\nframes = 2\n[[memory]]\nspare = 4\nhomes = [{ domain = 0, page = 0, pages = 16, at = 1 }]\n[[memory]]\nspare = 4\nhomes = [{ domain = 0, page = 16, pages = 16 }]\n[[image]]\nname = \"a.bin\"\nat = 0\n[[image]]\nname = \"b.bin\"\nat = 0\n[[thread]]\nblade = 0\ndomain = 0\nimage = 0\nqueue = 2\n[[thread]]\nblade = 1\ndomain = 0\nimage = 1\nqueue = 2\n[[map]]\ndomain = 0\npage = 1\npages = 2\nperm = \"rw\"\n",
+        wanted: "unknown memory.0.homes.0",
+    },
+    Row {
+        rack: "format = 1\nslots = 4\nprotect = 8\noutliers = 2\nregion = 0\nmost = 9\nthreshold = 0\n[[blade]]\nframes = 2\n[[blade]]\nframes = 2\n[[memory]]\nspare = 4\nhomes = [{ domain = 1, page = 0, pages = 4096 }, { domain = 1, page = 4096, pages = 4096 }, { domain = 2, page = 0, pages = 4096 }, { domain = 3, page = 0, pages = 4096 }]\n[[memory]]\nspare = 4\nhomes = [{ domain = 0, page = 16, pages = 16 }]\n[[image]]\nname = \"a.bin\"\nat = 0\n[[image]]\nname = \"b.bin\"\nat = 0\n[[thread]]\nblade = 0\ndomain = 0\nimage = 0\nqueue = 2\n[[thread]]\nblade = 1\ndomain = 0\nimage = 1\nqueue = 2\n[[map]]\ndomain = 0\npage = 1\npages = 2\nperm = \"rw\"\n",
+        wanted: "limit memory",
+    },
+    Row {
+        rack: "format = 1\nslots = 4\nprotect = 8\noutliers = 2\nregion = 0\nmost = 9\nthreshold = 0\n[[blade]]\nframes = 2\n[[blade]]\nframes = 2\n[[memory]]\nspare = 4\nhomes = [{ domain = 0, page = 0, pages = 16 }]\n[[memory]]\nspare = 4\nhomes = [{ domain = 0, page = 16, pages = 16 }]\n[[image]]\nname = \"a.bin\"\nat = 0\n[[image]]\nname = \"b.bin\"\nat = 0\n[[thread]]\nblade = 0\ndomain = 0\nimage = 0\nqueue = 2\n[[thread]]\nblade = 1\ndomain = 0\nimage = 1\nqueue = 2\n[[map]]\ndomain = 0\npage = 30\npages = 4\nperm = \"rw\"\n",
+        wanted: "unplaced map.0",
+    },
+    Row {
+        rack: "format = 1\nslots = 4\nprotect = 8\noutliers = 2\nregion = 0\nmost = 9\nthreshold = 0\n[[blade]]\nframes = 2\n[[blade]]\nframes = 2\n[[memory]]\nspare = 4\nhomes = [{ domain = 0, page = 0, pages = 16 }]\n[[memory]]\nspare = 4\nhomes = [{ domain = 0, page = 16, pages = 16 }]\n[[image]]\nname = \"a.bin\"\nat = 0\n[[image]]\nname = \"b.bin\"\nat = 0\n[[thread]]\nblade = 0\ndomain = 0\nimage = 0\nqueue = 2\n[[thread]]\nblade = 1\ndomain = 0\nimage = 1\nqueue = 2\n[[map]]\ndomain = 0\npage = 1\npages = 2\nperm = \"rw\"\n[[map]]\ndomain = 0\npage = 1\npages = 2\nperm = \"rw\"\n",
+        wanted: "overlap map.1",
+    },
+    Row {
+        rack: "format = 1\nslots = 4\nprotect = 1\noutliers = 2\nregion = 0\nmost = 9\nthreshold = 0\n[[blade]]\nframes = 2\n[[blade]]\nframes = 2\n[[memory]]\nspare = 4\nhomes = [{ domain = 0, page = 0, pages = 16 }]\n[[memory]]\nspare = 4\nhomes = [{ domain = 0, page = 16, pages = 16 }]\n[[image]]\nname = \"a.bin\"\nat = 0\n[[image]]\nname = \"b.bin\"\nat = 0\n[[thread]]\nblade = 0\ndomain = 0\nimage = 0\nqueue = 2\n[[thread]]\nblade = 1\ndomain = 0\nimage = 1\nqueue = 2\n[[map]]\ndomain = 0\npage = 1\npages = 2\nperm = \"rw\"\n",
+        wanted: "slots map",
+    },
+    Row {
+        rack: "policy = \"never\"\nformat = 1\nslots = 4\nprotect = 8\noutliers = 2\nregion = 0\nmost = 9\nthreshold = 0\n[[blade]]\nframes = 2\n[[blade]]\nframes = 2\n[[memory]]\nspare = 4\nhomes = [{ domain = 0, page = 0, pages = 16 }]\n[[memory]]\nspare = 4\nhomes = [{ domain = 0, page = 16, pages = 16 }]\n[[image]]\nname = \"a.bin\"\nat = 0\n[[image]]\nname = \"b.bin\"\nat = 0\n[[thread]]\nblade = 0\ndomain = 0\nimage = 0\nqueue = 2\n[[thread]]\nblade = 1\ndomain = 0\nimage = 1\nqueue = 2\n[[map]]\ndomain = 0\npage = 1\npages = 2\nperm = \"rw\"\n",
+        wanted: "limit policy",
+    },
+];
+
 #[test]
 fn bad_racks_are_refused_in_order(rt: HostRuntime) -> Result<(), Fail> {
-    let rest = joined(
-        &rt,
-        &[BLADES, FIRST_MEMORY, SECOND_MEMORY, IMAGES, THREADS, MAP],
-    )?;
-    let rest = rest.as_str();
-    let end = joined(&rt, &[IMAGES, THREADS, MAP])?;
-    let end = end.as_str();
-    let no_slots = "format = 1\nprotect = 8\noutliers = 2\nregion = 0\nmost = 9\nthreshold = 0\n";
-    let small =
-        "format = 1\nslots = 4\nprotect = 1\noutliers = 2\nregion = 0\nmost = 9\nthreshold = 0\n";
-    let most =
-        "format = 1\nslots = 4\nprotect = 8\noutliers = 2\nregion = 1\nmost = 0\nthreshold = 0\n";
-    let no_frames = "[[blade]]\nframes = 0\n[[blade]]\nframes = 2\n";
-    let early = "[[memory]]\nspare = 4\nhomes = [{ domain = 0, page = 8, pages = 16 }]\n";
-    let at_home = "[[memory]]\nspare = 4\nhomes = [{ domain = 0, page = 0, pages = 16, at = 1 }]\n";
-    let large =
-        "[[memory]]\nspare = 4\nhomes = [{ domain = 1, page = 0, pages = 4096 }, { domain = 1, page = 4096, pages = 4096 }, { domain = 2, page = 0, pages = 4096 }, { domain = 3, page = 0, pages = 4096 }]\n";
-    let far = "[[map]]\ndomain = 0\npage = 30\npages = 4\nperm = \"rw\"\n";
-    let table: [(&[&str], &str); 20] = [
-        (&["format ="], "toml "),
-        (&[no_slots, rest], "missing slots"),
-        (&["slots = \"4\"\n", no_slots, rest], "kind slots"),
-        (&["slots = 0\n", no_slots, rest], "limit slots"),
-        (&["slots = -1\n", no_slots, rest], "limit slots"),
-        (&[most, rest], "limit most"),
-        (&["color = 1\n", TOP, rest], "unknown top"),
-        (
-            &[
-                "color = 1\n",
-                TOP,
-                no_frames,
-                FIRST_MEMORY,
-                SECOND_MEMORY,
-                end,
-            ],
-            "unknown top",
-        ),
-        (
-            &[TOP, no_frames, FIRST_MEMORY, SECOND_MEMORY, end],
-            "limit blade.0.frames",
-        ),
-        (&[TOP, FIRST_MEMORY, SECOND_MEMORY, end], "missing blade"),
-        (
-            &["blade = 3\n", TOP, FIRST_MEMORY, SECOND_MEMORY, end],
-            "kind blade",
-        ),
-        (
-            &["blade = [1]\n", TOP, FIRST_MEMORY, SECOND_MEMORY, end],
-            "kind blade.0",
-        ),
-        (
-            &[
-                TOP,
-                BLADES,
-                BLADES,
-                BLADES,
-                BLADES,
-                "[[blade]]\nframes = 2\n",
-                FIRST_MEMORY,
-                SECOND_MEMORY,
-                end,
-            ],
-            "limit blade",
-        ),
-        (
-            &[TOP, BLADES, FIRST_MEMORY, early, end],
-            "overlap memory.1.homes.0",
-        ),
-        (
-            &[TOP, BLADES, at_home, SECOND_MEMORY, end],
-            "unknown memory.0.homes.0",
-        ),
-        (&[TOP, BLADES, large, SECOND_MEMORY, end], "limit memory"),
-        (
-            &[
-                TOP,
-                BLADES,
-                FIRST_MEMORY,
-                SECOND_MEMORY,
-                IMAGES,
-                THREADS,
-                far,
-            ],
-            "unplaced map.0",
-        ),
-        (&[TOP, rest, MAP], "overlap map.1"),
-        (&[small, rest], "slots map"),
-        (&["policy = \"never\"\n", TOP, rest], "limit policy"),
-    ];
-    for (parts, wanted) in table {
-        assert_eq!(rt; answer(&rt, parts)?.as_str(), wanted);
+    for row in &BAD {
+        let told = answer(&rt, row.rack)?;
+        assert!(rt; told.as_str() == row.wanted, "{told}");
     }
     Ok(())
 }

@@ -1,4 +1,4 @@
-use Rattle.std.proofs.Common.{◌≡◌, codes, [], ◌++◌, drop}
+use Rattle.std.proofs.Common.{◌≡◌, codes, [], drop}
 use Rattle.toml.specs.View.{items_view}
 use Rattle.rack_file.specs.Keys.{items_judged}
 use Rattle.rack_file.specs.Tables.{thread_judged}

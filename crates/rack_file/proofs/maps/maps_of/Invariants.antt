@@ -1,4 +1,4 @@
-use Rattle.std.proofs.Common.{◌≡◌, codes, [], ◌++◌, drop}
+use Rattle.std.proofs.Common.{◌≡◌, codes, [], drop}
 use Rattle.toml.specs.View.{items_view}
 use Rattle.mind_base.specs.Permission.{permission_of}
 use Rattle.protect_table.specs.Protect.{permission_at}

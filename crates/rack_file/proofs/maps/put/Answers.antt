@@ -1,4 +1,4 @@
-use Rattle.std.proofs.Common.{refl, sym, ◌∙◌, ap}
+use Rattle.std.proofs.Common.{sym, ◌∙◌, ap}
 use Rattle.protect_table.specs.Protect.{changed}
 use Rattle.protect_table.proofs.Tables.{cover_of-fits, permission_of-push}
 use Rattle.rack_file.proofs.maps.put.Goals as goal
