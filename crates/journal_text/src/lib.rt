@@ -1,0 +1,17 @@
+//! The journal of a run: a log written as text, one line for each note, and read back.
+#![tactic(auto)]
+
+mod fields;
+mod lines;
+mod notes;
+mod parts;
+mod reading;
+mod refusals;
+mod writing;
+
+pub use reading::journal_of;
+pub use refusals::{JournalFault, JournalRefusal};
+pub use writing::journal;
+
+#[cfg(test)]
+mod tests;
