@@ -1,12 +1,13 @@
 -- From the parts of a call to how it ends.
-use Rattle.std.proofs.Common.{◌≡◌, ℕ, ◌⊎◌, inl, inr, ◌∙◌, List, ap, sym, refl, subst, Option, Some, Result, Ok, Err}
+use Rattle.std.proofs.Common.{◌≡◌, ℕ, ◌⊎◌, inl, inr, ◌∙◌, List, ap, sym, refl, subst, Option, Some, None, IfSome, []}
 use Rattle.mind_base.specs.Store.{Files, Rises}
 use Rattle.mind_base.specs.Sink.{Appends}
 use Rattle.mind_base.specs.declared.notes.Note.{Note}
-use Rattle.mind_top.specs.Words.{Paths, IsRun, IsNoForm}
-use Rattle.mind_top.specs.Rack.{SketchView}
-use Rattle.mind_top.specs.Inputs.{Ending, Missing, Refused, Judged, Ends, Accepts, Accepted, rack_judged, image_judged, schedule_judged, AfterSchedule, AfterImage, AfterRack, Judges, schedule_ends, image_ends, rack_ends, judge}
-use Rattle.mind_top.specs.Ending.{Counts, Due, EndsWith, Says, Finishes, status_of}
+use Rattle.mind_inputs.specs.Words.{Paths}
+use Rattle.mind_top.specs.Words.{IsRun, IsNoForm}
+use Rattle.mind_inputs.specs.Inputs.{Missing, Refused, Judged, Ends, Accepts, Accepted, Judges, judge}
+use Rattle.mind_inputs.proofs.Chains.{judges-judge}
+use Rattle.mind_top.specs.Ending.{Counts, Due, EndsWith, Says, Finishes, Refuses, status_of}
 use Rattle.mind_top.specs.declared.statuses.Status.{Status}
 use Rattle.mind_top.specs.declared.statuses.Status.TheVariants as status
 
@@ -30,6 +31,13 @@ said holds words log before now old new text due result is_due (inr (fault, rise
     let P : Status → Type 0 = λ s. EndsWith holds words log before now old new s in
     subst P (sym fault) (rises, due, text, is_due, front)
 
+-- an input is refused
+pub refused : (holds : Option Files) (words : List (List ℕ)) (log : List Note) (before now : Counts) (old new : Option (List ℕ)) (text : List ℕ) (result : Status)
+    → log ≡ [] → Due holds words log status.Malformed text → Refuses old new before.failed now.failed text result → EndsWith holds words log before now old new result
+refused holds words log before now old new text result empty due (inl (none, same)) =
+    let P : Status → Type 0 = λ s. EndsWith holds words log before now old new s in subst P (sym none) (inl empty, same)
+refused holds words log before now old new text result empty due (inr says) = said holds words log before now old new text status.Malformed result due says
+
 -- a run of accepted inputs
 pub finished : (holds : Option Files) (words : List (List ℕ)) (paths : Paths) (accepted : Accepted) (log : List Note) (before now : Counts) (old new : Option (List ℕ)) (result : Status)
     → IsRun words paths → Judges holds paths (Accepts accepted) → Finishes accepted log before.failed now.failed old new result
@@ -43,28 +51,6 @@ finished holds words paths accepted log before now old new status.NoMemory is_ru
 finished holds words paths accepted log before now old new status.Usage is_run judges no_way = absurd no_way
 finished holds words paths accepted log before now old new status.Malformed is_run judges no_way = absurd no_way
 finished holds words paths accepted log before now old new status.ReadFault is_run judges no_way = absurd no_way
-
--- ---- where the store tells what it holds, the judgement is a function of the files
-
-after-schedule : (rack : SketchView) (image : List ℕ) (r : Result ℕ Ending) (j : Judged) → AfterSchedule rack image r j → j ≡ schedule_ends rack image r
-after-schedule rack image (Ok steps) j e = e
-after-schedule rack image (Err ending) j e = e
-
-after-image : (files : Files) (schedule : List ℕ) (rack : SketchView) (r : Result (List ℕ) Ending) (j : Judged)
-    → AfterImage (Some files) schedule rack r j → j ≡ image_ends files schedule rack r
-after-image files schedule rack (Err ending) j e = e
-after-image files schedule rack (Ok image) j (seen, reads, rest) =
-    after-schedule rack image (schedule_judged seen) j rest ∙ ap (λ s. schedule_ends rack image (schedule_judged s)) (sym reads)
-
-after-rack : (files : Files) (schedule : List ℕ) (r : Result SketchView Ending) (j : Judged)
-    → AfterRack (Some files) schedule r j → j ≡ rack_ends files schedule r
-after-rack files schedule (Err ending) j e = e
-after-rack files schedule (Ok rack) j (seen, reads, rest) =
-    after-image files schedule rack (image_judged rack.at seen) j rest ∙ ap (λ s. image_ends files schedule rack (image_judged rack.at s)) (sym reads)
-
-pub judges-judge : (files : Files) (paths : Paths) (j : Judged) → Judges (Some files) paths j → j ≡ judge files paths
-judges-judge files paths j (seen, reads, rest) =
-    after-rack files paths.schedule (rack_judged seen) j rest ∙ ap (λ s. rack_ends files paths.schedule (rack_judged s)) (sym reads)
 
 -- ---- the words name their files in one way
 
@@ -92,6 +78,13 @@ told files words log before now old new status.ReadFault (q, b, rises, inr judge
     inr (called-for files words p q (Ends Missing) a b judges)
 told files words log before now old new status.WriteFault (failure, due, text, is_due, front) p a no_fault no_failure = absurd (no_failure failure)
 told files words log before now old new status.NoMemory ends p a no_fault no_failure = inl refl
+
+pub told-where-held : (holds : Option Files) (words : List (List ℕ)) (log : List Note) (before now : Counts) (old new : Option (List ℕ)) (result : Status)
+    → EndsWith holds words log before now old new result
+    → IfSome holds (λ files. (p : Paths) → IsRun words p → ¬ (Rises before.faults now.faults) → ¬ (Rises before.failed now.failed)
+    → (result ≡ status.NoMemory) ⊎ (result ≡ status_of (judge files p)))
+told-where-held (Some files) words log before now old new result ends = told files words log before now old new result ends
+told-where-held None words log before now old new result ends = tt
 
 pub usage-due : (holds : Option Files) (words : List (List ℕ)) (log : List Note) (before now : Counts) (old new : Option (List ℕ)) (result : Status)
     → EndsWith holds words log before now old new result → IsNoForm words → (result ≡ status.Usage) ⊎ ((result ≡ status.WriteFault) ⊎ (result ≡ status.NoMemory))

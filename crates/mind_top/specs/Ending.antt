@@ -3,12 +3,13 @@ use Rattle.std.specs.Prelude.{◌≡◌, ◌⊎◌, ℕ, List, [], Option}
 use Rattle.mind_base.specs.Store.{Files, Rises}
 use Rattle.mind_base.specs.Sink.{Appends, AppendsFront}
 use Rattle.mind_base.specs.declared.notes.Note.{Note}
-use Rattle.mind_top.specs.Words.{Paths, IsRun, IsNoForm, usage_line}
-use Rattle.mind_top.specs.Refusal.{line_of}
-use Rattle.mind_top.specs.Inputs.{Ending, Missing, Refused, Judged, Ends, Accepts, Accepted, Judges}
-use Rattle.mind_top.specs.Loading.{FaultTold}
-use Rattle.mind_top.specs.Run.{setup_of, Headline, Stands}
-use Rattle.mind_top.specs.declared.refusals.Refusal.{Refusal}
+use Rattle.mind_inputs.specs.Words.{Paths}
+use Rattle.mind_top.specs.Words.{IsRun, IsNoForm, usage_line}
+use Rattle.mind_inputs.specs.Refusal.{line_of}
+use Rattle.mind_inputs.specs.Inputs.{Ending, Missing, Refused, Judged, Ends, Accepts, Accepted, Judges}
+use Rattle.mind_inputs.specs.Loading.{FaultTold}
+use Rattle.mind_steps.specs.Run.{setup_of, Headline, Stands}
+use Rattle.mind_inputs.specs.declared.refusals.Refusal.{Refusal}
 use Rattle.mind_top.specs.declared.statuses.Status.{Status}
 use Rattle.mind_top.specs.declared.statuses.Status.TheVariants as status
 
@@ -24,7 +25,7 @@ Due holds words log status.Usage text = IsNoForm words × (log ≡ []) × (text 
 Due holds words log status.Malformed text =
     (paths : Paths) × IsRun words paths × (refusal : Refusal) × Judges holds paths (Ends (Refused refusal)) × (log ≡ []) × (text ≡ line_of refusal)
 Due holds words log status.Done text =
-    (paths : Paths) × IsRun words paths × (accepted : Accepted) × Judges holds paths (Accepts accepted) × Headline accepted log text
+    (paths : Paths) × IsRun words paths × (accepted : Accepted) × Judges holds paths (Accepts accepted) × Headline (setup_of accepted.plan accepted.images) accepted.events log text
 Due holds words log status.ReadFault text = ⊥
 Due holds words log status.WriteFault text = ⊥
 Due holds words log status.NoMemory text = ⊥
@@ -32,7 +33,7 @@ Due holds words log status.NoMemory text = ⊥
 -- where memory ran out, the labels before the last event of the log replay, if a run took place at all
 abbrev pub LogStands : Option Files → List (List ℕ) → List Note → Type 0
 LogStands holds words log = (log ≡ []) ⊎ ((paths : Paths) × IsRun words paths × (accepted : Accepted) × Judges holds paths (Accepts accepted)
-    × Stands (setup_of accepted) log)
+    × Stands (setup_of accepted.plan accepted.images) log)
 
 -- A call ends with its status: what is due was written; or the write failed, and a front of it stands
 -- there; or a read failed, or memory ran out, and nothing was written.
@@ -63,10 +64,10 @@ Says old new failed failed' text due result =
 
 -- how a run of accepted inputs ends
 abbrev pub Finishes : Accepted → List Note → ℕ → ℕ → Option (List ℕ) → Option (List ℕ) → Status → Type 0
-Finishes accepted log failed failed' old new status.Done = (text : List ℕ) × Headline accepted log text × Appends old new text
+Finishes accepted log failed failed' old new status.Done = (text : List ℕ) × Headline (setup_of accepted.plan accepted.images) accepted.events log text × Appends old new text
 Finishes accepted log failed failed' old new status.WriteFault =
-    Rises failed failed' × (text : List ℕ) × Headline accepted log text × AppendsFront old new text
-Finishes accepted log failed failed' old new status.NoMemory = Stands (setup_of accepted) log × (new ≡ old)
+    Rises failed failed' × (text : List ℕ) × Headline (setup_of accepted.plan accepted.images) accepted.events log text × AppendsFront old new text
+Finishes accepted log failed failed' old new status.NoMemory = Stands (setup_of accepted.plan accepted.images) log × (new ≡ old)
 Finishes accepted log failed failed' old new status.Usage = ⊥
 Finishes accepted log failed failed' old new status.Malformed = ⊥
 Finishes accepted log failed failed' old new status.ReadFault = ⊥
@@ -75,3 +76,8 @@ Finishes accepted log failed failed' old new status.ReadFault = ⊥
 abbrev pub Answers : Option Files → Paths → List Note → Counts → Counts → Option (List ℕ) → Option (List ℕ) → Status → Type 0
 Answers holds paths log before now old new result =
     (words : List (List ℕ)) → IsRun words paths → EndsWith holds words log before now old new result
+
+-- a refusal's line was written or its write failed, or there was no memory for the line
+abbrev pub Refuses : Option (List ℕ) → Option (List ℕ) → ℕ → ℕ → List ℕ → Status → Type 0
+Refuses old new failed failed' text result =
+    ((result ≡ status.NoMemory) × (new ≡ old)) ⊎ Says old new failed failed' text status.Malformed result

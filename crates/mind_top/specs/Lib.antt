@@ -1,13 +1,3 @@
 pub mod Code
 pub mod Ending
-pub mod Inputs
-pub mod Judged
-pub mod Loading
-pub mod Program
-pub mod Rack
-pub mod Refusal
-pub mod Report
-pub mod Run
-pub mod Running
-pub mod Schedule
 pub mod Words

@@ -1,10 +1,6 @@
 -- The words that the program is started with.
 use Rattle.std.specs.Prelude.{◌≡◌, ℕ, codes, List, [], ◌∷◌, ◌++◌}
-
--- the names of the files of a run
-pub record Paths : Type 0 where
-  pub rack : List ℕ
-  pub schedule : List ℕ
+use Rattle.mind_inputs.specs.Words.{Paths}
 
 -- the words are `run RACK SCHEDULE`
 abbrev pub IsRun : List (List ℕ) → Paths → Type 0

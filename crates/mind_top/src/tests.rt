@@ -1,8 +1,8 @@
 //! The program over files in memory.
-use crate::loading::load;
-use crate::running::machine_of;
 use crate::{Status, mind};
 use mind_base::{Log, MemSink, MemStore, Name, Note};
+use mind_inputs::load;
+use mind_steps::machine_of;
 use std::process::Abort;
 use std::test::Fail;
 use tso_machine::Replay;
@@ -16,7 +16,11 @@ struct Row {
     text: &'static str,
 }
 
-const RACK: &str = "[[image]]\nname = \"a.bin\"\nat = 0\n[[thread]]\ndomain = 0\nimage = 0\n";
+const RACK: &str =
+    "format = 1\nslots = 4\nprotect = 8\noutliers = 2\nregion = 0\nmost = 9\nthreshold = 0\n[[blade]]\nframes = 2\n[[blade]]\nframes = 2\n[[memory]]\nspare = 4\nhomes = [{ domain = 0, page = 0, pages = 16 }]\n[[memory]]\nspare = 4\nhomes = [{ domain = 0, page = 16, pages = 16 }]\n[[image]]\nname = \"a.bin\"\nat = 0\n[[thread]]\nblade = 0\ndomain = 0\nimage = 0\nqueue = 2\n[[map]]\ndomain = 0\npage = 1\npages = 2\nperm = \"rw\"\n";
+
+const TWO_THREADS: &str =
+    "format = 1\nslots = 4\nprotect = 8\noutliers = 2\nregion = 0\nmost = 9\nthreshold = 0\n[[blade]]\nframes = 2\n[[blade]]\nframes = 2\n[[memory]]\nspare = 4\nhomes = [{ domain = 0, page = 0, pages = 16 }]\n[[memory]]\nspare = 4\nhomes = [{ domain = 0, page = 16, pages = 16 }]\n[[image]]\nname = \"a.bin\"\nat = 0\n[[thread]]\nblade = 0\ndomain = 0\nimage = 0\nqueue = 2\n[[thread]]\nblade = 1\ndomain = 0\nimage = 0\nqueue = 2\n[[map]]\ndomain = 0\npage = 1\npages = 2\nperm = \"rw\"\n";
 
 const SIX_STEPS: &str = "step 0\nstep 0\nstep 0\nstep 0\nstep 0\nstep 0\n";
 
@@ -65,112 +69,72 @@ static RUNS: [Row; 7] = [
         status: Status::Done,
         text: "mind 1\nthread 0 fault fetch 00000004 at 00000004 out -\ncounts events 2 labels 2 takes 0 gives 0 downs 0 peak 0 splits 0 merges 0\n",
     },
-    // ecall with a7 = 0.
-    Row {
-        rack: RACK,
-        image: b"\x73\x00\x00\x00",
-        schedule: "step 0\n",
-        status: Status::Done,
-        text: "mind 1\nthread 0 fault call 00000000 at 00000000 out -\ncounts events 1 labels 1 takes 0 gives 0 downs 0 peak 0 splits 0 merges 0\n",
-    },
-    // ebreak.
+    // ebreak, among events that change nothing yet.
     Row {
         rack: RACK,
         image: b"\x73\x00\x10\x00",
-        schedule: "step 0\n",
+        schedule: "# a comment\r\ndrain 0\nstep 0\nevict 0 0 1\n\tdeliver u0 0x0\nlose d1a 3\nrepeat t0 0\nresend f1\nepoch",
         status: Status::Done,
-        text: "mind 1\nthread 0 fault break 00000000 at 00000000 out -\ncounts events 1 labels 1 takes 0 gives 0 downs 0 peak 0 splits 0 merges 0\n",
+        text: "mind 1\nthread 0 fault break 00000000 at 00000000 out -\ncounts events 8 labels 1 takes 0 gives 0 downs 0 peak 0 splits 0 merges 0\n",
+    },
+    // Two threads.
+    Row {
+        rack: TWO_THREADS,
+        image: b"\x93\x00\x10\x00",
+        schedule: "step 1\nstep 0\nstep 1\n",
+        status: Status::Done,
+        text: "mind 1\nthread 0 running 00000004 out -\nthread 1 fault fetch 00000004 at 00000004 out -\ncounts events 3 labels 3 takes 0 gives 0 downs 0 peak 0 splits 0 merges 0\n",
     },
 ];
 
-static REFUSALS: [Row; 18] = [
+static REFUSALS: [Row; 12] = [
     // No TOML; the rack is judged before all else.
     Row {
         rack: "format =",
         image: b"",
-        schedule: "step 1\n",
+        schedule: "step 64\n",
         status: Status::Malformed,
         text: "refused rack toml\n",
     },
-    // Nothing there.
+    // A blade without frames.
     Row {
-        rack: "",
+        rack: "format = 1\nslots = 4\nprotect = 8\noutliers = 2\nregion = 0\nmost = 9\nthreshold = 0\n[[blade]]\nframes = 0\n[[blade]]\nframes = 2\n[[memory]]\nspare = 4\nhomes = [{ domain = 0, page = 0, pages = 16 }]\n[[memory]]\nspare = 4\nhomes = [{ domain = 0, page = 16, pages = 16 }]\n[[image]]\nname = \"a.bin\"\nat = 0\n[[thread]]\nblade = 0\ndomain = 0\nimage = 0\nqueue = 2\n[[map]]\ndomain = 0\npage = 1\npages = 2\nperm = \"rw\"\n",
         image: PUTS_A,
         schedule: SIX_STEPS,
         status: Status::Malformed,
-        text: "refused rack early\n",
+        text: "refused rack limit blade.0.frames\n",
     },
-    // An odd place.
+    // Homes that meet.
     Row {
-        rack: "[[image]]\nname = \"a.bin\"\nat = 2\n[[thread]]\ndomain = 0\nimage = 0\n",
+        rack: "format = 1\nslots = 4\nprotect = 8\noutliers = 2\nregion = 0\nmost = 9\nthreshold = 0\n[[blade]]\nframes = 2\n[[blade]]\nframes = 2\n[[memory]]\nspare = 4\nhomes = [{ domain = 0, page = 0, pages = 16 }]\n[[memory]]\nspare = 4\nhomes = [{ domain = 0, page = 8, pages = 16 }]\n[[image]]\nname = \"a.bin\"\nat = 0\n[[thread]]\nblade = 0\ndomain = 0\nimage = 0\nqueue = 2\n[[map]]\ndomain = 0\npage = 1\npages = 2\nperm = \"rw\"\n",
         image: PUTS_A,
         schedule: SIX_STEPS,
         status: Status::Malformed,
-        text: "refused rack early\n",
+        text: "refused rack overlap memory.1.homes.0\n",
     },
-    // A name with a space.
+    // A key that is not known.
     Row {
-        rack: "[[image]]\nname = \"a b\"\nat = 0\n[[thread]]\ndomain = 0\nimage = 0\n",
+        rack: "color = 1\nformat = 1\nslots = 4\nprotect = 8\noutliers = 2\nregion = 0\nmost = 9\nthreshold = 0\n[[blade]]\nframes = 2\n[[blade]]\nframes = 2\n[[memory]]\nspare = 4\nhomes = [{ domain = 0, page = 0, pages = 16 }]\n[[memory]]\nspare = 4\nhomes = [{ domain = 0, page = 16, pages = 16 }]\n[[image]]\nname = \"a.bin\"\nat = 0\n[[thread]]\nblade = 0\ndomain = 0\nimage = 0\nqueue = 2\n[[map]]\ndomain = 0\npage = 1\npages = 2\nperm = \"rw\"\n",
         image: PUTS_A,
         schedule: SIX_STEPS,
         status: Status::Malformed,
-        text: "refused rack early\n",
+        text: "refused rack unknown top\n",
     },
-    // No such domain.
+    // That key is found before the blade.
     Row {
-        rack: "[[image]]\nname = \"a.bin\"\nat = 0\n[[thread]]\ndomain = 16\nimage = 0\n",
+        rack: "color = 1\nformat = 1\nslots = 4\nprotect = 8\noutliers = 2\nregion = 0\nmost = 9\nthreshold = 0\n[[blade]]\nframes = 0\n[[blade]]\nframes = 2\n[[memory]]\nspare = 4\nhomes = [{ domain = 0, page = 0, pages = 16 }]\n[[memory]]\nspare = 4\nhomes = [{ domain = 0, page = 16, pages = 16 }]\n[[image]]\nname = \"a.bin\"\nat = 0\n[[thread]]\nblade = 0\ndomain = 0\nimage = 0\nqueue = 2\n[[map]]\ndomain = 0\npage = 1\npages = 2\nperm = \"rw\"\n",
         image: PUTS_A,
         schedule: SIX_STEPS,
         status: Status::Malformed,
-        text: "refused rack early\n",
+        text: "refused rack unknown top\n",
     },
-    // No such image.
-    Row {
-        rack: "[[image]]\nname = \"a.bin\"\nat = 0\n[[thread]]\ndomain = 0\nimage = 1\n",
-        image: PUTS_A,
-        schedule: SIX_STEPS,
-        status: Status::Malformed,
-        text: "refused rack early\n",
-    },
-    // Two images.
-    Row {
-        rack: "[[image]]\nname = \"a.bin\"\nat = 0\n[[image]]\nname = \"a.bin\"\nat = 0\n[[thread]]\ndomain = 0\nimage = 0\n",
-        image: PUTS_A,
-        schedule: SIX_STEPS,
-        status: Status::Malformed,
-        text: "refused rack early\n",
-    },
-    // A place below 0.
-    Row {
-        rack: "[[image]]\nname = \"a.bin\"\nat = -4\n[[thread]]\ndomain = 0\nimage = 0\n",
-        image: PUTS_A,
-        schedule: SIX_STEPS,
-        status: Status::Malformed,
-        text: "refused rack early\n",
-    },
-    // No array of images.
-    Row {
-        rack: "image = 3\n[[thread]]\ndomain = 0\nimage = 0\n",
-        image: PUTS_A,
-        schedule: SIX_STEPS,
-        status: Status::Malformed,
-        text: "refused rack early\n",
-    },
-    // No whole word; the image is judged before the schedule.
+    // Six bytes; the image is judged before the schedule.
     Row {
         rack: RACK,
-        image: b"\x13\x05\x10",
-        schedule: "step 1\n",
+        image: b"\x13\x05\x10\x04\x13\x05",
+        schedule: "step 64\n",
         status: Status::Malformed,
-        text: "refused image early 0\n",
-    },
-    // No word.
-    Row {
-        rack: RACK,
-        image: b"",
-        schedule: SIX_STEPS,
-        status: Status::Malformed,
-        text: "refused image early 0\n",
+        text: "refused image length 0\n",
     },
     // lw x10,0(x5).
     Row {
@@ -196,35 +160,27 @@ static REFUSALS: [Row; 18] = [
         status: Status::Malformed,
         text: "refused image early 0\n",
     },
-    // Another thread.
+    // No such thread.
     Row {
         rack: RACK,
         image: PUTS_A,
-        schedule: "step 1\n",
+        schedule: "step 64\n",
+        status: Status::Malformed,
+        text: "refused schedule range 1\n",
+    },
+    // An event that is not there yet.
+    Row {
+        rack: RACK,
+        image: PUTS_A,
+        schedule: "settle\n",
         status: Status::Malformed,
         text: "refused schedule early\n",
     },
-    // No line end.
+    // A command, which is not there yet.
     Row {
         rack: RACK,
         image: PUTS_A,
-        schedule: "step 0",
-        status: Status::Malformed,
-        text: "refused schedule early\n",
-    },
-    // An empty line.
-    Row {
-        rack: RACK,
-        image: PUTS_A,
-        schedule: "step 0\n\n",
-        status: Status::Malformed,
-        text: "refused schedule early\n",
-    },
-    // Another event.
-    Row {
-        rack: RACK,
-        image: PUTS_A,
-        schedule: "drain 0\n",
+        schedule: "step 0\nmap 0 3 1 rw\n",
         status: Status::Malformed,
         text: "refused schedule early\n",
     },
@@ -373,7 +329,7 @@ fn an_input_past_its_limit(rt: HostRuntime) -> Result<(), Fail> {
         &mut store,
         4096,
         Status::Malformed,
-        "refused rack early\n",
+        "refused rack long\n",
     )?;
     Ok(())
 }
@@ -400,7 +356,7 @@ fn a_log_replays_up_to_what_is_not_enabled(rt: HostRuntime) -> Result<(), Fail> 
     let loaded = load(rt.alloc(), &mut store, "r.toml", "s.txt")
         .ok()
         .ok_or("refused")?;
-    let mut machine = machine_of(rt.alloc(), &loaded)?;
+    let mut machine = machine_of(rt.alloc(), &loaded.plan, loaded.images.as_slice())?;
     let mut log = Log::new(rt.alloc());
     log.add(Note::Exec { hart: 0 })?;
     assert!(rt; machine.replay(&log)? == Replay::Whole);

@@ -1,17 +1,19 @@
-ghost use Rattle.std.specs.Prelude.{◌≡◌, ◌≤◌, ◌⊎◌, ℕ, List, [], true, map, string_bytes, IfSome};
+ghost use Rattle.std.specs.Prelude.{◌≡◌, ◌≤◌, ◌⊎◌, ℕ, List, [], length, map, string_bytes, IfSome};
 ghost use Rattle.mind_base.specs.Store.{Rises};
 ghost use Rattle.mind_base.specs.Sink.{Appends};
-ghost use Rattle.mind_top.specs.Words.{Paths, IsRun, IsNoForm};
-ghost use Rattle.mind_top.specs.Program.{is_program};
-ghost use Rattle.mind_top.specs.Inputs.{Accepted, Judges, Accepts, judge};
-ghost use Rattle.mind_top.specs.Run.{Headline};
-ghost use Rattle.mind_top.specs.Ending.{Answers, Counts, EndsWith, Finishes, Says, status_of};
+ghost use Rattle.mind_base.specs.Fit.{IsFit, FitImages};
+ghost use Rattle.mind_inputs.specs.Words.{Paths};
+ghost use Rattle.mind_inputs.specs.Refusal.{line_of};
+ghost use Rattle.mind_inputs.specs.Inputs.{Accepted, Judges, Accepts, judge};
+ghost use Rattle.mind_steps.specs.Run.{setup_of, Headline};
+ghost use Rattle.mind_top.specs.Words.{IsRun, IsNoForm};
+ghost use Rattle.mind_top.specs.Ending.{Answers, Counts, EndsWith, Finishes, Refuses, Says, status_of};
 
-use crate::loading::load;
-use crate::running::run;
+use crate::Status;
 use crate::words::paths_of;
-use crate::{Loaded, Refusal, Status, Stopped};
 use mind_base::{Log, NoMemory, Sink, Store};
+use mind_inputs::{Loaded, Refusal, Stopped, load};
+use mind_steps::run;
 use std::alloc::Global;
 
 const USAGE_LINE: &[u8; 30] = b"usage: mind run RACK SCHEDULE\n";
@@ -26,14 +28,31 @@ fn say<K: Sink>(sink: &mut K, text: &[u8], due: Status) -> Status
     }
 }
 
+/// Writes why an input is refused.
+fn refuse<K: Sink>(alloc: Global, refusal: &Refusal, sink: &mut K) -> Status
+    ensures { Refuses (K.written sink.old) (K.written sink.new) (K.faults sink.old) (K.faults sink.new) (line_of refusal.now) result }
+{
+    match refusal.line(alloc) {
+        Ok(line) => say(sink, line.as_slice(), Status::Malformed),
+        Err(NoMemory) => Status::NoMemory,
+    }
+}
+
 /// Runs accepted inputs and writes the report.
 fn finish<K: Sink>(alloc: Global, loaded: &Loaded, sink: &mut K, log: &mut Log) -> Status
-    requires program { is_program loaded.now.rack.at loaded.now.image ≡ true }
-    requires few { loaded.now.steps ≤ 4194304 }
+    requires fit { IsFit loaded.now.plan }
+    requires images { FitImages loaded.now.plan.images loaded.now.images }
+    requires few { length loaded.now.events ≤ 1000000 }
     requires empty { log.old.notes ≡ [] }
     ensures { Finishes loaded.now log.new.notes (K.faults sink.old) (K.faults sink.new) (K.written sink.old) (K.written sink.new) result }
 {
-    match run(alloc, loaded, log) {
+    match run(
+        alloc,
+        &loaded.plan,
+        loaded.images.as_slice(),
+        loaded.events.as_slice(),
+        log,
+    ) {
         Ok(text) => say(sink, text.as_slice(), Status::Done),
         Err(NoMemory) => Status::NoMemory,
     }
@@ -56,7 +75,7 @@ fn answer<S: Store, K: Sink>(
 {
     match load(alloc, store, rack, schedule) {
         Ok(loaded) => finish(alloc, &loaded, sink, log),
-        Err(Stopped::Refused { refusal }) => say(sink, refusal.line(), Status::Malformed),
+        Err(Stopped::Refused { refusal }) => refuse(alloc, &refusal, sink),
         Err(Stopped::ReadFault) => Status::ReadFault,
         Err(Stopped::NoMemory) => Status::NoMemory,
     }
@@ -104,7 +123,7 @@ pub fn mind<S: Store, K: Sink>(
     // The report is that of a run of the machine, the run being the labels of the log.
     ensures headline { result ≡ Status.Done → (paths : Paths) × (accepted : Accepted) × (text : List ℕ)
         × IsRun (map string_bytes words.now) paths × Judges (S.holds store.old) paths (Accepts accepted)
-        × Headline accepted log.new.notes text × Appends (K.written sink.old) (K.written sink.new) text }
+        × Headline (setup_of accepted.plan accepted.images) accepted.events log.new.notes text × Appends (K.written sink.old) (K.written sink.new) text }
 
     // Words of no form, and no others, call for the usage line.
     ensures usage { result ≡ Status.Usage → IsNoForm (map string_bytes words.now) }

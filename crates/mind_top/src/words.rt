@@ -1,5 +1,6 @@
 ghost use Rattle.std.specs.Prelude.{◌≡◌, ◌↔◌, codes, map, string_bytes, IsTrue, MatchOption};
-ghost use Rattle.mind_top.specs.Words.{Paths, IsRun, IsNoForm};
+ghost use Rattle.mind_inputs.specs.Words.{Paths};
+ghost use Rattle.mind_top.specs.Words.{IsRun, IsNoForm};
 
 fn is_run_word(word: &str) -> bool
     ensures { IsTrue result ↔ (word.now ≡ codes "run") }

@@ -1,7 +1,6 @@
-use Rattle.std.proofs.Common.{◌∙◌, ap}
-use Rattle.mind_top.specs.Refusal.{line_of}
-use Rattle.mind_top.specs.declared.statuses.Status.TheVariants as status
-use Rattle.mind_top.proofs.Ends.{said, finished}
+use Rattle.std.proofs.Common.{refl}
+use Rattle.mind_inputs.specs.Refusal.{line_of}
+use Rattle.mind_top.proofs.Ends.{refused, finished}
 use Rattle.mind_top.proofs.top.answer.Goals as goal
 
 pub returns-in-Ok : goal.returns-in-Ok
@@ -10,12 +9,6 @@ returns-in-Ok g c words is_run =
 
 pub returns-in-Err-Refused : goal.returns-in-Err-Refused
 returns-in-Err-Refused g c words is_run =
-    said (g.S.Store.holds c.args.store.now) words c.args.log.now.notes _ _ _ _ c.line.result.now status.Malformed c.say.result (
-      _,
-      is_run,
-      c.in-Err-Refused.refusal,
-      rw c.in-Err-Refused.field-0-is at c.in-Err-Refused.ensures.loads,
-      c.requires,
-      c.line.ensures ∙ ap line_of c.in-Err-Refused.refusal-is,
-    )
-    c.say.ensures
+    refused (g.S.Store.holds c.args.store.now) words c.args.log.now.notes _ _ _ _ (line_of c.in-Err-Refused.refusal) c.refuse.result c.requires
+    (_, is_run, c.in-Err-Refused.refusal, rw c.in-Err-Refused.field-0-is at c.in-Err-Refused.ensures.loads, c.requires, refl)
+    c.refuse.ensures

@@ -1,0 +1,12 @@
+-- How what the code answers meets how an input is judged.
+use Rattle.std.specs.Prelude.{◌≡◌, Result, Ok, Err}
+use Rattle.mind_inputs.specs.Inputs.{Ending, Refused}
+use Rattle.mind_inputs.specs.declared.stopped.Stopped.{Stopped}
+use Rattle.mind_inputs.specs.declared.stopped.Stopped.TheVariants as stopped
+
+-- Code that was given the bytes answers as they are judged, unless memory ran out.
+abbrev pub Gives : {X : Type 0} → Result X Stopped → Result X Ending → Type 0
+Gives (Ok x) judged = judged ≡ Ok x
+Gives (Err (stopped.Refused refusal)) judged = judged ≡ Err (Refused refusal)
+Gives (Err stopped.ReadFault) judged = ⊥
+Gives (Err stopped.NoMemory) judged = Unit {0}

@@ -1,0 +1,59 @@
+-- The lines that say why an input is refused.
+use Rattle.std.specs.Prelude.{ℕ, codes, false, List, [], ◌∷◌, ◌++◌, length, ◌==◌, if◌then◌else◌}
+use Rattle.std.specs.Fmt.{digits}
+use Rattle.rack_file.specs.declared.refusals.RackFault.{RackFault}
+use Rattle.rack_file.specs.declared.refusals.RackFault.TheVariants as rack
+use Rattle.schedule_text.specs.declared.faults.LineFault.{LineFault}
+use Rattle.schedule_text.specs.declared.faults.LineFault.TheVariants as schedule
+use Rattle.mind_inputs.specs.declared.refusals.Refusal.{Refusal}
+use Rattle.mind_inputs.specs.declared.refusals.Refusal.TheVariants.{RackRefused, RackLong, ImageLength, ImageEnd, ImageLong, ImageEarly, ScheduleRefused, ScheduleLong, ScheduleEarly}
+
+abbrev pub decimal : ℕ → List ℕ
+decimal n = digits 10 false n
+
+abbrev pub rack_word : RackFault → List ℕ
+rack_word rack.Toml = codes "toml"
+rack_word rack.Missing = codes "missing"
+rack_word rack.Kind = codes "kind"
+rack_word rack.Limit = codes "limit"
+rack_word rack.Unknown = codes "unknown"
+rack_word rack.Overlap = codes "overlap"
+rack_word rack.Unplaced = codes "unplaced"
+rack_word rack.Slots = codes "slots"
+
+abbrev pub schedule_word : LineFault → List ℕ
+schedule_word schedule.Text = codes "text"
+schedule_word schedule.Word = codes "word"
+schedule_word schedule.Count = codes "count"
+schedule_word schedule.Number = codes "number"
+schedule_word schedule.Range = codes "range"
+schedule_word schedule.Wire = codes "wire"
+schedule_word schedule.Perm = codes "perm"
+schedule_word schedule.Events = codes "events"
+
+-- the path in a rack file, where there is one
+abbrev pub path_text : List ℕ → List ℕ
+path_text path = if length path == 0 then [] else codes " " ++ path
+
+abbrev pub rack_text : RackFault → List ℕ → List ℕ
+rack_text what path = codes "refused rack " ++ rack_word what ++ path_text path
+
+abbrev pub image_text : List ℕ → ℕ → List ℕ
+image_text word number = codes "refused image " ++ word ++ codes " " ++ decimal number
+
+abbrev pub schedule_text : ℕ → LineFault → List ℕ
+schedule_text line what = codes "refused schedule " ++ schedule_word what ++ codes " " ++ decimal line
+
+abbrev pub reason_of : Refusal → List ℕ
+reason_of (RackRefused what path) = rack_text what path
+reason_of RackLong = codes "refused rack long"
+reason_of (ImageLength number) = image_text (codes "length") number
+reason_of (ImageEnd number) = image_text (codes "end") number
+reason_of (ImageLong number) = image_text (codes "long") number
+reason_of (ImageEarly number) = image_text (codes "early") number
+reason_of (ScheduleRefused line what) = schedule_text line what
+reason_of ScheduleLong = codes "refused schedule long"
+reason_of ScheduleEarly = codes "refused schedule early"
+
+abbrev pub line_of : Refusal → List ℕ
+line_of refusal = reason_of refusal ++ 10 ∷ []

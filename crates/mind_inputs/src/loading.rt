@@ -1,0 +1,246 @@
+ghost use Rattle.std.specs.Prelude.{◌≡◌, ◌≤◌, ◌<◌, [], length, IfOk};
+ghost use Rattle.std.specs.List.{AllByRecursion, list_all};
+ghost use Rattle.mind_base.specs.Fit.{IsFit, FitsImage, FitImages};
+ghost use Rattle.mind_inputs.specs.Inputs.{Judges, JudgesOne, JudgesImages, Bytes, rack_judged, image_judged, schedule_judged, is_built, IsBuilt};
+ghost use Rattle.mind_inputs.specs.Judged.{Gives};
+ghost use Rattle.mind_inputs.specs.Loading.{Loads, Brings, stopped_of};
+
+use crate::{Loaded, Refusal, Stopped, accesses_no_memory};
+use mind_base::{Event, Image, ImagePlan, RackPlan, ReadError, Sequence, Store};
+use rack_file::{ImageFault, RackRefusal, image_of, rack_of};
+use schedule_text::{LineRefusal, schedule_of};
+use std::alloc::Global;
+
+/// The greatest length of a rack file, in bytes.
+const RACK_BYTES: u64 = 65536;
+
+/// The greatest length of an image, in bytes.
+const IMAGE_BYTES: u64 = 65536;
+
+/// The greatest length of a schedule, in bytes.
+const SCHEDULE_BYTES: u64 = 4194304;
+
+/// What a failed read makes of the run; `long` refuses an input with too many bytes.
+fn stopped_by(error: ReadError, long: Refusal) -> Stopped
+    ensures { result ≡ stopped_of error long }
+{
+    match error {
+        ReadError::Failed => Stopped::ReadFault,
+        ReadError::TooLong { .. } => Stopped::Refused { refusal: long },
+        ReadError::NoMemory => Stopped::NoMemory,
+    }
+}
+
+// ---- one input, of its bytes
+
+fn plan_from(alloc: Global, bytes: &[u8]) -> Result<RackPlan, Stopped>
+    ensures judged { Gives result (rack_judged (Bytes bytes.now)) }
+    ensures fit { IfOk result (λ plan. IsFit plan) }
+{
+    match rack_of(alloc, bytes) {
+        Ok(plan) => Ok(plan),
+        Err(RackRefusal::Refused { what, path }) => Err(Stopped::Refused {
+            refusal: Refusal::RackRefused { what, path },
+        }),
+        Err(RackRefusal::NoMemory) => Err(Stopped::NoMemory),
+    }
+}
+
+fn image_from(number: u8, plan: &ImagePlan, bytes: Vec<u8>) -> Result<Image, Stopped>
+    ensures judged { Gives result (image_judged number plan.now (Bytes bytes.items)) }
+    ensures fits { IfOk result (λ image. FitsImage plan.now image) }
+{
+    match image_of(plan, bytes) {
+        Ok(image) => if accesses_no_memory(image.bytes.as_slice()) {
+            Ok(image)
+        } else {
+            Err(Stopped::Refused {
+                refusal: Refusal::ImageEarly { number },
+            })
+        },
+        Err(ImageFault::Length) => Err(Stopped::Refused {
+            refusal: Refusal::ImageLength { number },
+        }),
+        Err(ImageFault::End) => Err(Stopped::Refused {
+            refusal: Refusal::ImageEnd { number },
+        }),
+    }
+}
+
+fn is_built_kind(event: Event) -> bool
+    ensures { result ≡ is_built event }
+{
+    match event {
+        Event::Step { .. }
+        | Event::Drain { .. }
+        | Event::Evict { .. }
+        | Event::Deliver { .. }
+        | Event::Lose { .. }
+        | Event::Repeat { .. }
+        | Event::Resend { .. }
+        | Event::Epoch => true,
+        Event::Ask { .. } | Event::Settle => false,
+    }
+}
+
+fn all_built(events: &[Event]) -> bool
+    ensures { result ≡ list_all is_built events.now }
+{
+    events.iter().all(|event| is_built_kind(*event))
+}
+
+fn events_from(alloc: Global, bytes: &[u8], plan: &RackPlan) -> Result<Sequence<Event>, Stopped>
+    requires fit { IsFit plan.now }
+    requires short { length bytes.now ≤ 4194304 }
+    ensures judged { Gives result (schedule_judged plan.now (Bytes bytes.now)) }
+    ensures few { IfOk result (λ events. length events ≤ 1000000) }
+    ensures built { IfOk result (λ events. AllByRecursion IsBuilt events) }
+{
+    match schedule_of(alloc, bytes, plan) {
+        Ok(events) => if all_built(events.as_slice()) {
+            Ok(Sequence::from_vec(events))
+        } else {
+            Err(Stopped::Refused {
+                refusal: Refusal::ScheduleEarly,
+            })
+        },
+        Err(LineRefusal::Refused { line, what }) => Err(Stopped::Refused {
+            refusal: Refusal::ScheduleRefused { line, what },
+        }),
+        Err(LineRefusal::NoMemory) => Err(Stopped::NoMemory),
+    }
+}
+
+// ---- reading and judging
+
+fn read_rack<S: Store>(alloc: Global, store: &mut S, name: &str) -> Result<RackPlan, Stopped>
+    ensures keeps { S.holds store.new ≡ S.holds store.old }
+    ensures faults { S.faults store.old ≤ S.faults store.new }
+    ensures missed { S.missed store.old ≤ S.missed store.new }
+    ensures brings { Brings (S.holds store.old) (JudgesOne (S.holds store.old) name.now 65536 rack_judged)
+        (S.faults store.old) (S.faults store.new) (S.missed store.old) (S.missed store.new) result }
+    ensures fit { IfOk result (λ plan. IsFit plan) }
+{
+    match store.read_all(alloc, name, RACK_BYTES) {
+        Ok(bytes) => plan_from(alloc, bytes.as_slice()),
+        Err(error) => Err(stopped_by(error, Refusal::RackLong)),
+    }
+}
+
+fn read_image<S: Store>(
+    alloc: Global,
+    store: &mut S,
+    number: u8,
+    plan: &ImagePlan,
+) -> Result<Image, Stopped>
+    ensures keeps { S.holds store.new ≡ S.holds store.old }
+    ensures faults { S.faults store.old ≤ S.faults store.new }
+    ensures missed { S.missed store.old ≤ S.missed store.new }
+    ensures brings { Brings (S.holds store.old) (JudgesOne (S.holds store.old) plan.now.name 65536 (image_judged number plan.now))
+        (S.faults store.old) (S.faults store.new) (S.missed store.old) (S.missed store.new) result }
+    ensures fits { IfOk result (λ image. FitsImage plan.now image) }
+{
+    match store.read_all(alloc, plan.name.as_str(), IMAGE_BYTES) {
+        Ok(bytes) => image_from(number, plan, bytes),
+        Err(error) => Err(stopped_by(error, Refusal::ImageLong { number })),
+    }
+}
+
+fn number_of(count: usize) -> u8
+    requires { count < 256 }
+    ensures { result ≡ count }
+{
+    count as u8
+}
+
+/// Reads and judges the images of these plans, one after another.
+fn read_images<S: Store>(
+    alloc: Global,
+    store: &mut S,
+    plans: &[ImagePlan],
+) -> Result<Sequence<Image>, Stopped>
+    requires { length plans.now ≤ 16 }
+    ensures keeps { S.holds store.new ≡ S.holds store.old }
+    ensures faults { S.faults store.old ≤ S.faults store.new }
+    ensures missed { S.missed store.old ≤ S.missed store.new }
+    ensures brings { Brings (S.holds store.old) (JudgesImages (S.holds store.old) [] plans.now)
+        (S.faults store.old) (S.faults store.new) (S.missed store.old) (S.missed store.new) result }
+    ensures fit { IfOk result (λ images. FitImages plans.now images) }
+{
+    let mut images = Sequence::new(alloc);
+    let mut left = plans;
+    while let [plan, rest @ ..] = left {
+        match read_image(alloc, store, number_of(images.len()), plan) {
+            Ok(image) => match images.push(image) {
+                Ok(()) => {}
+                Err(_) => return Err(Stopped::NoMemory),
+            },
+            Err(stopped) => return Err(stopped),
+        }
+        left = rest;
+    }
+    Ok(images)
+}
+
+fn read_schedule<S: Store>(
+    alloc: Global,
+    store: &mut S,
+    name: &str,
+    plan: &RackPlan,
+) -> Result<Sequence<Event>, Stopped>
+    requires { IsFit plan.now }
+    ensures keeps { S.holds store.new ≡ S.holds store.old }
+    ensures faults { S.faults store.old ≤ S.faults store.new }
+    ensures missed { S.missed store.old ≤ S.missed store.new }
+    ensures brings { Brings (S.holds store.old) (JudgesOne (S.holds store.old) name.now 4194304 (schedule_judged plan.now))
+        (S.faults store.old) (S.faults store.new) (S.missed store.old) (S.missed store.new) result }
+    ensures few { IfOk result (λ events. length events ≤ 1000000) }
+    ensures built { IfOk result (λ events. AllByRecursion IsBuilt events) }
+{
+    match store.read_all(alloc, name, SCHEDULE_BYTES) {
+        Ok(bytes) => events_from(alloc, bytes.as_slice(), plan),
+        Err(error) => Err(stopped_by(error, Refusal::ScheduleLong)),
+    }
+}
+
+/// Reads and judges the rack of this name, then its images in their order, then the schedule. The
+/// first that is not held or is refused decides, and nothing is read behind it.
+pub fn load<S: Store>(
+    alloc: Global,
+    store: &mut S,
+    rack: &str,
+    schedule: &str,
+) -> Result<Loaded, Stopped>
+    // The store holds what it held, and its counts never fall.
+    ensures keeps { S.holds store.new ≡ S.holds store.old }
+    ensures faults { S.faults store.old ≤ S.faults store.new }
+    ensures missed { S.missed store.old ≤ S.missed store.new }
+
+    // The inputs are accepted or refused exactly as they are judged.
+    ensures loads { Loads (S.holds store.old) (Judges (S.holds store.old) (record { rack = rack.now; schedule = schedule.now }))
+        (S.faults store.old) (S.faults store.new) (S.missed store.old) (S.missed store.new) result }
+
+    // What is accepted: a fit rack, its images, and events that are built.
+    ensures fit { IfOk result (λ loaded. IsFit loaded.plan) }
+    ensures images { IfOk result (λ loaded. FitImages loaded.plan.images loaded.images) }
+    ensures few { IfOk result (λ loaded. length loaded.events ≤ 1000000) }
+    ensures built { IfOk result (λ loaded. AllByRecursion IsBuilt loaded.events) }
+{
+    let plan = match read_rack(alloc, store, rack) {
+        Ok(plan) => plan,
+        Err(stopped) => return Err(stopped),
+    };
+    let images = match read_images(alloc, store, plan.images.as_slice()) {
+        Ok(images) => images,
+        Err(stopped) => return Err(stopped),
+    };
+    let events = match read_schedule(alloc, store, schedule, &plan) {
+        Ok(events) => events,
+        Err(stopped) => return Err(stopped),
+    };
+    Ok(Loaded {
+        plan,
+        images,
+        events,
+    })
+}

@@ -1,8 +1,0 @@
-use Rattle.std.proofs.Common.{take}
-use Rattle.mind_top.specs.Report.{thread_lines}
-use Rattle.mind_top.proofs.Counts.{line-more, grown}
-use Rattle.mind_top.proofs.running.put_threads.Goals as goal
-
-pub loop-hart-preserved : goal.loop-hart-preserved
-loop-hart-preserved c = grown c.args.out.now.items c.loop-hart.out.items _ (thread_lines (take c.loop-hart.hart c.args.machine.now.threads)) _ _
-    c.in_ok-put_thread.ensures c.loop-hart.invariant (line-more c.args.machine.now.threads c.loop-hart.hart _ _ c.end.ensures c.output.ensures)
