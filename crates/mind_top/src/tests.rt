@@ -5,7 +5,7 @@ use mind_inputs::load;
 use mind_steps::machine_of;
 use std::process::Abort;
 use std::test::Fail;
-use tso_machine::Replay;
+use tso_machine::{Machine, Replay};
 
 /// The files of a run, and how it ends.
 struct Row {
@@ -350,17 +350,31 @@ fn the_log_of_a_run(rt: HostRuntime) -> Result<(), Fail> {
 const ONE_STEP: &str =
     "mind 1\nthread 0 running 00000004 out -\ncounts events 1 labels 1 takes 0 gives 0 downs 0 peak 0 splits 0 merges 0\n";
 
-#[test]
-fn a_log_replays_up_to_what_is_not_enabled(rt: HostRuntime) -> Result<(), Fail> {
-    let mut store = MemStore::new(files_of(&rt, RACK, PUTS_A, "")?, Vec::new(rt.alloc()));
+fn machine_at_its_start<R: AllocGlobal>(rt: &R) -> Result<Machine, Fail> {
+    let mut store = MemStore::new(files_of(rt, RACK, PUTS_A, "")?, Vec::new(rt.alloc()));
     let loaded = load(rt.alloc(), &mut store, "r.toml", "s.txt")
         .ok()
         .ok_or("refused")?;
-    let mut machine = machine_of(rt.alloc(), &loaded.plan, loaded.images.as_slice())?;
+    let machine = machine_of(rt.alloc(), &loaded.plan, loaded.images.as_slice())?;
+    Ok(machine)
+}
+
+fn replays<R: Abort + AllocGlobal>(rt: &R, notes: &[Note], ended: Replay) -> Result<(), Fail> {
+    let mut machine = machine_at_its_start(rt)?;
     let mut log = Log::new(rt.alloc());
-    log.add(Note::Exec { hart: 0 })?;
-    assert!(rt; machine.replay(&log)? == Replay::Whole);
-    log.add(Note::Drain { hart: 0 })?;
-    assert!(rt; machine.replay(&log)? == Replay::Stuck { label: 1 });
+    for note in notes {
+        log.add(*note)?;
+    }
+    assert!(rt; machine.replay(&log)? == ended);
     Ok(())
+}
+
+#[test]
+fn a_log_replays_up_to_what_is_not_enabled(rt: HostRuntime) -> Result<(), Fail> {
+    replays(&rt, &[Note::Exec { hart: 0 }], Replay::Whole)?;
+    replays(
+        &rt,
+        &[Note::Exec { hart: 0 }, Note::Drain { hart: 0 }],
+        Replay::Stuck { label: 1 },
+    )
 }
