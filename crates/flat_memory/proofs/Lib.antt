@@ -1,0 +1,3 @@
+mod AllDomains
+mod Pages
+mod Stores
