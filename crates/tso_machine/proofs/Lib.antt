@@ -1,2 +1,21 @@
+pub mod Laws
+mod LawsCommands
+mod LawsDeeds
+mod LawsExecuted
+pub mod LawsFences
+mod LawsLists
+pub mod LawsOrder
+pub mod LawsOwnStores
+mod LawsRuns
+mod LawsSeen
+pub mod LawsSources
+mod LawsSteps
 pub mod Runs
+pub mod Starts
+pub mod Carrying
+pub mod Commanding
+pub mod Marking
+pub mod Samples
 pub mod Threads
+pub mod Waiting
+pub mod Writing

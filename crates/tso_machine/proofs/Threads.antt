@@ -1,45 +1,81 @@
--- One thread of a list does something, and the others stay.
-use Rattle.std.proofs.Common.{◌≡◌, ℕ, ◌∙◌, ap, sym, refl, subst, Bool, List, ◌<◌, length, get_or, Option, Some, None}
-use Rattle.std.specs.List.{slice_get, slice_set}
-use Rattle.std.specs.Option.{option_and_then, option_map}
-use Rattle.std.proofs.lemmas.List.{set-get_or, length-set}
-use Rattle.std.proofs.lemmas.Option.{slice_get_read, same_Some, option_and_then_some}
+-- No thread comes or goes.
+use Rattle.std.proofs.Common.{◌≡◌, ℕ, suc, ◌∙◌, ap, sym, refl, List, [], ◌∷◌, length, Option, Some, None, Bool, true, false, ◌==◌, if◌then◌else◌}
+use Rattle.std.specs.List.{slice_get}
+use Rattle.std.specs.Option.{option_map, option_and_then}
+use Rattle.std.proofs.lemmas.List.{length-set, length-map}
+use Rattle.std.proofs.lemmas.Option.{same_Some, option_and_then_some}
+use Rattle.mind_base.specs.declared.commands.Command.{Command}
+use Rattle.mind_base.specs.declared.commands.Command.TheVariants.{Map, Unmap, Protect, Migrate}
+use Rattle.mind_base.specs.declared.commands.Outcome.{Outcome}
 use Rattle.tso_machine.specs.State.{Setup, State, Thread}
-use Rattle.tso_machine.specs.Step.{executed, with_thread, threads_after, after}
+use Rattle.tso_machine.specs.Commands.{next_command, is_held_up, thread_outside, threads_after, taken_as, outcome_in_state, taken_unless_held_up}
+use Rattle.tso_machine.specs.Deed.{Deed, Alone, Storing, executed, drained}
+use Rattle.tso_machine.specs.Place.{place_of, granule_at}
+use Rattle.tso_machine.specs.Step.{done_by, around_in, thread_off, after}
+use Rattle.tso_machine.specs.Replay.{Replayed, Whole, Stuck, advanced, advance, advance_all, replay}
+use Rattle.tso_machine.specs.declared.labels.Label.{Label}
 use Rattle.tso_machine.specs.declared.labels.Label.TheVariants as label
-use Rattle.tso_machine.specs.Machine.{Becomes, BecomeAll}
 
-pub become-at : (threads : List Thread) (hart : ℕ) (old new : Thread) (done : Bool) (o : Option Thread)
-    → get_or threads hart old ≡ old → Becomes done old new o → BecomeAll done threads (slice_set threads hart new) (with_thread threads hart o)
-become-at threads hart old new done None is b =
-    (b.0, ap (λ t. slice_set threads hart t) (b.1 ∙ sym is) ∙ set-get_or threads hart old)
-become-at threads hart old new done (Some thread) is b = (b.0, ap (λ t. slice_set threads hart t) b.1)
+done_by-length : (hart domain : ℕ) (s : State) (deed : Deed) → length (done_by hart domain s deed).threads ≡ length s.threads
+done_by-length hart domain s (Alone thread) = length-set s.threads hart thread
+done_by-length hart domain s (Storing thread store) = length-map _ (thread_off (granule_at (place_of domain store.address))) ∙ length-set s.threads hart thread
 
--- the same for what a thread that is there may do
-pub become-found : (f : Thread → Option Thread) (threads : List Thread) (i hart : ℕ) (old new : Thread) (done : Bool)
-    → i ≡ hart → i < length threads → old ≡ get_or threads i old → Becomes done old new (f old)
-    → BecomeAll done threads (slice_set threads i new) (option_and_then (λ thread. with_thread threads hart (f thread)) (slice_get threads hart))
-become-found f threads i hart old new done at within is b =
-    let P : ℕ → Type 0 = λ h. BecomeAll done threads (slice_set threads i new) (option_and_then (λ thread. with_thread threads h (f thread)) (slice_get threads h)) in
-    let Q : Option Thread → Type 0 = λ o. BecomeAll done threads (slice_set threads i new) (option_and_then (λ thread. with_thread threads i (f thread)) o) in
-    subst P at (subst Q (sym (slice_get_read threads (length threads) i old refl within is)) (become-at threads i old new done (f old) (sym is) b))
+deed-length : (hart domain : ℕ) (s t : State) (o : Option Deed) → option_map (done_by hart domain s) o ≡ Some t → length t.threads ≡ length s.threads
+deed-length hart domain s t None e = absurd (cc)
+deed-length hart domain s t (Some deed) e = ap (λ x. length x.threads) (sym (same_Some _ _ e)) ∙ done_by-length hart domain s deed
 
--- no thread comes or goes
-with_thread-length : (threads new : List Thread) (hart : ℕ) (o : Option Thread) → with_thread threads hart o ≡ Some new → length new ≡ length threads
-with_thread-length threads new hart None e = absurd (cc)
-with_thread-length threads new hart (Some thread) e = ap length (sym (same_Some _ _ e)) ∙ length-set threads hart thread
+threads_after-length : (command : Command) (threads : List Thread) → length (threads_after command threads) ≡ length threads
+threads_after-length (Map span perm) threads = length-map threads (thread_outside span)
+threads_after-length (Unmap span) threads = length-map threads (thread_outside span)
+threads_after-length (Protect span perm) threads = refl
+threads_after-length (Migrate range memory) threads = refl
 
-pub threads_after-length : (setup : Setup) (threads new : List Thread) (hart : ℕ) → threads_after setup threads hart ≡ Some new → length new ≡ length threads
-threads_after-length setup threads new hart e =
-    option_and_then_some _ (slice_get setup.plan.threads hart) new e (λ plan f g.
-    option_and_then_some _ (slice_get setup.images plan.image) new g (λ image h i.
-    option_and_then_some _ (slice_get threads hart) new i (λ thread j k.
-    with_thread-length threads new hart (executed image hart thread) k)))
+taken-length : (s t : State) (index : ℕ) (command : Command) (outcome : Outcome) (waits : Bool)
+    → (if waits then None else Some (taken_as command index outcome s)) ≡ Some t → length t.threads ≡ length s.threads
+taken-length s t index command outcome true e = absurd (let no : None ≡ Some t = e in cc)
+taken-length s t index command outcome false e = ap (λ x. length x.threads) (sym (same_Some _ _ e)) ∙ threads_after-length command s.threads
 
-exec-length : (s t : State) (o : Option (List Thread)) → ((new : List Thread) → o ≡ Some new → length new ≡ length s.threads)
-    → option_map (λ threads. record s { threads = threads }) o ≡ Some t → length t.threads ≡ length s.threads
-exec-length s t None same e = absurd (cc)
-exec-length s t (Some new) same e = ap (λ x. length x.threads) (sym (same_Some _ _ e)) ∙ same new refl
+next-length : (setup : Setup) (s t : State) (index : ℕ) (next : Bool)
+    → (if next then option_and_then (taken_unless_held_up setup s index) (slice_get setup.commands index) else None) ≡ Some t → length t.threads ≡ length s.threads
+next-length setup s t index true e =
+    option_and_then_some _ (slice_get setup.commands index) t e (λ command f g.
+    taken-length s t index command (outcome_in_state setup s command) (is_held_up command setup.plan.threads s.threads) g)
+next-length setup s t index false e = absurd (let no : None ≡ Some t = e in cc)
 
-pub after-length : (setup : Setup) (s t : State) (hart : ℕ) → after setup s (label.Exec hart) ≡ Some t → length t.threads ≡ length s.threads
-after-length setup s t hart e = exec-length s t (threads_after setup s.threads hart) (λ new f. threads_after-length setup s.threads new hart f) e
+pub after-length : (setup : Setup) (s t : State) (l : Label) → after setup s l ≡ Some t → length t.threads ≡ length s.threads
+after-length setup s t (label.Exec hart) e =
+    option_and_then_some _ (slice_get setup.plan.threads hart) t e (λ plan f g.
+    option_and_then_some _ (slice_get setup.images plan.image) t g (λ image h i.
+    option_and_then_some _ (slice_get s.threads hart) t i (λ thread j k.
+    deed-length hart plan.domain s t (executed image (around_in s hart plan.domain) thread) k)))
+after-length setup s t (label.Drain hart) e =
+    option_and_then_some _ (slice_get setup.plan.threads hart) t e (λ plan f g.
+    option_and_then_some _ (slice_get s.threads hart) t g (λ thread j k.
+    deed-length hart plan.domain s t (drained thread) k))
+after-length setup s t (label.Command index) e =
+    option_and_then_some _ (next_command setup.commands s.taken) t e (λ n f g. next-length setup s t index (n == index) g)
+
+-- where labels lead there are as many threads as before
+abbrev Ends : Replayed → State → Type 0
+Ends (Whole m) s = length m.threads ≡ length s.threads
+Ends (Stuck k m) s = length m.threads ≡ length s.threads
+
+same_Whole : (m t : State) → Whole m ≡ Whole t → m ≡ t
+same_Whole m t e = cc
+
+advanced-ends : (setup : Setup) (n : ℕ) (s m : State) (l : Label) (o : Option State) → after setup m l ≡ o → length m.threads ≡ length s.threads → Ends (advanced n m o) s
+advanced-ends setup n s m l None e same = same
+advanced-ends setup n s m l (Some next) e same = after-length setup m next l e ∙ same
+
+advance-ends : (setup : Setup) (n : ℕ) (s : State) (r : Replayed) (l : Label) → Ends r s → Ends (advance setup n r l) s
+advance-ends setup n s (Whole m) l same = advanced-ends setup n s m l (after setup m l) refl same
+advance-ends setup n s (Stuck k m) l same = same
+
+advance_all-length : (setup : Setup) (n : ℕ) (s t : State) (r : Replayed) (ls : List Label) → Ends r s → advance_all setup n r ls ≡ Whole t → length t.threads ≡ length s.threads
+advance_all-length setup n s t (Whole m) [] same e = ap (λ x. length x.threads) (sym (same_Whole m t e)) ∙ same
+advance_all-length setup n s t (Stuck k m) [] same e = absurd (cc)
+advance_all-length setup n s t r (l ∷ ls) same e = advance_all-length setup (suc n) s t (advance setup n r l) ls (advance-ends setup n s r l same) e
+
+-- a whole run leaves as many threads as there were
+pub replay-length : (setup : Setup) (s t : State) (ls : List Label) → replay setup s ls ≡ Whole t → length t.threads ≡ length s.threads
+replay-length setup s t ls e = advance_all-length setup 0 s t (Whole s) ls refl e

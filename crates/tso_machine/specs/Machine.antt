@@ -1,10 +1,14 @@
 -- What a machine shows of itself, and which states it stands for.
-use Rattle.std.specs.Prelude.{◌≡◌, ℕ, Bool, true, false, List, [], ◌++◌, Option, Some, None}
-use Rattle.mind_base.specs.Page.{PageView}
+use Rattle.std.specs.Prelude.{◌≡◌, ℕ, Bool, true, false, List, ◌++◌, slice_set, Option, Some, None}
+use Rattle.flat_memory.specs.FlatMemory.{MemoryView, byte_in, stored}
 use Rattle.mind_base.specs.Permission.{permission_of}
-use Rattle.tso_machine.specs.State.{Setup, Thread, State}
+use Rattle.protect_table.specs.Protect.{ProtectView, permission_at}
+use Rattle.tso_machine.specs.State.{Setup, Thread, Taken, State}
+use Rattle.tso_machine.specs.Place.{place_of, granule_at}
 use Rattle.tso_machine.specs.Memory.{byte_of}
-use Rattle.tso_machine.specs.Step.{after}
+use Rattle.tso_machine.specs.Access.{Around}
+use Rattle.tso_machine.specs.Deed.{Deed, Alone, Storing}
+use Rattle.tso_machine.specs.Step.{threads_off, after}
 use Rattle.tso_machine.specs.Replay.{Replayed, Whole, Stuck, replay}
 use Rattle.tso_machine.specs.declared.labels.Label.{Label}
 use Rattle.tso_machine.specs.declared.labels.Replay.{Replay}
@@ -13,14 +17,17 @@ use Rattle.tso_machine.specs.declared.labels.Replay.TheVariants as answer
 pub record MachineView : Type 0 where
   pub setup : Setup
   pub threads : List Thread
+  pub memory : MemoryView
+  pub perms : ProtectView
+  pub taken : List Taken
 
--- The machine's threads are the state's, and so are its bytes, permissions and taken commands: as long
--- as nothing is stored and no command is taken these are those of the start.
+-- The machine's threads are the state's, and so are its bytes, permissions and taken commands. It need
+-- not keep the lists of writes and of permissions.
 pub record StandsFor (machine : MachineView) (state : State) : Type 0 where
   pub threads : machine.threads ≡ state.threads
-  pub bytes : (domain address : ℕ) → byte_of state.writes domain address ≡ 0
-  pub perms : (page : PageView) → permission_of state.perms page ≡ permission_of machine.setup.plan.maps page
-  pub taken : state.taken ≡ []
+  pub bytes : byte_in machine.memory ≡ byte_of state.writes
+  pub perms : permission_at machine.perms ≡ permission_of state.perms
+  pub taken : machine.taken ≡ state.taken
 
 -- a step answers true and stands for the state that the label leads to, or false where it is not enabled
 abbrev pub LeadsTo : Bool → MachineView → MachineView → Option State → Type 0
@@ -50,12 +57,17 @@ abbrev pub StandsInside : List Label → MachineView → MachineView → Type 0
 StandsInside labels old new = (state : State) → StandsFor old state → (front : List Label) × (rest : List Label)
     × (labels ≡ front ++ rest) × Reaches old.setup state front new
 
--- whether a thread did something, and what became of it; nothing where it could not
-abbrev pub Becomes : Bool → Thread → Thread → Option Thread → Type 0
-Becomes done old new None = (done ≡ false) × (new ≡ old)
-Becomes done old new (Some thread) = (done ≡ true) × (new ≡ thread)
+-- ---- what the code does of a deed
 
--- the same of all threads
-abbrev pub BecomeAll : Bool → List Thread → List Thread → Option (List Thread) → Type 0
-BecomeAll done old new None = (done ≡ false) × (new ≡ old)
-BecomeAll done old new (Some threads) = (done ≡ true) × (new ≡ threads)
+-- what a thread of the code finds around it
+abbrev pub around_at : ℕ → ℕ → MemoryView → ProtectView → Around
+around_at hart domain memory perms =
+    record { hart = hart; domain = domain; byte = byte_in memory; perm = permission_at perms }
+
+-- the threads and the memory after a deed of thread hart, of a domain; where there is none both are as they were
+abbrev pub CarriesOut : Bool → ℕ → ℕ → List Thread → MemoryView → List Thread → MemoryView → Option Deed → Type 0
+CarriesOut done hart domain old m new m' None = (done ≡ false) × (new ≡ old) × (m' ≡ m)
+CarriesOut done hart domain old m new m' (Some (Alone thread)) = (done ≡ true) × (new ≡ slice_set old hart thread) × (m' ≡ m)
+CarriesOut done hart domain old m new m' (Some (Storing thread store)) = (done ≡ true)
+    × (new ≡ threads_off (granule_at (place_of domain store.address)) (slice_set old hart thread))
+    × (byte_in m' ≡ stored (byte_in m) domain store)

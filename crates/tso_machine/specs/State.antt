@@ -12,17 +12,13 @@ use Rattle.mind_base.specs.declared.plans.ImagePlan.{ImagePlan}
 use Rattle.mind_base.specs.declared.plans.MapPlan.{MapPlan}
 use Rattle.mind_base.specs.declared.plans.RackPlan.{RackPlan}
 use Rattle.mind_base.specs.declared.plans.ThreadPlan.{ThreadPlan}
+use Rattle.tso_machine.specs.declared.granules.Granule.{Granule}
 
 -- what a machine is made from, which never changes
 pub record Setup : Type 0 where
   pub plan : RackPlan
   pub images : List Image
   pub commands : List Command
-
--- 64 aligned bytes of a domain: their first address divided by 64
-pub record Granule : Type 0 where
-  pub domain : ℕ
-  pub number : ℕ
 
 -- a thread: its 32 registers, where it stands, the bytes that it put out, the stores that it has not
 -- yet drained (the oldest first, as many as it likes), and the granule that it has reserved

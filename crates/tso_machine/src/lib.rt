@@ -1,10 +1,17 @@
 //! The abstract machine: total store order over one flat memory for each domain, step by step.
 #![tactic(auto)]
 
+mod accesses;
+mod buffers;
+mod changes;
+mod command_queues;
+mod deeds;
+mod finds;
+mod granules;
 mod harts;
 mod labels;
 mod machines;
 
-pub use harts::Hart;
+pub use granules::Granule;
 pub use labels::{Label, Replay, label_in};
 pub use machines::Machine;

@@ -1,12 +1,24 @@
 ghost use Rattle.std.specs.Prelude.{◌≡◌, ◌<◌, ◌≤◌, length, map, IfOk, OnErr, slice_get, Some, option_map, option_and_then};
 ghost use Rattle.mind_base.specs.Fit.{IsFit, FitImages};
-ghost use Rattle.tso_machine.specs.State.{start_state, first_thread, image_at};
-ghost use Rattle.tso_machine.specs.Step.{executed, with_thread, threads_after};
+ghost use Rattle.tso_machine.specs.State.{State, start_state, first_thread, image_at};
+ghost use Rattle.tso_machine.specs.Deed.{executed, drained};
+ghost use Rattle.tso_machine.specs.Done.{Settles};
+ghost use Rattle.tso_machine.specs.Commands.{after_command, outcome_at};
+ghost use Rattle.tso_machine.specs.Step.{threads_off, after_exec, after_drain};
+ghost use Rattle.tso_machine.specs.Scheduled.{step_label, drain_label};
+ghost use Rattle.tso_machine.specs.Laws.{KeepsTotalStoreOrder};
 ghost use Rattle.tso_machine.specs.Replay.{labels};
-ghost use Rattle.tso_machine.specs.Machine.{MachineView, StandsFor, Leads, BecomeAll, Replays, StandsInside};
+ghost use Rattle.tso_machine.specs.Machine.{MachineView, StandsFor, Leads, LeadsTo, CarriesOut, around_at, Replays, StandsInside};
 
-use crate::{Hart, Label, Replay, label_in};
-use mind_base::{Command, End, Image, ImagePlan, Log, NoMemory, RackPlan, Sequence};
+use crate::changes::{carry_out, end_reservations_by, is_held_up};
+use crate::command_queues::CommandQueue;
+use crate::deeds::Done;
+use crate::harts::Hart;
+use crate::{Granule, Label, Replay, label_in};
+use control_plane::decide;
+use flat_memory::FlatMemory;
+use mind_base::{Command, End, Image, ImagePlan, Log, NoMemory, Outcome, RackPlan, Sequence};
+use protect_table::Protect;
 use std::alloc::Global;
 use std::marker::Model;
 
@@ -16,16 +28,26 @@ use std::marker::Model;
 pub struct Machine {
     plan: RackPlan,
     images: Sequence<Image>,
-    commands: Sequence<Command>,
+    commands: CommandQueue,
     harts: Vec<Hart>,
+    memory: FlatMemory,
+    perms: Protect,
 }
 
 impl Model for Machine {
+    ghost use Rattle.std.specs.Prelude.{◌≡◌};
+    ghost use Rattle.std.specs.Coded.{codes};
+    ghost use Rattle.mind_base.specs.Fit.{IsFit};
+    ghost use Rattle.protect_table.specs.Protect.{protect_code};
     ghost use Rattle.tso_machine.specs.Machine.{MachineView};
 
     ghost Value = { MachineView };
 
-    ghost view = { λ m. record { setup = record { plan = m.plan; images = m.images; commands = m.commands }; threads = m.harts.items } };
+    ghost coded = { Prim.hlevel (codes, protect_code) };
+
+    ghost view = { λ m. record { setup = record { plan = m.plan; images = m.images; commands = m.commands.commands }; threads = m.harts.items; memory = m.memory; perms = m.perms; taken = m.commands.taken } };
+
+    ghost invariant = { λ m. IsFit m.plan × (m.perms.slots ≡ m.plan.protect) };
 }
 
 impl Machine {
@@ -44,14 +66,18 @@ impl Machine {
         ensures start { IfOk result (λ machine. StandsFor machine (start_state machine.setup)) }
     {
         let harts = start_harts(alloc, plan)?;
+        let memory = FlatMemory::new(alloc)?;
+        let perms = Protect::of(alloc, plan.protect, plan.maps.as_slice())?;
         let plan = plan.copy(alloc)?;
         let images = copied_images(alloc, images)?;
-        let commands = Sequence::from_vec(Vec::from_slice(alloc, commands)?);
+        let commands = CommandQueue::new(alloc, commands)?;
         Ok(Machine {
             plan,
             images,
             commands,
             harts,
+            memory,
+            perms,
         })
     }
 
@@ -64,13 +90,13 @@ impl Machine {
     {
         match label {
             Label::Exec { hart } => self.execute(hart),
-            Label::Drain { .. } => Ok(false),
-            Label::Command { .. } => Ok(false),
+            Label::Drain { hart } => self.drain(hart),
+            Label::Command { index } => self.take_command(index),
         }
     }
 
     fn execute(&mut self, hart: u8) -> Result<bool, NoMemory>
-        ensures ok { IfOk result (λ done. BecomeAll done self.old.threads self.new.threads (threads_after self.old.setup self.old.threads hart)) }
+        ensures ok { IfOk result (λ done. (state : State) → StandsFor self.old state → LeadsTo done self.old self.new (after_exec self.old.setup state hart)) }
         ensures setup { self.new.setup ≡ self.old.setup }
         ensures err { OnErr result (self.new ≡ self.old) }
     {
@@ -80,13 +106,93 @@ impl Machine {
         let Some(image) = self.images.as_slice().get(usize::from(thread.image)) else {
             return Ok(false);
         };
-        execute_among(&mut self.harts, image, hart)
+        let done = execute_among(
+            &mut self.harts,
+            &mut self.memory,
+            &self.perms,
+            image,
+            thread.domain,
+            hart,
+        )?;
+        Ok(done)
+    }
+
+    fn drain(&mut self, hart: u8) -> Result<bool, NoMemory>
+        ensures ok { IfOk result (λ done. (state : State) → StandsFor self.old state → LeadsTo done self.old self.new (after_drain self.old.setup state hart)) }
+        ensures setup { self.new.setup ≡ self.old.setup }
+        ensures err { OnErr result (self.new ≡ self.old) }
+    {
+        let Some(thread) = self.plan.threads.as_slice().get(usize::from(hart)) else {
+            return Ok(false);
+        };
+        let done = drain_among(&mut self.harts, &mut self.memory, thread.domain, hart)?;
+        Ok(done)
+    }
+
+    /// Takes the command with this number, where it is next and no buffered store holds it up.
+    fn take_command(&mut self, index: u32) -> Result<bool, NoMemory>
+        ensures ok { IfOk result (λ done. (state : State) → StandsFor self.old state → LeadsTo done self.old self.new (after_command self.old.setup state index)) }
+        ensures setup { self.new.setup ≡ self.old.setup }
+        ensures err { OnErr result (self.new ≡ self.old) }
+    {
+        let Some(command) = self.commands.command_if_next(index) else {
+            return Ok(false);
+        };
+        if is_held_up(
+            &command,
+            self.plan.threads.as_slice(),
+            self.harts.as_slice(),
+        ) {
+            return Ok(false);
+        }
+        let outcome = decide(&command, self.plan.memories.as_slice(), &self.perms);
+        carry_out(&command, outcome, &mut self.perms, &mut self.memory)?;
+        end_reservations_by(&command, &mut self.harts);
+        self.commands.take(index, outcome);
+        Ok(true)
+    }
+
+    /// How the command with this number ended; None where it was not taken, or is a migrate.
+    pub fn outcome(&self, index: u32) -> Option<Outcome>
+        ensures { result ≡ outcome_at self.now.taken index }
+    {
+        self.commands.outcome(index)
+    }
+
+    /// The label of a step of thread `hart` in a schedule: its drain where its oldest store must go first
+    /// (a locked operation or an ordering fence with a store in the buffer, a store with a buffer as long
+    /// as the thread's queue), else its execution; None where it has ended.
+    pub fn step_label(&self, hart: u8) -> Option<Label>
+        ensures { result ≡ step_label self.now.setup self.now.threads hart }
+    {
+        let thread = self.plan.threads.as_slice().get(usize::from(hart))?;
+        let image = self.images.as_slice().get(usize::from(thread.image))?;
+        let index = usize::from(hart);
+        if index >= self.harts.len() {
+            return None;
+        }
+        self.harts[index].step_label(image, thread.queue, hart)
+    }
+
+    /// The label of a drain of thread `hart` in a schedule; None where it buffers nothing.
+    pub fn drain_label(&self, hart: u8) -> Option<Label>
+        ensures { result ≡ drain_label self.now.threads hart }
+    {
+        let index = usize::from(hart);
+        if index < self.harts.len() && self.harts[index].holds_stores() {
+            Some(Label::Drain { hart })
+        } else {
+            None
+        }
     }
 
     /// Takes the labels of a log, one after another, up to the first that is not enabled. After an error
     /// a front of them was taken.
     pub fn replay(&mut self, log: &Log) -> Result<Replay, NoMemory>
         ensures ok { IfOk result (λ answer. Replays answer (labels log.now.notes) self.old self.new) }
+
+        // Whatever the labels are, the run keeps total store order, as far as they are enabled.
+        ensures laws { (state : State) → StandsFor self.old state → KeepsTotalStoreOrder self.old.setup state (labels log.now.notes) }
         ensures setup { self.new.setup ≡ self.old.setup }
         ensures err { OnErr result (StandsInside (labels log.now.notes) self.old self.new) }
     {
@@ -122,18 +228,68 @@ impl Machine {
     }
 }
 
-/// Lets thread number `hart` execute one instruction of its image.
-fn execute_among(harts: &mut Vec<Hart>, image: &Image, hart: u8) -> Result<bool, NoMemory>
-    ensures ok { IfOk result (λ done. BecomeAll done harts.old.items harts.new.items
-        (option_and_then (λ thread. with_thread harts.old.items hart (executed image.now hart thread)) (slice_get harts.old.items hart))) }
-    ensures err { OnErr result (harts.new.items ≡ harts.old.items) }
+/// Lets thread number `hart`, of a domain, execute one instruction of its image.
+fn execute_among(
+    harts: &mut Vec<Hart>,
+    memory: &mut FlatMemory,
+    perms: &Protect,
+    image: &Image,
+    domain: u8,
+    hart: u8,
+) -> Result<bool, NoMemory>
+    requires { domain < 16 }
+    ensures ok { IfOk result (λ done. CarriesOut done hart domain harts.old.items memory.old harts.new.items memory.new
+        (option_and_then (λ thread. executed image.now (around_at hart domain memory.old perms.now) thread) (slice_get harts.old.items hart))) }
+    ensures err { OnErr result ((harts.new.items ≡ harts.old.items) × (memory.new ≡ memory.old)) }
 {
     let index = usize::from(hart);
     if index >= harts.len() {
         return Ok(false);
     }
-    let done = harts[index].execute(image, hart)?;
-    Ok(done)
+    let done = harts[index].execute(image, hart, domain, memory, perms)?;
+    Ok(settle_deed(harts, done, domain))
+}
+
+/// Lets the oldest store of thread number `hart`, of a domain, take effect.
+fn drain_among(
+    harts: &mut Vec<Hart>,
+    memory: &mut FlatMemory,
+    domain: u8,
+    hart: u8,
+) -> Result<bool, NoMemory>
+    requires { domain < 16 }
+    ensures ok { IfOk result (λ done. CarriesOut done hart domain harts.old.items memory.old harts.new.items memory.new
+        (option_and_then drained (slice_get harts.old.items hart))) }
+    ensures err { OnErr result ((harts.new.items ≡ harts.old.items) × (memory.new ≡ memory.old)) }
+{
+    let index = usize::from(hart);
+    if index >= harts.len() {
+        return Ok(false);
+    }
+    let done = harts[index].drain(domain, memory)?;
+    Ok(settle_deed(harts, done, domain))
+}
+
+/// Ends the reservations on the granule of a store that took effect. False where nothing was done.
+fn settle_deed(harts: &mut Vec<Hart>, done: Done, domain: u8) -> bool
+    ensures { Settles result domain done harts.old.items harts.new.items }
+{
+    match done {
+        Done::Nothing => false,
+        Done::Changed => true,
+        Done::Stored { store } => {
+            end_reservations(harts, Granule::of(domain, store.address));
+            true
+        }
+    }
+}
+
+fn end_reservations(harts: &mut Vec<Hart>, granule: Granule)
+    ensures { harts.new.items ≡ threads_off granule harts.old.items }
+{
+    for i in 0..harts.len() {
+        harts[i].end_reservation(granule);
+    }
 }
 
 fn copied_images(alloc: Global, images: &[Image]) -> Result<Sequence<Image>, NoMemory>
@@ -166,3 +322,6 @@ fn start_harts(alloc: Global, plan: &RackPlan) -> Result<Vec<Hart>, NoMemory>
     }
     Ok(harts)
 }
+
+#[cfg(test)]
+mod tests;

@@ -1,6 +1,7 @@
 use Rattle.std.proofs.Common.{◌+◌, ℕ, Bool, sym, subst, take, arith}
 use Rattle.tso_machine.specs.Replay.{labels}
 use Rattle.tso_machine.specs.Machine.{MachineView, Leads, StandsInside}
+use Rattle.tso_machine.proofs.Laws.{keeps_total_store_order}
 use Rattle.tso_machine.proofs.Runs.{Follows, follows-none-at, follows-some-at, follows-stuck-at, follows-inside-at, follows-end, on_err}
 use Rattle.tso_machine.proofs.machines.Machine.replay.Goals as goal
 use Rattle.tso_machine.proofs.machines.Machine.replay.Goals.{in-Some+in_ok-step-in-Some+else-not-branch, in-None}
@@ -35,3 +36,12 @@ loop-i-preserved c = elim c.match-label_in.branch [
 
 pub returns-clause-ok : goal.returns-clause-ok
 returns-clause-ok c = follows-end _ _ _ c.loop-i.i c.loop-i.taken (omega arith) c.loop-i.invariant.0
+
+pub returns-in_err-step-in-Some-clause-laws : goal.returns-in_err-step-in-Some-clause-laws
+returns-in_err-step-in-Some-clause-laws c = λ state stands. keeps_total_store_order _ state _
+
+pub returns-then-not-branch-clause-laws : goal.returns-then-not-branch-clause-laws
+returns-then-not-branch-clause-laws c = λ state stands. keeps_total_store_order _ state _
+
+pub returns-clause-laws : goal.returns-clause-laws
+returns-clause-laws c = λ state stands. keeps_total_store_order _ state _

@@ -1,0 +1,116 @@
+ghost use Rattle.std.specs.Prelude.{◌≡◌, ◌+◌, ◌∷◌, ◌++◌, [], None, Some, OnOk, OnErr, length, drop, slice_get, if◌then◌else◌};
+ghost use Rattle.mind_base.specs.Pending.{covers, byte_at, newest_byte as newest_byte_of};
+ghost use Rattle.mind_base.specs.Home.{in_span};
+ghost use Rattle.mind_base.specs.Page.{page_of};
+ghost use Rattle.std.specs.List.{list_any};
+ghost use Rattle.tso_machine.specs.Commands.{stores_in};
+ghost use Rattle.tso_machine.specs.Deed.{holds_stores};
+
+use mind_base::{NoMemory, Pending, Span};
+use std::alloc::Global;
+use std::collections::VecDeque;
+use std::marker::Model;
+
+/// The stores that a thread has not yet drained, the oldest first, as many as it likes.
+#[derive(Debug, Drop)]
+pub struct Buffer {
+    stores: VecDeque<Pending>,
+}
+
+impl Model for Buffer {
+    ghost use Rattle.std.specs.Prelude.{List};
+    ghost use Rattle.mind_base.specs.Pending.{PendingView};
+
+    ghost Value = { List PendingView };
+
+    ghost view = { λ b. b.stores.items };
+}
+
+impl Buffer {
+    /// An empty buffer. Takes no memory.
+    pub fn new(alloc: Global) -> Buffer
+        ensures { result ≡ [] }
+    {
+        Buffer {
+            stores: VecDeque::new(alloc),
+        }
+    }
+
+    pub fn len(&self) -> usize
+        ensures { result ≡ length self.now }
+    {
+        self.stores.len()
+    }
+
+    /// Whether a store waits.
+    pub fn holds_stores(&self) -> bool
+        ensures { result ≡ holds_stores self.now }
+    {
+        !self.stores.is_empty()
+    }
+
+    /// Puts a store behind the others. After an error the buffer is as it was.
+    pub fn push(&mut self, store: Pending) -> Result<(), NoMemory>
+        ensures ok { OnOk result (self.new ≡ self.old ++ store ∷ []) }
+        ensures err { OnErr result (self.new ≡ self.old) }
+    {
+        self.stores.push_back(store)?;
+        Ok(())
+    }
+
+    /// The oldest store, which stays.
+    pub fn front(&self) -> Option<Pending>
+        ensures { result ≡ slice_get self.now 0 }
+    {
+        self.stores.front().copied()
+    }
+
+    /// Takes the oldest store out, if there is one.
+    pub fn pop(&mut self)
+        ensures { self.new ≡ drop 1 self.old }
+    {
+        self.stores.pop_front();
+    }
+
+    /// The byte for `address` in the newest store that covers it.
+    pub fn newest_byte(&self, address: u32) -> Option<u8>
+        ensures { result ≡ newest_byte_of self.now address }
+    {
+        let mut byte = None;
+        for store in self.stores.iter() {
+            if let Some(newer) = byte_of(store, address) {
+                byte = Some(newer);
+            }
+        }
+        byte
+    }
+
+    /// Whether a store lies in a page of the span, for a thread of this domain.
+    pub fn holds_store_in(&self, span: &Span, domain: u8) -> bool
+        ensures { result ≡ list_any (stores_in span.now domain) self.now }
+    {
+        self.stores
+            .iter()
+            .any(|store| lies_in(span, domain, store.address))
+    }
+}
+
+/// Whether the byte at an address of a domain lies in a page of the span.
+fn lies_in(span: &Span, domain: u8, address: u32) -> bool
+    ensures { result ≡ in_span span.now (page_of domain address) }
+{
+    let number = address / 4096;
+    domain == span.domain && span.base <= number && number < span.base + span.pages
+}
+
+/// The byte that a store has at an address, where it covers it.
+fn byte_of(store: &Pending, address: u32) -> Option<u8>
+    ensures { result ≡ (if covers store.now address then Some (byte_at store.now address) else None) }
+{
+    if store.address <= address && address - store.address < store.size as u32 {
+        let bytes = store.value.to_le_bytes();
+        Some(bytes[(address - store.address) as usize])
+    } else {
+        None
+    }
+}
