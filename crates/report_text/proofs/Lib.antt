@@ -1,3 +1,5 @@
+pub mod CommandLines
+pub mod FirstMoves
 pub mod Lines
 pub mod Peaks
 pub mod Samples

@@ -8,7 +8,7 @@ use Rattle.mind_base.specs.declared.plans.RackPlan.{RackPlan}
 use Rattle.tso_machine.specs.State.{State}
 use Rattle.tso_machine.specs.Step.{after}
 use Rattle.tso_machine.specs.Machine.{MachineView, Leads, LeadsTo}
-use Rattle.tso_machine.specs.declared.labels.Label.TheVariants.{Exec}
+use Rattle.tso_machine.specs.declared.labels.Label.{Label}
 use Rattle.tso_machine.proofs.Threads.{after-length}
 use Rattle.report_text.specs.Sample.{sample_plan, HasThree}
 
@@ -84,17 +84,17 @@ images-fit plan name images low high e f h k =
     subst P (sym e) (subst Q (sym f) (sample-images low high name h k))
 
 -- by what a step leads to
-three-by : (old new : MachineView) (hart : ℕ) (enabled : Bool) (h : HasThree old) (o : Option State) → after old.setup h.state (Exec hart) ≡ o
+three-by : (old new : MachineView) (label : Label) (enabled : Bool) (h : HasThree old) (o : Option State) → after old.setup h.state label ≡ o
     → LeadsTo enabled old new o → HasThree new
-three-by old new hart enabled h None e leads = subst HasThree (sym leads.1) h
-three-by old new hart enabled h (Some state) e leads = record {
+three-by old new label enabled h None e leads = subst HasThree (sym leads.1) h
+three-by old new label enabled h (Some state) e leads = record {
   state = state;
   stands = leads.1;
-  three = after-length old.setup h.state state hart e ∙ h.three;
+  three = after-length old.setup h.state state label e ∙ h.three;
 }
 
-pub three-after : (old new : MachineView) (hart : ℕ) (enabled : Bool) → HasThree old → Leads enabled (Exec hart) old new → HasThree new
-three-after old new hart enabled h leads = three-by old new hart enabled h (after old.setup h.state (Exec hart)) refl (leads h.state h.stands)
+pub three-after : (old new : MachineView) (label : Label) (enabled : Bool) → HasThree old → Leads enabled label old new → HasThree new
+three-after old new label enabled h leads = three-by old new label enabled h (after old.setup h.state label) refl (leads h.state h.stands)
 
 pub three-threads : (machine : MachineView) (plan : RackPlan) (name : List ℕ) → HasThree machine → plan ≡ sample_plan name → length machine.threads ≡ length plan.threads
 three-threads machine plan name h e = ap length h.stands.threads ∙ h.three ∙ sym (ap (λ p. length p.threads) e)

@@ -1,3 +1,4 @@
+pub mod CommandLine
 pub mod Counts
 pub mod Digits
 pub mod Force

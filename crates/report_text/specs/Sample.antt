@@ -20,7 +20,7 @@ sample_plan name = record {
   threshold = 0;
   policy = Threshold;
   frames = 1 ∷ [];
-  memories = record { homes = record { domain = 0; base = 0; pages = 1 } ∷ []; spare = 0 } ∷ [];
+  memories = record { homes = record { domain = 0; base = 0; pages = 3 } ∷ []; spare = 0 } ∷ [];
   images = record { name = name; at = 0 } ∷ record { name = name; at = 4096 } ∷ [];
   threads = sample_thread 0 ∷ sample_thread 0 ∷ sample_thread 1 ∷ [];
   maps = [];

@@ -1,9 +1,11 @@
-//! The report of a run: where each thread stands, and what the log counts.
+//! The report of a run: where each thread stands, how each command ended, and what the log counts.
 #![tactic(auto)]
 
+mod commands;
 mod counts;
 mod force;
 mod kinds;
+mod moves;
 mod reports;
 mod texts;
 mod threads;

@@ -1,13 +1,13 @@
 //! Whole reports and lines of counts, written by hand from the format.
 
-ghost use Rattle.std.specs.Prelude.{◌≡◌, [], ◌∷◌, length, IfOk, OnOk};
+ghost use Rattle.std.specs.Prelude.{◌≡◌, ◌<◌, ◌≤◌, [], ◌∷◌, length, IfOk, OnOk};
 ghost use Rattle.report_text.specs.Sample.{sample_plan, HasThree};
 
 use crate::counts::{counts_in, put_counts};
 use crate::report;
 use mind_base::{
-    Image, ImagePlan, Log, MemoryPlan, Name, NoMemory, Note, Outcome, Page, PolicyKind, RackPlan,
-    Range, Sequence, Span, State, ThreadPlan,
+    Command, Image, ImagePlan, Log, MemoryPlan, Name, NoMemory, Note, Outcome, Page, Perm,
+    PolicyKind, RackPlan, Range, Sequence, Span, State, ThreadPlan,
 };
 use std::alloc::Global;
 use std::test::Fail;
@@ -39,7 +39,7 @@ fn plan_of(alloc: Global, name: &Name) -> Result<RackPlan, NoMemory>
     let home = Span {
         domain: 0,
         base: 0,
-        pages: 1,
+        pages: 3,
     };
     let memory = MemoryPlan {
         homes: Sequence::from_vec(vec![in alloc; home]?),
@@ -84,13 +84,20 @@ fn images_in(alloc: Global) -> Result<Vec<Image>, NoMemory>
     Ok(images)
 }
 
-fn machine_of(alloc: Global, name: &Name, plan: &RackPlan) -> Result<Machine, NoMemory>
-    requires { plan.now ≡ sample_plan name.now }
+fn machine_of(
+    alloc: Global,
+    name: &Name,
+    plan: &RackPlan,
+    commands: &[Command],
+) -> Result<Machine, NoMemory>
+    requires plan { plan.now ≡ sample_plan name.now }
+    requires few { length commands.now ≤ 1000000 }
     ensures plan { IfOk result (λ machine. machine.setup.plan ≡ plan.now) }
+    ensures commands { IfOk result (λ machine. machine.setup.commands ≡ commands.now) }
     ensures three { IfOk result (λ machine. HasThree machine) }
 {
     let images = images_in(alloc)?;
-    let machine = Machine::start(alloc, plan, images.as_slice(), &[])?;
+    let machine = Machine::start(alloc, plan, images.as_slice(), commands)?;
     Ok(machine)
 }
 
@@ -105,55 +112,142 @@ fn run_thread(machine: &mut Machine, hart: u8, steps: u8) -> Result<(), NoMemory
     Ok(())
 }
 
+fn take_commands(machine: &mut Machine, count: u32) -> Result<(), NoMemory>
+    requires { HasThree machine.old }
+    ensures setup { machine.new.setup ≡ machine.old.setup }
+    ensures three { OnOk result (HasThree machine.new) }
+{
+    for index in 0..count {
+        machine.step(Label::Command { index })?;
+    }
+    Ok(())
+}
+
 fn report_on(
     alloc: Global,
     name: &Name,
     plan: &RackPlan,
     machine: &Machine,
+    commands: &[Command],
     log: &Log,
 ) -> Result<Vec<u8>, NoMemory>
     requires plan { plan.now ≡ sample_plan name.now }
     requires made { machine.now.setup.plan ≡ plan.now }
+    requires commands { machine.now.setup.commands ≡ commands.now }
+    requires few { length commands.now ≤ 1000000 }
     requires three { HasThree machine.now }
 {
-    let text = report(alloc, plan, machine, &[], log)?;
+    let text = report(alloc, plan, machine, commands, log)?;
     Ok(text)
 }
 
-/// The machine behind six steps of its first thread, three of the second and one of the third.
-fn stopped_machine(alloc: Global, name: &Name, plan: &RackPlan) -> Result<Machine, NoMemory>
-    requires { plan.now ≡ sample_plan name.now }
+/// The machine behind six steps of its first thread, three of the second and one of the third, and behind
+/// its first six commands.
+fn stopped_machine(
+    alloc: Global,
+    name: &Name,
+    plan: &RackPlan,
+    commands: &[Command],
+) -> Result<Machine, NoMemory>
+    requires plan { plan.now ≡ sample_plan name.now }
+    requires few { length commands.now ≤ 1000000 }
     ensures plan { IfOk result (λ machine. machine.setup.plan ≡ plan.now) }
+    ensures commands { IfOk result (λ machine. machine.setup.commands ≡ commands.now) }
     ensures three { IfOk result (λ machine. HasThree machine) }
 {
-    let mut machine = machine_of(alloc, name, plan)?;
+    let mut machine = machine_of(alloc, name, plan, commands)?;
     run_thread(&mut machine, 0, 6)?;
     run_thread(&mut machine, 1, 3)?;
     run_thread(&mut machine, 2, 1)?;
+    take_commands(&mut machine, 6)?;
     Ok(machine)
+}
+
+fn moved(index: u32, outcome: Outcome) -> Note {
+    Note::Moved { index, outcome }
 }
 
 fn short_log(alloc: Global) -> Result<Log, NoMemory> {
     let mut log = Log::new(alloc);
     log.add(Note::Event { index: 0 })?;
     log.add(Note::Exec { hart: 0 })?;
+    log.add(moved(3, Outcome::Fine))?;
+    log.add(moved(6, Outcome::Same))?;
+    log.add(moved(7, Outcome::Room))?;
+    log.add(moved(6, Outcome::Fine))?;
     Ok(log)
 }
 
-fn report_of_name(alloc: Global, name: &Name) -> Result<Vec<u8>, NoMemory> {
+fn report_of_name(alloc: Global, name: &Name, commands: &[Command]) -> Result<Vec<u8>, NoMemory>
+    requires { length commands.now ≤ 1000000 }
+{
     let plan = plan_of(alloc, name)?;
-    let machine = stopped_machine(alloc, name, &plan)?;
+    let machine = stopped_machine(alloc, name, &plan, commands)?;
     let log = short_log(alloc)?;
-    report_on(alloc, name, &plan, &machine, &log)
+    report_on(alloc, name, &plan, &machine, commands, &log)
 }
 
 #[test]
 fn a_report_of_each_end(rt: HostRuntime) -> Result<(), Fail> {
     let name = Name::of(rt.alloc(), "a.bin")?.ok_or("no name")?;
-    let text = report_of_name(rt.alloc(), &name)?;
+    let text = report_of_name(rt.alloc(), &name, &[])?;
     assert_eq!(rt;
         text.as_slice(),
         b"mind 1\nthread 0 exit 0 out 41\nthread 1 running 0000000c out 41\nthread 2 fault illegal 00000000 at 00001000 out -\ncounts events 1 labels 1 takes 0 gives 0 downs 0 peak 0 splits 0 merges 0\n".as_slice()
+    );
+    Ok(())
+}
+
+fn page_at(base: u32) -> Span
+    requires { base < 1048576 }
+{
+    Span {
+        domain: 0,
+        base,
+        pages: 1,
+    }
+}
+
+fn map_at(base: u32) -> Command
+    requires { base < 1048576 }
+{
+    Command::Map {
+        span: page_at(base),
+        perm: Perm::R,
+    }
+}
+
+fn move_to(memory: u8) -> Command {
+    let range = Range {
+        domain: 0,
+        base: 0,
+        log: 0,
+    };
+    Command::Migrate { range, memory }
+}
+
+// Pages 0 to 2 have a home, none is mapped at first, and the switch has one slot for permissions.
+#[test]
+fn a_report_of_each_outcome(rt: HostRuntime) -> Result<(), Fail> {
+    let name = Name::of(rt.alloc(), "a.bin")?.ok_or("no name")?;
+    let commands = [
+        Command::Unmap { span: page_at(0) },
+        map_at(9),
+        map_at(0),
+        map_at(0),
+        map_at(2),
+        Command::Protect {
+            span: page_at(0),
+            perm: Perm::Rw,
+        },
+        move_to(0),
+        move_to(1),
+        move_to(2),
+    ];
+    let text = report_of_name(rt.alloc(), &name, &commands)?;
+    assert_eq!(rt;
+        text.as_slice(),
+        b"mind 1\nthread 0 exit 0 out 41\nthread 1 running 0000000c out 41\nthread 2 fault illegal 00000000 at 00001000 out -\ncommand 0 unmap unmapped\ncommand 1 map unplaced\ncommand 2 map ok\ncommand 3 map overlap\ncommand 4 map slots\ncommand 5 protect ok\ncommand 6 migrate same\ncommand 7 migrate room\ncommand 8 migrate waiting\ncounts events 1 labels 1 takes 0 gives 0 downs 0 peak 0 splits 0 merges 0\n".as_slice()
     );
     Ok(())
 }
