@@ -1,6 +1,6 @@
 -- The stages of a run: their labels replay whole, and their events are all there, in order.
 use Rattle.std.proofs.Common.{◌≡◌, ℕ, suc, ◌+◌, ◌⊎◌, inl, inr, ◌∙◌, Bool, true, false, ◌||◌, cond, List, [], ◌∷◌, ◌++◌, length, ap, sym, refl, subst, Option, Some, None, append-nil, take, arith}
-use Rattle.std.specs.List.{list_any, slice_get}
+use Rattle.std.specs.List.{list_any, slice_get, cons_option}
 use Rattle.std.proofs.lemmas.List.Elements.{filter_map-append}
 use Rattle.std.proofs.lemmas.List.{length-map}
 use Rattle.mind_base.specs.declared.events.Event.{Event}
@@ -12,10 +12,12 @@ use Rattle.tso_machine.specs.State.{Setup, State, start_state, first_thread, ima
 use Rattle.tso_machine.specs.Step.{after}
 use Rattle.tso_machine.specs.Replay.{labels, label_of, Whole, advanced, replay}
 use Rattle.tso_machine.specs.Machine.{MachineView, StandsFor}
+use Rattle.tso_machine.specs.Scheduled.{step_label, drain_label}
+use Rattle.tso_machine.specs.declared.labels.Label.{Label}
 use Rattle.tso_machine.specs.declared.labels.Label.TheVariants as label
 use Rattle.tso_machine.proofs.Runs.{labels-none, labels-some, replay-more, whole-front, take-at}
 use Rattle.tso_machine.proofs.Threads.{after-length}
-use Rattle.mind_steps.specs.Run.{Stage, noted, stepped, event_after, stage_from, first_stage, stage_after, is_event, event_of, events, below, before_last, Stands}
+use Rattle.mind_steps.specs.Run.{Stage, noted, note_of, went_on, labelled, event_after, stage_from, first_stage, stage_after, is_event, event_of, events, below, before_last, Stands}
 use Rattle.mind_steps.specs.Running.{IsAt, DoesEvent, Runs}
 
 -- ---- one event more
@@ -42,18 +44,25 @@ pub stage_after-more : (setup : Setup) (es : List Event) (e : Event)
 stage_after-more setup es e = stage_from-more setup es e (first_stage setup) 0
     ∙ ap (λ n. event_after setup (stage_after setup es) n e) (omega arith)
 
--- an event is noted, or noted and stepped
+-- an event is noted, or noted and labelled
 ByEvent : Setup → (ℕ → Stage → Type 0) → Type 0
 ByEvent setup P = (stage : Stage) (index : ℕ) (e : Event) → P index stage → P (suc index) (event_after setup stage index e)
 
+by-label : (setup : Setup) (P : ℕ → Stage → Type 0)
+    → ((stage : Stage) (index : ℕ) (l : Label) (o : Option State) → after setup stage.state l ≡ o → P index stage → P index (went_on stage l o))
+    → (stage : Stage) (index : ℕ) (o : Option Label) → P index stage → P index (labelled setup stage o)
+by-label setup P step-it stage index None p = p
+by-label setup P step-it stage index (Some l) p = step-it stage index l (after setup stage.state l) refl p
+
 by-event : (setup : Setup) (P : ℕ → Stage → Type 0)
     → ((stage : Stage) (index : ℕ) → P index stage → P (suc index) (noted stage index))
-    → ((stage : Stage) (index hart : ℕ) (o : Option State) → after setup stage.state (label.Exec hart) ≡ o → P index stage → P index (stepped stage hart o))
+    → ((stage : Stage) (index : ℕ) (l : Label) (o : Option State) → after setup stage.state l ≡ o → P index stage → P index (went_on stage l o))
     → ByEvent setup P
 unfolding ByEvent
 by-event setup P note-it step-it stage index (event.Step hart) p =
-    step-it (noted stage index) (suc index) hart (after setup stage.state (label.Exec hart)) refl (note-it stage index p)
-by-event setup P note-it step-it stage index (event.Drain hart) p = note-it stage index p
+    by-label setup P step-it (noted stage index) (suc index) (step_label setup stage.state.threads hart) (note-it stage index p)
+by-event setup P note-it step-it stage index (event.Drain hart) p =
+    by-label setup P step-it (noted stage index) (suc index) (drain_label stage.state.threads hart) (note-it stage index p)
 by-event setup P note-it step-it stage index (event.Evict blade page) p = note-it stage index p
 by-event setup P note-it step-it stage index (event.Deliver link side k) p = note-it stage index p
 by-event setup P note-it step-it stage index (event.Lose link side k) p = note-it stage index p
@@ -66,7 +75,7 @@ by-event setup P note-it step-it stage index event.Settle p = note-it stage inde
 -- what notes and steps keep holds behind a schedule
 keeps : (setup : Setup) (P : ℕ → Stage → Type 0)
     → ((stage : Stage) (index : ℕ) → P index stage → P (suc index) (noted stage index))
-    → ((stage : Stage) (index hart : ℕ) (o : Option State) → after setup stage.state (label.Exec hart) ≡ o → P index stage → P index (stepped stage hart o))
+    → ((stage : Stage) (index : ℕ) (l : Label) (o : Option State) → after setup stage.state l ≡ o → P index stage → P index (went_on stage l o))
     → P 0 (first_stage setup) → (es : List Event) → P (length es) (stage_after setup es)
 unfolding ByEvent
 keeps setup P note-it step-it start es =
@@ -81,13 +90,23 @@ replays-note : (setup : Setup) (stage : Stage) (index : ℕ) → Replays setup i
 unfolding Replays
 replays-note setup stage index r = ap (λ ls. replay setup (start_state setup) ls) (labels-none stage.notes (note.Event index) refl) ∙ r
 
-replays-step : (setup : Setup) (stage : Stage) (index hart : ℕ) (o : Option State) → after setup stage.state (label.Exec hart) ≡ o
-    → Replays setup index stage → Replays setup index (stepped stage hart o)
+label-noted : (l : Label) → label_of (note_of l) ≡ Some l
+label-noted (label.Exec hart) = refl
+label-noted (label.Drain hart) = refl
+label-noted (label.Command index) = refl
+
+no-event : (l : Label) → event_of (note_of l) ≡ None
+no-event (label.Exec hart) = refl
+no-event (label.Drain hart) = refl
+no-event (label.Command index) = refl
+
+replays-step : (setup : Setup) (stage : Stage) (index : ℕ) (l : Label) (o : Option State) → after setup stage.state l ≡ o
+    → Replays setup index stage → Replays setup index (went_on stage l o)
 unfolding Replays
-replays-step setup stage index hart None e r = r
-replays-step setup stage index hart (Some next) e r =
-    ap (λ ls. replay setup (start_state setup) ls) (labels-some stage.notes (note.Exec hart) (label.Exec hart) refl)
-    ∙ replay-more setup (start_state setup) stage.state (labels stage.notes) (label.Exec hart) r
+replays-step setup stage index l None e r = r
+replays-step setup stage index l (Some next) e r =
+    ap (λ ls. replay setup (start_state setup) ls) (labels-some stage.notes (note_of l) l (label-noted l))
+    ∙ replay-more setup (start_state setup) stage.state (labels stage.notes) l r
     ∙ ap (λ x. advanced (length (labels stage.notes)) stage.state x) e
 
 pub stage-replays : (setup : Setup) (es : List Event) → replay setup (start_state setup) (labels (stage_after setup es).notes) ≡ Whole (stage_after setup es).state
@@ -103,12 +122,12 @@ events-note : (stage : Stage) (index : ℕ) → HasEvents index stage → HasEve
 unfolding HasEvents
 events-note stage index h = filter_map-append event_of stage.notes (note.Event index ∷ []) ∙ ap (λ ns. ns ++ index ∷ []) h
 
-events-step : (setup : Setup) (stage : Stage) (index hart : ℕ) (o : Option State) → after setup stage.state (label.Exec hart) ≡ o
-    → HasEvents index stage → HasEvents index (stepped stage hart o)
+events-step : (setup : Setup) (stage : Stage) (index : ℕ) (l : Label) (o : Option State) → after setup stage.state l ≡ o
+    → HasEvents index stage → HasEvents index (went_on stage l o)
 unfolding HasEvents
-events-step setup stage index hart None e h = h
-events-step setup stage index hart (Some next) e h =
-    filter_map-append event_of stage.notes (note.Exec hart ∷ []) ∙ append-nil (events stage.notes) ∙ h
+events-step setup stage index l None e h = h
+events-step setup stage index l (Some next) e h =
+    filter_map-append event_of stage.notes (note_of l ∷ []) ∙ ap (λ o. events stage.notes ++ cons_option o []) (no-event l) ∙ append-nil (events stage.notes) ∙ h
 
 pub stage-events : (setup : Setup) (es : List Event) → events (stage_after setup es).notes ≡ below (length es)
 unfolding HasEvents
@@ -123,11 +142,11 @@ threads-note : (setup : Setup) (stage : Stage) (index : ℕ) → HasThreads setu
 unfolding HasThreads
 threads-note setup stage index h = h
 
-threads-step : (setup : Setup) (stage : Stage) (index hart : ℕ) (o : Option State) → after setup stage.state (label.Exec hart) ≡ o
-    → HasThreads setup index stage → HasThreads setup index (stepped stage hart o)
+threads-step : (setup : Setup) (stage : Stage) (index : ℕ) (l : Label) (o : Option State) → after setup stage.state l ≡ o
+    → HasThreads setup index stage → HasThreads setup index (went_on stage l o)
 unfolding HasThreads
-threads-step setup stage index hart None e h = h
-threads-step setup stage index hart (Some next) e h = after-length setup stage.state next hart e ∙ h
+threads-step setup stage index l None e h = h
+threads-step setup stage index l (Some next) e h = after-length setup stage.state next l e ∙ h
 
 pub stage-length : (setup : Setup) (es : List Event) → length (stage_after setup es).state.threads ≡ length setup.plan.threads
 unfolding HasThreads

@@ -9,9 +9,14 @@ use Rattle.mind_base.specs.declared.notes.Note.TheVariants as note
 use Rattle.mind_base.specs.declared.plans.RackPlan.{RackPlan}
 use Rattle.tso_machine.specs.State.{Setup, State, start_state}
 use Rattle.tso_machine.specs.Step.{after}
-use Rattle.tso_machine.specs.Replay.{labels, Whole, replay}
+use Rattle.tso_machine.specs.Replay.{labels, Whole, Stuck, replay}
+use Rattle.tso_machine.specs.Scheduled.{step_label, drain_label}
+use Rattle.tso_machine.specs.declared.labels.Label.{Label}
 use Rattle.tso_machine.specs.declared.labels.Label.TheVariants as label
+use Rattle.journal_text.specs.Journal.{journal_text_of}
 use Rattle.report_text.specs.Report.{report_text}
+use Rattle.mind_steps.specs.declared.checking.Checked.{Checked}
+use Rattle.mind_steps.specs.declared.checking.Checked.TheVariants.{Report, NotARun}
 
 -- the machine of a plan and its images, without commands
 abbrev pub setup_of : RackPlan → List Image → Setup
@@ -41,6 +46,12 @@ abbrev pub below : ℕ → List ℕ
 below zero = []
 below (suc n) = below n ++ n ∷ []
 
+-- the note of a label
+abbrev pub note_of : Label → Note
+note_of (label.Exec hart) = note.Exec hart
+note_of (label.Drain hart) = note.Drain hart
+note_of (label.Command index) = note.Command index
+
 -- a log, and the state that its labels lead to
 pub record Stage : Type 0 where
   pub notes : List Note
@@ -50,16 +61,21 @@ pub record Stage : Type 0 where
 abbrev pub noted : Stage → ℕ → Stage
 noted stage index = record { notes = stage.notes ++ note.Event index ∷ []; state = stage.state }
 
--- a thread's step is noted where the machine has one, and the state is the one that it leads to
-abbrev pub stepped : Stage → ℕ → Option State → Stage
-stepped stage hart None = stage
-stepped stage hart (Some next) = record { notes = stage.notes ++ note.Exec hart ∷ []; state = next }
+-- a label that leads to a state is noted; one that is not enabled leaves all as it is
+abbrev pub went_on : Stage → Label → Option State → Stage
+went_on stage label None = stage
+went_on stage label (Some next) = record { notes = stage.notes ++ note_of label ∷ []; state = next }
 
--- A step has its thread execute one instruction, if it can. Of every other event there is only its note:
--- no store is buffered, and there is no rack yet.
+-- the label of an event, if it has one, takes effect
+abbrev pub labelled : Setup → Stage → Option Label → Stage
+labelled setup stage None = stage
+labelled setup stage (Some label) = went_on stage label (after setup stage.state label)
+
+-- A step has its thread execute one instruction, or drains its oldest store first where that must be; a
+-- drain drains one. Of every other event there is only its note, since there is no rack yet.
 abbrev pub event_after : Setup → Stage → ℕ → Event → Stage
-event_after setup stage index (event.Step hart) = stepped (noted stage index) hart (after setup stage.state (label.Exec hart))
-event_after setup stage index (event.Drain hart) = noted stage index
+event_after setup stage index (event.Step hart) = labelled setup (noted stage index) (step_label setup stage.state.threads hart)
+event_after setup stage index (event.Drain hart) = labelled setup (noted stage index) (drain_label stage.state.threads hart)
 event_after setup stage index (event.Evict blade page) = noted stage index
 event_after setup stage index (event.Deliver link side k) = noted stage index
 event_after setup stage index (event.Lose link side k) = noted stage index
@@ -82,15 +98,38 @@ first_stage setup = record { notes = []; state = start_state setup }
 abbrev pub stage_after : Setup → List Event → Stage
 stage_after setup schedule = stage_from setup (first_stage setup) 0 schedule
 
--- The report is that of a run of the machine: the labels of the log replay whole from the start, its
--- events are all events of the schedule in order, each step that the machine allows is there, and the
--- text is the report of the state at the end and of the log.
-pub record Headline (setup : Setup) (schedule : List Event) (notes : List Note) (text : List ℕ) : Type 0 where
-  pub state : State
+-- The log is that of a run of the schedule: its labels replay whole from the start, to this state; its
+-- events are all events in order; and each event has the label that the machine allows.
+pub record IsRun (setup : Setup) (schedule : List Event) (notes : List Note) (state : State) : Type 0 where
   pub run : replay setup (start_state setup) (labels notes) ≡ Whole state
   pub events : events notes ≡ below (length schedule)
   pub steps : notes ≡ (stage_after setup schedule).notes
-  pub report : text ≡ report_text state.threads notes
+
+-- the report is that of a run of the machine: of the state at its end, and of its log
+pub record Headline (setup : Setup) (schedule : List Event) (notes : List Note) (text : List ℕ) : Type 0 where
+  pub state : State
+  pub run : IsRun setup schedule notes state
+  pub report : text ≡ report_text setup.commands state.threads state.taken notes
+
+-- the journal is that of the log of a run of the machine
+pub record JournalHeadline (setup : Setup) (schedule : List Event) (notes : List Note) (text : List ℕ) : Type 0 where
+  pub state : State
+  pub run : IsRun setup schedule notes state
+  pub journal : text ≡ journal_text_of notes
+
+-- the labels of the notes replay whole from the start, and the report is of the state there and of the notes
+abbrev pub IsReportOf : Setup → List Note → List ℕ → Type 0
+IsReportOf setup notes text =
+    (state : State) × (replay setup (start_state setup) (labels notes) ≡ Whole state) × (text ≡ report_text setup.commands state.threads state.taken notes)
+
+-- the first label that is not enabled has this number, counted from 0
+abbrev pub IsStuckAt : Setup → List Note → ℕ → Type 0
+IsStuckAt setup notes n = (state : State) × (replay setup (start_state setup) (labels notes) ≡ Stuck n state)
+
+-- what the notes of a journal were checked to be: a run with its report, or none
+abbrev pub Checks : Setup → List Note → Checked → Type 0
+Checks setup notes (Report text) = IsReportOf setup notes text.items
+Checks setup notes (NotARun n) = IsStuckAt setup notes n
 
 abbrev pub is_event : Note → Bool
 is_event note = is_some (event_of note)

@@ -3,9 +3,10 @@ ghost use Rattle.mind_base.specs.Fit.{IsFit, FitImages};
 ghost use Rattle.mind_base.specs.declared.notes.Note.TheVariants as note;
 ghost use Rattle.tso_machine.specs.State.{start_state};
 ghost use Rattle.tso_machine.specs.Machine.{StandsFor};
-ghost use Rattle.mind_steps.specs.Run.{setup_of, Headline, Stands};
-ghost use Rattle.mind_steps.specs.Running.{DoesStep, DoesEvent, Runs};
+ghost use Rattle.mind_steps.specs.Run.{setup_of, note_of, Headline, JournalHeadline, Stands};
+ghost use Rattle.mind_steps.specs.Running.{DoesLabel, DoesEvent, Runs};
 
+use journal_text::journal;
 use mind_base::{Event, Image, Log, NoMemory, Note, RackPlan};
 use report_text::report;
 use std::alloc::Global;
@@ -21,19 +22,32 @@ pub fn machine_of(alloc: Global, plan: &RackPlan, images: &[Image]) -> Result<Ma
     Machine::start(alloc, plan, images, &[])
 }
 
-/// Has thread `hart` execute one instruction, and notes it where it did.
-fn one_step(machine: &mut Machine, hart: u8, log: &mut Log) -> Result<(), NoMemory>
-    ensures ok { OnOk result (DoesStep hart machine.old log.old.notes machine.new log.new.notes) }
+/// The note of a label.
+fn note_of(label: Label) -> Note
+    ensures { result ≡ note_of label }
+{
+    match label {
+        Label::Exec { hart } => Note::Exec { hart },
+        Label::Drain { hart } => Note::Drain { hart },
+        Label::Command { index } => Note::Command { index },
+    }
+}
+
+/// Has a label take effect, if there is one and it is enabled, and notes it where it did.
+fn one_label(machine: &mut Machine, label: Option<Label>, log: &mut Log) -> Result<(), NoMemory>
+    ensures ok { OnOk result (DoesLabel label machine.old log.old.notes machine.new log.new.notes) }
     ensures setup { machine.new.setup ≡ machine.old.setup }
     ensures err { OnErr result (log.new ≡ log.old) }
 {
-    if machine.step(Label::Exec { hart })? {
-        log.add(Note::Exec { hart })?;
+    if let Some(label) = label {
+        if machine.step(label)? {
+            log.add(note_of(label))?;
+        }
     }
     Ok(())
 }
 
-/// Event number `index`: its note, and behind that of a step what its thread executes.
+/// Event number `index`: its note, and behind that of a step or a drain the label that takes effect.
 fn one_event(machine: &mut Machine, index: u32, event: Event, log: &mut Log) -> Result<(), NoMemory>
     ensures ok { OnOk result (DoesEvent index event machine.old log.old.notes machine.new log.new.notes) }
     ensures setup { machine.new.setup ≡ machine.old.setup }
@@ -41,9 +55,15 @@ fn one_event(machine: &mut Machine, index: u32, event: Event, log: &mut Log) -> 
 {
     log.add(Note::Event { index })?;
     match event {
-        Event::Step { hart } => one_step(machine, hart, log),
-        Event::Drain { .. }
-        | Event::Evict { .. }
+        Event::Step { hart } => {
+            let label = machine.step_label(hart);
+            one_label(machine, label, log)
+        }
+        Event::Drain { hart } => {
+            let label = machine.drain_label(hart);
+            one_label(machine, label, log)
+        }
+        Event::Evict { .. }
         | Event::Deliver { .. }
         | Event::Lose { .. }
         | Event::Repeat { .. }
@@ -67,10 +87,32 @@ fn all_events(machine: &mut Machine, schedule: &[Event], log: &mut Log) -> Resul
     Ok(())
 }
 
+/// Runs a schedule of at most 1000000 events on the machine of a fit plan and its images, and gives the
+/// machine at the end. The log, empty before, gets the notes of the run.
+fn run_all(
+    alloc: Global,
+    plan: &RackPlan,
+    images: &[Image],
+    schedule: &[Event],
+    log: &mut Log,
+) -> Result<Machine, NoMemory>
+    requires fit { IsFit plan.now }
+    requires images { FitImages plan.now.images images.now }
+    requires few { length schedule.now ≤ 1000000 }
+    requires empty { log.old.notes ≡ [] }
+    ensures ok { IfOk result (λ machine. Runs (setup_of plan.now images.now) schedule.now machine log.new.notes) }
+    ensures err { OnErr result (Stands (setup_of plan.now images.now) log.new.notes) }
+{
+    let mut machine = machine_of(alloc, plan, images)?;
+    all_events(&mut machine, schedule, log)?;
+    Ok(machine)
+}
+
 /// Runs a schedule of at most 1000000 events on the machine of a fit plan and its images. The log, empty
 /// before, gets the notes of the run, and the answer is the report. A step executes one instruction of its
-/// thread where the thread can; every other event is only noted. After an error of memory the labels
-/// before the last event of the log still replay.
+/// thread where the thread can, or drains its oldest store where that must come first; a drain drains one;
+/// every other event is only noted. After an error of memory the labels before the last event of the log
+/// still replay.
 pub fn run(
     alloc: Global,
     plan: &RackPlan,
@@ -85,8 +127,27 @@ pub fn run(
     ensures ok { IfOk result (λ text. Headline (setup_of plan.now images.now) schedule.now log.new.notes text.items) }
     ensures err { OnErr result (Stands (setup_of plan.now images.now) log.new.notes) }
 {
-    let mut machine = machine_of(alloc, plan, images)?;
-    all_events(&mut machine, schedule, log)?;
+    let machine = run_all(alloc, plan, images, schedule, log)?;
     let text = report(alloc, plan, &machine, &[], log)?;
+    Ok(text)
+}
+
+/// The same run, and the answer is the journal of its log.
+pub fn run_journal(
+    alloc: Global,
+    plan: &RackPlan,
+    images: &[Image],
+    schedule: &[Event],
+    log: &mut Log,
+) -> Result<Vec<u8>, NoMemory>
+    requires fit { IsFit plan.now }
+    requires images { FitImages plan.now.images images.now }
+    requires few { length schedule.now ≤ 1000000 }
+    requires empty { log.old.notes ≡ [] }
+    ensures ok { IfOk result (λ text. JournalHeadline (setup_of plan.now images.now) schedule.now log.new.notes text.items) }
+    ensures err { OnErr result (Stands (setup_of plan.now images.now) log.new.notes) }
+{
+    run_all(alloc, plan, images, schedule, log)?;
+    let text = journal(alloc, log)?;
     Ok(text)
 }
