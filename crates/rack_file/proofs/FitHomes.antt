@@ -1,21 +1,17 @@
 -- What is accepted is a fit plan: its memory blades.
-use Rattle.std.proofs.Common.{◌≡◌, ℕ, ◌+◌, ◌≤◌, ◌∙◌, Bool, true, false, not, ◌&&◌, nat_le, codes, List, [], ◌∷◌, ◌++◌, length, refl, sym, ap, subst, Ok, arith, append_assoc}
-use Rattle.std.specs.List.{AllByRecursion, list_any}
+use Rattle.std.proofs.Common.{◌≡◌, ℕ, ◌+◌, ◌≤◌, ◌∙◌, true, ◌&&◌, nat_le, codes, List, [], ◌∷◌, ◌++◌, length, refl, sym, ap, subst, Ok, arith, append_assoc}
+use Rattle.std.specs.List.{AllByRecursion}
 use Rattle.std.proofs.lemmas.Grind.{common_steps}
 use Rattle.mind_base.specs.Span.{SpanView}
 use Rattle.mind_base.specs.Fit.{Within, AreApart, IsFitMemory, all_homes}
 use Rattle.mind_base.specs.declared.plans.MemoryPlan.{MemoryPlan}
 use Rattle.toml.specs.Data.{Data, Members, get_member, as_table}
 use Rattle.rack_file.specs.Keys.{and_then, demand, within, kind_judged, keys_judged, known_judged, key_judged, number_at, array_judged, items_judged, under}
-use Rattle.rack_file.specs.Tables.{span_keys, memory_keys, pages_key, names_in, table_judged, span_at, meets, home_judged, homes_judged, memory_judged, memories_judged, home_pages}
+use Rattle.rack_file.specs.Tables.{span_keys, memory_keys, pages_key, names_in, table_judged, span_at, is_apart, home_judged, homes_judged, memory_judged, memories_judged, home_pages}
 use Rattle.rack_file.specs.declared.refusals.RackFault.TheVariants.{Overlap, Limit}
 use Rattle.rack_file.specs.declared.sections.Section.TheVariants as section
 use Rattle.rack_file.proofs.Accepted.{both-ok, demand-ok, number-ok, all-push, items-keep, items-count, array-ok}
 use Rattle.rack_file.proofs.Fitness.{all-keys, number-in, table-keys, apart-push}
-
-not-true : (b : Bool) → not b ≡ true → b ≡ false
-not-true true e = sym e
-not-true false e = refl
 
 most-pages : (base n : ℕ) → (within 1 4096 n && nat_le (base + n) 1048576) ≡ true → n ≤ 4096
 most-pages base n e = grind (arith, common_steps, e)
@@ -24,19 +20,19 @@ pub pages-most : (path : List ℕ) (table : Members) → key_judged path table p
 pages-most path table e = most-pages (number_at (codes "page") table) _
     (number-ok (λ n. within 1 4096 n && nat_le (number_at (codes "page") table + n) 1048576) (under path (codes "pages")) (get_member (codes "pages") table) tt e)
 
-home-fit : (earlier : List SpanView) (path : List ℕ) (d : Data) (span : SpanView) → home_judged earlier path d ≡ Ok span → (span.pages ≤ 4096) × (list_any (meets span) earlier ≡ false)
+home-fit : (earlier : List SpanView) (path : List ℕ) (d : Data) (span : SpanView) → home_judged (is_apart earlier) path d ≡ Ok span → (span.pages ≤ 4096) × (is_apart earlier span ≡ true)
 home-fit earlier path d span e =
-    let (table, is, rest) = both-ok (table_judged section.Home span_keys path d) (λ table. and_then (demand (not (list_any (meets (span_at table)) earlier)) Overlap path) (λ apart. Ok (span_at table))) span e in
-    let (u, free, last) = both-ok (demand (not (list_any (meets (span_at table)) earlier)) Overlap path) (λ apart. Ok (span_at table)) span rest in
+    let (table, is, rest) = both-ok (table_judged section.Home span_keys path d) (λ table. and_then (demand (is_apart earlier (span_at table)) Overlap path) (λ free. Ok (span_at table))) span e in
+    let (u, free, last) = both-ok (demand (is_apart earlier (span_at table)) Overlap path) (λ free. Ok (span_at table)) span rest in
     let same : span_at table ≡ span = cc in
     let all = table-keys section.Home span_keys path d table is in
-    let P : SpanView → Type 0 = λ s. (s.pages ≤ 4096) × (list_any (meets s) earlier ≡ false) in
-    subst P same (pages-most path table all.1.1.0, not-true _ (demand-ok _ Overlap path u free))
+    let P : SpanView → Type 0 = λ s. (s.pages ≤ 4096) × (is_apart earlier s ≡ true) in
+    subst P same (pages-most path table all.1.1.0, demand-ok _ Overlap path u free)
 
 abbrev pub KeepsHomes : List SpanView → List SpanView → Type 0
 KeepsHomes earlier homes = AllByRecursion (λ span. span.pages ≤ 4096) homes × AreApart (earlier ++ homes)
 
-home-step : (earlier done : List SpanView) (path : List ℕ) (d : Data) (span : SpanView) → KeepsHomes earlier done → home_judged (earlier ++ done) path d ≡ Ok span → KeepsHomes earlier (done ++ span ∷ [])
+home-step : (earlier done : List SpanView) (path : List ℕ) (d : Data) (span : SpanView) → KeepsHomes earlier done → home_judged (is_apart (earlier ++ done)) path d ≡ Ok span → KeepsHomes earlier (done ++ span ∷ [])
 home-step earlier done path d span kept e =
     let fit = home-fit (earlier ++ done) path d span e in
     (all-push (λ s. s.pages ≤ 4096) done span kept.0 fit.0, subst AreApart (append_assoc earlier done (span ∷ [])) (apart-push (earlier ++ done) span kept.1 fit.1))
@@ -48,11 +44,11 @@ append-nil (x ∷ xs) = ap (λ ys. x ∷ ys) (append-nil xs)
 homes-fit : (earlier : List SpanView) (path : List ℕ) (table : Members) (homes : List SpanView) → AreApart earlier → homes_judged earlier path table ≡ Ok homes → Within 1 16 (length homes) × KeepsHomes earlier homes
 homes-fit earlier path table homes apart e =
     let place = under path (codes "homes") in
-    let (items, is, walk) = both-ok (array_judged place 1 16 (get_member (codes "homes") table)) (λ items. items_judged (λ done. home_judged (earlier ++ done)) place [] items) homes e in
+    let (items, is, walk) = both-ok (array_judged place 1 16 (get_member (codes "homes") table)) (λ items. items_judged (λ done. home_judged (is_apart (earlier ++ done))) place [] items) homes e in
     let fits = array-ok place 1 16 (get_member (codes "homes") table) items is in
-    let n = items-count (λ done. home_judged (earlier ++ done)) place items [] homes walk in (
+    let n = items-count (λ done. home_judged (is_apart (earlier ++ done))) place items [] homes walk in (
       (omega (arith, n, fits.0), omega (arith, n, fits.1)),
-      items-keep (λ done. home_judged (earlier ++ done)) place (KeepsHomes earlier) (λ done at d x so_far ok. home-step earlier done at d x so_far ok) items [] homes (tt, subst AreApart (sym (append-nil earlier)) apart) walk,
+      items-keep (λ done. home_judged (is_apart (earlier ++ done))) place (KeepsHomes earlier) (λ done at d x so_far ok. home-step earlier done at d x so_far ok) items [] homes (tt, subst AreApart (sym (append-nil earlier)) apart) walk,
     )
 
 memory-fit : (done : List MemoryPlan) (path : List ℕ) (d : Data) (m : MemoryPlan) → AreApart (all_homes done) → memory_judged done path d ≡ Ok m → IsFitMemory m × AreApart (all_homes done ++ m.homes)
@@ -72,7 +68,7 @@ memory-fit done path d m apart e =
     let spare = number-in path table (codes "spare") 0 4096 all.0 in
     let fit = homes-fit (all_homes done) path table homes apart hs in
     let P : MemoryPlan → Type 0 = λ p. IsFitMemory p × AreApart (all_homes done ++ p.homes) in
-    subst P same (record { spare = spare.1; homes = fit.0; pages = fit.1.0 }, fit.1.1)
+    subst P {x = plan} same (record { spare = spare.1; homes = fit.0; pages = fit.1.0 }, fit.1.1)
 
 homes-push : (ms : List MemoryPlan) (m : MemoryPlan) → all_homes ms ++ m.homes ≡ all_homes (ms ++ m ∷ [])
 homes-push [] m = sym (append-nil m.homes)

@@ -23,7 +23,7 @@ use Rattle.rack_file.specs.Racks.{plan_of, top_judged}
 use Rattle.rack_file.specs.declared.refusals.RackFault.TheVariants.{Overlap, Unplaced, Slots}
 use Rattle.rack_file.specs.declared.sections.Section.TheVariants as section
 use Rattle.rack_file.proofs.Accepted.{both-ok, demand-ok, all-push, items-keep, items-count, array-ok}
-use Rattle.rack_file.proofs.Fitness.{table-keys, settings-fit, blades-fit, images-fit, threads-fit}
+use Rattle.rack_file.proofs.Fitness.{in-span, table-keys, settings-fit, blades-fit, images-fit, threads-fit}
 use Rattle.rack_file.proofs.FitHomes.{pages-most, memories-fit}
 
 -- a permission that a text names is one
@@ -48,9 +48,6 @@ uncovered p (m ∷ ms) page some e =
     let more = uncovered (cond (in_span m.span page) m.perm p) ms page some.1 e in
     let here = covered-one (in_span m.span page) m.perm p some.0 more.1 in
     ((here.0, more.0), here.1)
-
-in-span : (span : SpanView) (page : PageView) → InSpan span page → in_span span page ≡ true
-in-span span page h = grind (arith, common_steps, h.domain, h.from, h.below)
 
 -- runs that share no page with the last one
 apart-last : (maps : List MapPlan) (x : SpanView) → ((page : PageView) → InSpan x page → AllByRecursion (λ m. in_span m.span page ≡ false) maps)
@@ -147,14 +144,15 @@ top-fit top plan e =
     let (threads, eh, r5) = both-ok (threads_judged (length frames) (length images) top) (λ threads.
     and_then (maps_judged (are_placed memories) s.protect top) (λ maps. Ok (plan_of s frames memories images threads maps))) plan r4 in
     let (maps, ep, r6) = both-ok (maps_judged (are_placed memories) s.protect top) (λ maps. Ok (plan_of s frames memories images threads maps)) plan r5 in
-    let same : plan_of s frames memories images threads maps ≡ plan = cc in
+    let read : RackPlan = plan_of s frames memories images threads maps in
+    let same : read ≡ plan = cc in
     let fs = settings-fit top s es in
     let ff = blades-fit top frames ef in
     let fm = memories-fit top memories em in
     let fi = images-fit top images ei in
     let fh = threads-fit (length frames) (length images) top threads ((ff.0).0) ((fi.0).0) eh in
     let fp = maps-fit memories s.protect top maps ep in
-    let found : IsFit (plan_of s frames memories images threads maps) = record {
+    let found : IsFit read = record {
       slots = fs.slots;
       protect = fs.protect;
       outliers = fs.outliers;
@@ -176,4 +174,4 @@ top-fit top plan e =
       maps_apart = (fp.kept).1;
       cover = fp.cover;
     } in
-    subst IsFit same found
+    subst IsFit {x = read} same found

@@ -1,14 +1,17 @@
 -- What is accepted is a fit plan: the settings, blades, memory blades, images and threads.
-use Rattle.std.proofs.Common.{◌≡◌, ℕ, ◌-◌, ◌%◌, ◌≤◌, true, false, ◌&&◌, ◌==◌, nat_le, codes, List, [], ◌∷◌, ◌++◌, length, subst, Ok, arith}
+use Rattle.std.proofs.Common.{◌≡◌, ℕ, ◌-◌, ◌%◌, ◌≤◌, Bool, true, false, not, ◌||◌, ◌&&◌, ◌==◌, nat_le, codes, List, [], ◌∷◌, ◌++◌, length, refl, sym, subst, Ok, arith}
 use Rattle.std.specs.List.{AllByRecursion, list_any}
 use Rattle.std.proofs.lemmas.Grind.{common_steps}
-use Rattle.mind_base.specs.Span.{SpanView}
+use Rattle.mind_base.specs.Page.{PageView}
+use Rattle.mind_base.specs.Span.{SpanView, InSpan}
+use Rattle.mind_base.specs.Home.{in_span}
 use Rattle.mind_base.specs.Fit.{Within, IsApart, AreApart, IsFitImage, IsFitThread}
 use Rattle.mind_base.specs.declared.plans.ImagePlan.{ImagePlan}
 use Rattle.mind_base.specs.declared.plans.ThreadPlan.{ThreadPlan}
+use Rattle.control_plane.proofs.Runs.{all_in-holds}
 use Rattle.toml.specs.Data.{Data, Members, get_member, as_table}
 use Rattle.rack_file.specs.Keys.{and_then, Key, within, number_key, kind_judged, key_judged, keys_judged, known_judged, number_at, text_at, array_judged, items_judged, under}
-use Rattle.rack_file.specs.Tables.{top_keys, blade_keys, image_keys, thread_keys, names_in, table_judged, blade_judged, blades_judged, image_judged, images_judged, thread_judged, threads_judged, thread_at, meets}
+use Rattle.rack_file.specs.Tables.{top_keys, blade_keys, image_keys, thread_keys, names_in, table_judged, blade_judged, blades_judged, image_judged, images_judged, thread_judged, threads_judged, thread_at, is_apart}
 use Rattle.rack_file.specs.Settings.{settings_at, settings_judged}
 use Rattle.rack_file.specs.declared.sections.Section.{Section}
 use Rattle.rack_file.specs.declared.sections.Section.TheVariants as section
@@ -139,10 +142,31 @@ threads-fit blades images top threads some_blade some_image e =
 
 -- ---- runs that share no page
 
-apart-from : (a b : SpanView) → meets a b ≡ false → IsApart b a
-apart-from a b e page in_b in_a = grind (arith, common_steps, e, in_a.domain, in_a.from, in_a.below, in_b.domain, in_b.from, in_b.below)
+pub in-span : (span : SpanView) (page : PageView) → InSpan span page → in_span span page ≡ true
+in-span span page h = grind (arith, common_steps, h.domain, h.from, h.below)
 
-pub apart-push : (xs : List SpanView) (x : SpanView) → AreApart xs → list_any (meets x) xs ≡ false → AreApart (xs ++ x ∷ [])
-apart-push [] x apart none = (tt, tt)
-apart-push (y ∷ ys) x apart none =
-    (all-push (IsApart y) ys x apart.0 (apart-from x y (grind (arith, common_steps, none))), apart-push ys x apart.1 (grind (arith, common_steps, none)))
+pub not-true : (b : Bool) → not b ≡ true → b ≡ false
+not-true true e = sym e
+not-true false e = refl
+
+neither : (a b : Bool) → (a || b) ≡ false → (a ≡ false) × (b ≡ false)
+neither true b e = absurd (cc)
+neither false b e = (refl, e)
+
+in-none : (xs : List SpanView) (page : PageView) → list_any (λ x. in_span x page) xs ≡ false → AllByRecursion (λ x. in_span x page ≡ false) xs
+in-none [] page e = tt
+in-none (x ∷ xs) page e = let parts = neither (in_span x page) (list_any (λ y. in_span y page) xs) e in (parts.0, in-none xs page parts.1)
+
+-- a run with no page in any of these
+apart-last : (xs : List SpanView) (x : SpanView) → ((page : PageView) → InSpan x page → AllByRecursion (λ y. in_span y page ≡ false) xs) → AllByRecursion (λ y. IsApart y x) xs
+apart-last [] x h = tt
+apart-last (y ∷ ys) x h =
+    ((λ page in_y in_x. let outside = (h page in_x).0 in let inside = in-span y page in_y in cc), apart-last ys x (λ page in_x. (h page in_x).1))
+
+apart-more : (xs : List SpanView) (x : SpanView) → AreApart xs → AllByRecursion (λ y. IsApart y x) xs → AreApart (xs ++ x ∷ [])
+apart-more [] x apart all = (tt, tt)
+apart-more (y ∷ ys) x apart all = (all-push (IsApart y) ys x apart.0 all.0, apart-more ys x apart.1 all.1)
+
+pub apart-push : (xs : List SpanView) (x : SpanView) → AreApart xs → is_apart xs x ≡ true → AreApart (xs ++ x ∷ [])
+apart-push xs x apart free =
+    apart-more xs x apart (apart-last xs x (λ page in_x. in-none xs page (not-true _ (all_in-holds x (λ p. not (list_any (λ y. in_span y p) xs)) free page in_x))))

@@ -1,7 +1,8 @@
 -- Homes of pages: which runs meet, and how many pages they have.
-use Rattle.std.proofs.Common.{◌≡◌, ℕ, ◌+◌, ◌-◌, ◌<◌, ◌≤◌, ◌∙◌, Bool, true, false, ◌||◌, List, [], ◌∷◌, ◌++◌, length, drop, get_or, refl, sym, ap, None, arith, zero-add}
+use Rattle.std.proofs.Common.{◌≡◌, ℕ, ◌+◌, ◌-◌, ◌<◌, ◌≤◌, ◌∙◌, Bool, ◌||◌, List, [], ◌∷◌, ◌++◌, length, drop, get_or, refl, sym, ap, None, arith, zero-add}
 use Rattle.std.specs.List.{list_any}
 use Rattle.std.proofs.lemmas.List.{drop_more}
+use Rattle.std.proofs.lemmas.List.Folds.{list_any-append}
 use Rattle.std.proofs.lemmas.Grind.{common_steps}
 use Rattle.std.proofs.lemmas.List.Sums.{sum-map, sum_by-cons}
 use Rattle.mind_base.specs.Span.{SpanView}
@@ -9,21 +10,9 @@ use Rattle.mind_base.specs.Fit.{all_homes}
 use Rattle.mind_base.specs.declared.plans.MemoryPlan.{MemoryPlan}
 use Rattle.rack_file.specs.Tables.{pages_in, home_pages, left_after}
 
-or-assoc : (a b c : Bool) → (a || b || c) ≡ (a || (b || c))
-or-assoc true b c = refl
-or-assoc false b c = refl
-
-any-append : (p : SpanView → Bool) (xs ys : List SpanView) → list_any p (xs ++ ys) ≡ (list_any p xs || list_any p ys)
-any-append p [] ys = refl
-any-append p (x ∷ xs) ys = ap (λ b. p x || b) (any-append p xs ys) ∙ sym (or-assoc (p x) (list_any p xs) (list_any p ys))
-
 pub any-all : (p : SpanView → Bool) (ms : List MemoryPlan) → list_any (λ m. list_any p m.homes) ms ≡ list_any p (all_homes ms)
 any-all p [] = refl
-any-all p (m ∷ ms) = ap (λ b. list_any p m.homes || b) (any-all p ms) ∙ sym (any-append p m.homes (all_homes ms))
-
--- a run in the homes of some memory blade, or in these
-pub any-homes : (p : SpanView → Bool) (ms : List MemoryPlan) (hs : List SpanView) → (list_any (λ m. list_any p m.homes) ms || list_any p hs) ≡ list_any p (all_homes ms ++ hs)
-any-homes p ms hs = ap (λ b. b || list_any p hs) (any-all p ms) ∙ sym (any-append p (all_homes ms) hs)
+any-all p (m ∷ ms) = ap (λ b. list_any p m.homes || b) (any-all p ms) ∙ sym (list_any-append p m.homes (all_homes ms))
 
 -- ---- how many pages runs have
 

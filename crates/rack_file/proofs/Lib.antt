@@ -4,6 +4,6 @@ pub mod FitHomes
 pub mod FitMaps
 pub mod Fitness
 pub mod HomePages
+pub mod HomesTable
 pub mod Judging
-pub mod Placing
 pub mod Walks

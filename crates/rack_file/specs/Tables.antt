@@ -1,10 +1,11 @@
 -- The tables of a rack file: their keys, and what each describes.
-use Rattle.std.specs.Prelude.{ℕ, ◌+◌, ◌-◌, ◌%◌, codes, Bool, not, ◌&&◌, ◌||◌, ◌==◌, nat_lt, nat_le, List, [], ◌∷◌, ◌++◌, map, sum, Option, Some, None, Result, Ok, if◌then◌else◌}
+use Rattle.std.specs.Prelude.{ℕ, ◌+◌, ◌-◌, ◌%◌, codes, Bool, not, ◌&&◌, ◌||◌, ◌==◌, nat_le, List, [], ◌∷◌, ◌++◌, map, sum, Option, Some, None, Result, Ok, if◌then◌else◌}
 use Rattle.std.specs.List.{list_any}
 use Rattle.std.specs.Str.{bytes_eq}
 use Rattle.toml.specs.Data.{Data, Items, Members, get_member, as_table}
 use Rattle.mind_base.specs.Page.{PageView}
 use Rattle.mind_base.specs.Span.{SpanView}
+use Rattle.mind_base.specs.Home.{in_span}
 use Rattle.mind_base.specs.Name.{is_name}
 use Rattle.mind_base.specs.Fit.{all_homes}
 use Rattle.mind_base.specs.Permission.{permission_of}
@@ -15,7 +16,7 @@ use Rattle.mind_base.specs.declared.plans.MemoryPlan.{MemoryPlan}
 use Rattle.mind_base.specs.declared.plans.ImagePlan.{ImagePlan}
 use Rattle.mind_base.specs.declared.plans.ThreadPlan.{ThreadPlan}
 use Rattle.mind_base.specs.declared.plans.MapPlan.{MapPlan}
-use Rattle.control_plane.specs.Outcome.{are_unmapped}
+use Rattle.control_plane.specs.Outcome.{all_in, are_unmapped}
 use Rattle.rack_file.specs.Keys.{Refused, and_then, demand, Number, Text, OptionalText, Key, within, number_key, kind_judged, keys_judged, names_of, known_judged, number_at, text_at, array_judged, optional_array_judged, items_judged, under}
 use Rattle.rack_file.specs.declared.refusals.RackFault.TheVariants.{Limit, Overlap, Unplaced, Slots}
 use Rattle.rack_file.specs.declared.sections.Section.{Section}
@@ -71,9 +72,13 @@ perm_key = record { name = codes "perm"; rule = λ table. Text (λ text. bytes_e
 abbrev pub map_keys : List Key
 map_keys = span_keys ++ perm_key ∷ []
 
+-- the names of the arrays of the top table
+abbrev pub array_names : List (List ℕ)
+array_names = codes "blade" ∷ codes "memory" ∷ codes "image" ∷ codes "thread" ∷ codes "map" ∷ []
+
 -- the names of all keys that a table may have
 abbrev pub names_in : Section → List (List ℕ)
-names_in section.Top = names_of top_keys ++ codes "blade" ∷ codes "memory" ∷ codes "image" ∷ codes "thread" ∷ codes "map" ∷ []
+names_in section.Top = names_of top_keys ++ array_names
 names_in section.Blade = names_of blade_keys
 names_in section.Memory = names_of memory_keys ++ codes "homes" ∷ []
 names_in section.Home = names_of span_keys
@@ -101,21 +106,21 @@ blades_judged top =
 abbrev pub span_at : Members → SpanView
 span_at table = record { domain = number_at (codes "domain") table; base = number_at (codes "page") table; pages = number_at (codes "pages") table }
 
--- some page is in both runs
-abbrev pub meets : SpanView → SpanView → Bool
-meets a b = a.domain == b.domain && nat_lt a.base (b.base + b.pages) && nat_lt b.base (a.base + a.pages)
+-- no page of a run is in one of these
+abbrev pub is_apart : List SpanView → SpanView → Bool
+is_apart spans span = all_in span (λ page. not (list_any (λ other. in_span other page) spans))
 
--- a home behind the earlier ones, with none of which it shares a page
-abbrev pub home_judged : List SpanView → List ℕ → Data → Result SpanView Refused
-home_judged earlier path datum =
+-- a home, which is refused where it overlaps those before it
+abbrev pub home_judged : (SpanView → Bool) → List ℕ → Data → Result SpanView Refused
+home_judged is_free path datum =
     and_then (table_judged section.Home span_keys path datum) (λ table.
-    and_then (demand (not (list_any (meets (span_at table)) earlier)) Overlap path) (λ apart. Ok (span_at table)))
+    and_then (demand (is_free (span_at table)) Overlap path) (λ free. Ok (span_at table)))
 
--- the homes of a memory blade behind those of earlier ones
+-- the homes of a memory blade behind those of earlier ones, with none of which they share a page
 abbrev pub homes_judged : List SpanView → List ℕ → Members → Result (List SpanView) Refused
 homes_judged earlier path table =
     and_then (array_judged (under path (codes "homes")) 1 16 (get_member (codes "homes") table)) (λ items.
-    items_judged (λ done. home_judged (earlier ++ done)) (under path (codes "homes")) [] items)
+    items_judged (λ done. home_judged (is_apart (earlier ++ done))) (under path (codes "homes")) [] items)
 
 abbrev pub memory_judged : List MemoryPlan → List ℕ → Data → Result MemoryPlan Refused
 memory_judged done path datum =

@@ -1,61 +1,25 @@
-ghost use Rattle.std.specs.Prelude.{◌≡◌, ◌++◌, [], codes, not, ◌||◌, nat_le, length};
-ghost use Rattle.std.specs.List.{list_any};
+ghost use Rattle.std.specs.Prelude.{◌≡◌, ◌++◌, [], codes, nat_le, length};
 ghost use Rattle.toml.specs.View.{view, table_view, items_view};
 ghost use Rattle.mind_base.specs.Fit.{all_homes};
+ghost use Rattle.protect_table.specs.Protect.{permission_at};
+ghost use Rattle.control_plane.specs.Outcome.{are_unmapped};
 ghost use Rattle.rack_file.specs.Keys.{numbered, items_judged};
-ghost use Rattle.rack_file.specs.Tables.{meets, home_judged, homes_judged, memory_judged, memories_judged, home_pages, pages_in, left_after};
+ghost use Rattle.rack_file.specs.Tables.{is_apart, home_judged, homes_judged, memory_judged, memories_judged, home_pages, pages_in, left_after};
 ghost use Rattle.rack_file.specs.Judged.{Gives};
 
 use crate::keys::{array_in, number_in, table_in};
+use crate::placing::{homes_table, is_unmapped, put};
 use crate::refusals::{RackFault, RackRefusal, element_path, key_path, refused};
 use crate::sections::{Section, check_known};
 use crate::tables::span_in;
-use mind_base::{MemoryPlan, Sequence, Span};
+use mind_base::{MemoryPlan, Perm, Sequence, Span};
+use protect_table::Protect;
 use std::alloc::Global;
 use toml::{Table, Value};
 
-fn meets(a: &Span, b: &Span) -> bool
-    ensures { result ≡ meets a.now b.now }
-{
-    a.domain == b.domain && a.base < b.base + b.pages && b.base < a.base + a.pages
-}
-
-fn meets_any(span: &Span, spans: &[Span]) -> bool
-    ensures { result ≡ list_any (meets span.now) spans.now }
-{
-    spans.iter().any(|other| meets(span, other))
-}
-
-fn meets_homes(span: &Span, memories: &[MemoryPlan]) -> bool
-    ensures { result ≡ list_any (λ memory. list_any (meets span.now) memory.homes) memories.now }
-{
-    memories
-        .iter()
-        .any(|memory| meets_any(span, memory.homes.as_slice()))
-}
-
-fn meets_either(span: &Span, memories: &[MemoryPlan], homes: &[Span]) -> bool
-    ensures { result ≡ (list_any (λ memory. list_any (meets span.now) memory.homes) memories.now || list_any (meets span.now) homes.now) }
-{
-    meets_homes(span, memories) || meets_any(span, homes)
-}
-
-/// Whether the run shares no page with a home of these memory blades, or with one of these homes.
-fn is_apart(span: &Span, memories: &[MemoryPlan], homes: &[Span]) -> bool
-    ensures { result ≡ not (list_any (meets span.now) (all_homes memories.now ++ homes.now)) }
-{
-    !meets_either(span, memories, homes)
-}
-
-/// The home that a value describes, behind those of these memory blades and these homes.
-fn home_in(
-    alloc: Global,
-    path: &str,
-    value: &Value,
-    memories: &[MemoryPlan],
-    homes: &[Span],
-) -> Result<Span, RackRefusal>
-    ensures { Gives (λ span. span) result (home_judged (all_homes memories.now ++ homes.now) path.now (view value.now)) }
+/// The home that a value describes, where the table has the earlier ones.
+fn home_in(alloc: Global, path: &str, value: &Value, homes: &Protect) -> Result<Span, RackRefusal>
+    ensures { Gives (λ span. span) result (home_judged (are_unmapped (permission_at homes.now)) path.now (view value.now)) }
 {
     let table = match table_in(alloc, path, value) {
         Ok(table) => table,
@@ -69,46 +33,56 @@ fn home_in(
         Ok(()) => {}
         Err(e) => return Err(e),
     }
-    if is_apart(&span, memories, homes) {
+    if is_unmapped(homes, &span) {
         Ok(span)
     } else {
         Err(refused(alloc, RackFault::Overlap, path))
     }
 }
 
-/// The next home of an array at a path.
+/// The next home of an array at a path, where the table has these and the earlier ones.
 fn next_home(
     alloc: Global,
     path: &str,
     value: &Value,
-    memories: &[MemoryPlan],
     homes: &Sequence<Span>,
+    table: &Protect,
 ) -> Result<Span, RackRefusal>
-    ensures { Gives (λ span. span) result (home_judged (all_homes memories.now ++ homes.now) (numbered path.now (length homes.now)) (view value.now)) }
+    ensures { Gives (λ span. span) result (home_judged (are_unmapped (permission_at table.now)) (numbered path.now (length homes.now)) (view value.now)) }
 {
     let place = match element_path(alloc, path, homes.len()) {
         Ok(place) => place,
         Err(e) => return Err(e),
     };
-    home_in(alloc, place.as_str(), value, memories, homes.as_slice())
+    home_in(alloc, place.as_str(), value, table)
 }
 
+/// The homes of an array at a path, behind those of these memory blades.
 fn homes_of(
     alloc: Global,
     path: &str,
     values: &[Value],
     memories: &[MemoryPlan],
 ) -> Result<Sequence<Span>, RackRefusal>
-    ensures { Gives (λ homes. homes) result (items_judged (λ done. home_judged (all_homes memories.now ++ done)) path.now [] (items_view values.now)) }
+    ensures { Gives (λ homes. homes) result (items_judged (λ done. home_judged (is_apart (all_homes memories.now ++ done))) path.now [] (items_view values.now)) }
 {
     let mut homes = Sequence::new(alloc);
+    let mut table = match homes_table(alloc, memories) {
+        Ok(table) => table,
+        Err(_) => return Err(RackRefusal::NoMemory),
+    };
     for value in values {
-        let home = match next_home(alloc, path, value, memories, &homes) {
+        let home = match next_home(alloc, path, value, &homes, &table) {
             Ok(home) => home,
             Err(e) => return Err(e),
         };
-        if homes.push(home).is_err() {
-            return Err(RackRefusal::NoMemory);
+        match put(&mut table, &home, Perm::R) {
+            Ok(()) => {}
+            Err(_) => return Err(RackRefusal::NoMemory),
+        }
+        match homes.push(home) {
+            Ok(()) => {}
+            Err(_) => return Err(RackRefusal::NoMemory),
         }
     }
     Ok(homes)

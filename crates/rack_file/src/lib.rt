@@ -6,6 +6,7 @@ mod homes;
 mod images;
 mod keys;
 mod maps;
+mod placing;
 mod racks;
 mod refusals;
 mod sections;

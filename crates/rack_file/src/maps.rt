@@ -1,70 +1,23 @@
-ghost use Rattle.std.specs.Prelude.{◌≡◌, ◌++◌, [], codes, map, nat_le, length, Ok, Err, OnOk, IfOk, ◌∷◌};
+ghost use Rattle.std.specs.Prelude.{◌≡◌, [], codes, nat_le, length, IfOk};
 ghost use Rattle.toml.specs.Data.{get_member};
 ghost use Rattle.toml.specs.View.{view, table_view, items_view};
-ghost use Rattle.mind_base.specs.Span.{SpanView};
-ghost use Rattle.mind_base.specs.Fit.{all_homes};
 ghost use Rattle.mind_base.specs.Permission.{permission_of};
 ghost use Rattle.mind_base.specs.Cover.{cover_of};
-ghost use Rattle.protect_table.specs.Protect.{permission_at, changed};
-ghost use Rattle.control_plane.specs.Outcome.{are_mapped, are_unmapped, are_placed};
+ghost use Rattle.protect_table.specs.Protect.{permission_at};
+ghost use Rattle.control_plane.specs.Outcome.{are_mapped, are_placed};
 ghost use Rattle.rack_file.specs.Keys.{numbered, keys_judged, items_judged, optional_array_judged};
-ghost use Rattle.rack_file.specs.Tables.{home_entry, map_at, map_keys, map_judged, maps_judged, maps_within};
+ghost use Rattle.rack_file.specs.Tables.{map_at, map_keys, map_judged, maps_judged, maps_within};
 ghost use Rattle.rack_file.specs.Judged.{Gives, Reads};
 
 use crate::keys::{array_in, member_at, table_in};
+use crate::placing::{homes_table, is_placed, is_unmapped, put};
 use crate::refusals::{RackFault, RackRefusal, element_path, refused};
 use crate::sections::{Section, check_known};
 use crate::tables::{perm_in, span_in};
-use control_plane::apply;
-use mind_base::{Command, MapPlan, MemoryPlan, NoMemory, Perm, Sequence, Span};
+use mind_base::{MapPlan, MemoryPlan, Sequence};
 use protect_table::Protect;
 use std::alloc::Global;
 use toml::{Table, Value};
-
-fn add_entries(entries: &mut Vec<MapPlan>, homes: &[Span]) -> Result<(), NoMemory>
-    ensures { OnOk result (entries.new.items ≡ entries.old.items ++ map home_entry homes.now) }
-{
-    for home in homes {
-        entries.push(MapPlan {
-            span: *home,
-            perm: Perm::R,
-        })?;
-    }
-    Ok(())
-}
-
-fn home_entries(alloc: Global, memories: &[MemoryPlan]) -> Result<Vec<MapPlan>, NoMemory>
-    ensures { IfOk result (λ entries. entries.items ≡ map home_entry (all_homes memories.now)) }
-{
-    let mut entries = Vec::new(alloc);
-    for memory in memories {
-        add_entries(&mut entries, memory.homes.as_slice())?;
-    }
-    Ok(entries)
-}
-
-/// A table in which the pages with a home have a permission.
-fn homes_table(alloc: Global, memories: &[MemoryPlan]) -> Result<Protect, NoMemory>
-    ensures { IfOk result (λ table. are_mapped (permission_at table) ≡ are_placed memories.now) }
-{
-    let entries = home_entries(alloc, memories)?;
-    match Protect::of(alloc, u32::MAX, entries.as_slice()) {
-        Ok(table) => Ok(table),
-        Err(e) => Err(e),
-    }
-}
-
-fn is_placed(homes: &Protect, span: &Span) -> bool
-    ensures { result ≡ are_mapped (permission_at homes.now) span.now }
-{
-    homes.first_without(span).is_none()
-}
-
-fn is_unmapped(mapped: &Protect, span: &Span) -> bool
-    ensures { result ≡ are_unmapped (permission_at mapped.now) span.now }
-{
-    mapped.first_with(span).is_none()
-}
 
 /// The keys of a map's table.
 fn map_from(alloc: Global, path: &str, table: &Table) -> Result<MapPlan, RackRefusal>
@@ -129,23 +82,6 @@ fn next_map(
     map_in(alloc, place.as_str(), value, homes, mapped)
 }
 
-/// Puts a map behind these into the table that has them, and has room for any.
-fn put(mapped: &mut Protect, maps: &Sequence<MapPlan>, entry: &MapPlan) -> Result<(), NoMemory>
-    requires maps { permission_at mapped.old ≡ permission_of maps.now }
-    requires room { mapped.old.slots ≡ 4294967295 }
-    ensures ok { OnOk result (permission_at mapped.new ≡ permission_of (maps.now ++ entry.now ∷ [])) }
-    ensures slots { mapped.new.slots ≡ mapped.old.slots }
-{
-    let command = Command::Map {
-        span: entry.span,
-        perm: entry.perm,
-    };
-    match apply(&command, mapped) {
-        Ok(()) => Ok(()),
-        Err(e) => Err(e),
-    }
-}
-
 /// The maps of an array, and how many blocks they take.
 #[derive(Drop)]
 struct Mapped {
@@ -167,7 +103,7 @@ fn maps_of(alloc: Global, values: &[Value], homes: &Protect) -> Result<Mapped, R
             Ok(entry) => entry,
             Err(e) => return Err(e),
         };
-        match put(&mut table, &maps, &entry) {
+        match put(&mut table, &entry.span, entry.perm) {
             Ok(()) => {}
             Err(_) => return Err(RackRefusal::NoMemory),
         }

@@ -1,9 +1,9 @@
-ghost use Rattle.std.specs.Prelude.{◌≡◌};
+ghost use Rattle.std.specs.Prelude.{◌≡◌, ◌||◌};
 ghost use Rattle.std.specs.List.{list_any};
 ghost use Rattle.std.specs.Str.{bytes_eq};
 ghost use Rattle.toml.specs.View.{table_view};
-ghost use Rattle.rack_file.specs.Keys.{has_only, known_judged};
-ghost use Rattle.rack_file.specs.Tables.{names_in};
+ghost use Rattle.rack_file.specs.Keys.{has_only, known_judged, names_of};
+ghost use Rattle.rack_file.specs.Tables.{top_keys, array_names, names_in};
 ghost use Rattle.rack_file.specs.Judged.{Gives};
 
 use crate::refusals::{RackFault, RackRefusal, refused_table};
@@ -22,8 +22,8 @@ pub(crate) enum Section {
     Map,
 }
 
-fn is_top_key(key: &str) -> bool
-    ensures { result ≡ list_any (λ name. bytes_eq key.now name) (names_in Section.Top) }
+fn is_setting_key(key: &str) -> bool
+    ensures { result ≡ list_any (λ name. bytes_eq key.now name) (names_of top_keys) }
 {
     key == "format"
         || key == "slots"
@@ -33,11 +33,54 @@ fn is_top_key(key: &str) -> bool
         || key == "most"
         || key == "threshold"
         || key == "policy"
-        || key == "blade"
-        || key == "memory"
-        || key == "image"
-        || key == "thread"
-        || key == "map"
+}
+
+fn is_array_key(key: &str) -> bool
+    ensures { result ≡ list_any (λ name. bytes_eq key.now name) array_names }
+{
+    key == "blade" || key == "memory" || key == "image" || key == "thread" || key == "map"
+}
+
+fn is_setting_or_array_key(key: &str) -> bool
+    ensures { result ≡ (list_any (λ name. bytes_eq key.now name) (names_of top_keys) || list_any (λ name. bytes_eq key.now name) array_names) }
+{
+    is_setting_key(key) || is_array_key(key)
+}
+
+fn is_top_key(key: &str) -> bool
+    ensures { result ≡ list_any (λ name. bytes_eq key.now name) (names_in Section.Top) }
+{
+    is_setting_or_array_key(key)
+}
+
+fn is_memory_key(key: &str) -> bool
+    ensures { result ≡ list_any (λ name. bytes_eq key.now name) (names_in Section.Memory) }
+{
+    key == "spare" || key == "homes"
+}
+
+fn is_home_key(key: &str) -> bool
+    ensures { result ≡ list_any (λ name. bytes_eq key.now name) (names_in Section.Home) }
+{
+    key == "domain" || key == "page" || key == "pages"
+}
+
+fn is_image_key(key: &str) -> bool
+    ensures { result ≡ list_any (λ name. bytes_eq key.now name) (names_in Section.Image) }
+{
+    key == "name" || key == "at"
+}
+
+fn is_thread_key(key: &str) -> bool
+    ensures { result ≡ list_any (λ name. bytes_eq key.now name) (names_in Section.Thread) }
+{
+    key == "blade" || key == "domain" || key == "image" || key == "queue"
+}
+
+fn is_map_key(key: &str) -> bool
+    ensures { result ≡ list_any (λ name. bytes_eq key.now name) (names_in Section.Map) }
+{
+    key == "domain" || key == "page" || key == "pages" || key == "perm"
 }
 
 fn is_known(section: Section, key: &str) -> bool
@@ -46,11 +89,11 @@ fn is_known(section: Section, key: &str) -> bool
     match section {
         Section::Top => is_top_key(key),
         Section::Blade => key == "frames",
-        Section::Memory => key == "spare" || key == "homes",
-        Section::Home => key == "domain" || key == "page" || key == "pages",
-        Section::Image => key == "name" || key == "at",
-        Section::Thread => key == "blade" || key == "domain" || key == "image" || key == "queue",
-        Section::Map => key == "domain" || key == "page" || key == "pages" || key == "perm",
+        Section::Memory => is_memory_key(key),
+        Section::Home => is_home_key(key),
+        Section::Image => is_image_key(key),
+        Section::Thread => is_thread_key(key),
+        Section::Map => is_map_key(key),
     }
 }
 

@@ -3,23 +3,9 @@ use crate::*;
 use mind_base::{ImagePlan, Name};
 use std::test::Fail;
 
-const TOP: &str =
-    "format = 1\nslots = 4\nprotect = 8\noutliers = 2\nregion = 0\nmost = 9\nthreshold = 0\n";
-
-const BLADES: &str = "[[blade]]\nframes = 2\n[[blade]]\nframes = 2\n";
-
-const FIRST_MEMORY: &str =
-    "[[memory]]\nspare = 4\nhomes = [{ domain = 0, page = 0, pages = 16 }]\n";
-
-const SECOND_MEMORY: &str =
-    "[[memory]]\nspare = 4\nhomes = [{ domain = 0, page = 16, pages = 16 }]\n";
-
-const IMAGES: &str = "[[image]]\nname = \"a.bin\"\nat = 0\n[[image]]\nname = \"b.bin\"\nat = 0\n";
-
-const THREADS: &str =
-    "[[thread]]\nblade = 0\ndomain = 0\nimage = 0\nqueue = 2\n[[thread]]\nblade = 1\ndomain = 0\nimage = 1\nqueue = 2\n";
-
-const MAP: &str = "[[map]]\ndomain = 0\npage = 1\npages = 2\nperm = \"rw\"\n";
+/// Two compute blades, two memory blades with one home each, two images, two threads, one map.
+const BASE: &str =
+    "format = 1\nslots = 4\nprotect = 8\noutliers = 2\nregion = 0\nmost = 9\nthreshold = 0\n[[blade]]\nframes = 2\n[[blade]]\nframes = 2\n[[memory]]\nspare = 4\nhomes = [{ domain = 0, page = 0, pages = 16 }]\n[[memory]]\nspare = 4\nhomes = [{ domain = 0, page = 16, pages = 16 }]\n[[image]]\nname = \"a.bin\"\nat = 0\n[[image]]\nname = \"b.bin\"\nat = 0\n[[thread]]\nblade = 0\ndomain = 0\nimage = 0\nqueue = 2\n[[thread]]\nblade = 1\ndomain = 0\nimage = 1\nqueue = 2\n[[map]]\ndomain = 0\npage = 1\npages = 2\nperm = \"rw\"\n";
 
 fn joined(rt: &HostRuntime, parts: &[&str]) -> Result<String, Fail> {
     let mut text = String::new(rt.alloc());
@@ -56,19 +42,7 @@ fn answer(rt: &HostRuntime, rack: &[u8]) -> Result<String, Fail> {
 
 #[test]
 fn a_rack_is_read(rt: HostRuntime) -> Result<(), Fail> {
-    let text = joined(
-        &rt,
-        &[
-            TOP,
-            BLADES,
-            FIRST_MEMORY,
-            SECOND_MEMORY,
-            IMAGES,
-            THREADS,
-            MAP,
-        ],
-    )?;
-    match rack_of(rt.alloc(), text.as_bytes()) {
+    match rack_of(rt.alloc(), BASE.as_bytes()) {
         Ok(plan) => {
             assert_eq!(rt; plan.protect, 8);
             assert_eq!(rt; plan.most, 9);
@@ -83,105 +57,453 @@ fn a_rack_is_read(rt: HostRuntime) -> Result<(), Fail> {
     Ok(())
 }
 
-/// A rack file, and what stands of its refusal behind `refused rack`.
-struct Row {
-    rack: &'static [u8],
-    wanted: &'static str,
-}
+/// A place of the base rack, what stands there in its stead, how many times, and the answer: `ok`, or
+/// what stands of the refusal behind `refused rack`.
+type Row = (&'static str, &'static str, usize, &'static str);
 
-static BAD: [Row; 21] = [
-    Row {
-        rack: b"\xff",
-        wanted: "toml ",
-    },
-    Row {
-        rack: b"format =",
-        wanted: "toml ",
-    },
-    Row {
-        rack: b"format = 1\nprotect = 8\noutliers = 2\nregion = 0\nmost = 9\nthreshold = 0\n[[blade]]\nframes = 2\n[[blade]]\nframes = 2\n[[memory]]\nspare = 4\nhomes = [{ domain = 0, page = 0, pages = 16 }]\n[[memory]]\nspare = 4\nhomes = [{ domain = 0, page = 16, pages = 16 }]\n[[image]]\nname = \"a.bin\"\nat = 0\n[[image]]\nname = \"b.bin\"\nat = 0\n[[thread]]\nblade = 0\ndomain = 0\nimage = 0\nqueue = 2\n[[thread]]\nblade = 1\ndomain = 0\nimage = 1\nqueue = 2\n[[map]]\ndomain = 0\npage = 1\npages = 2\nperm = \"rw\"\n",
-        wanted: "missing slots",
-    },
-    Row {
-        rack: b"slots = \"4\"\nformat = 1\nprotect = 8\noutliers = 2\nregion = 0\nmost = 9\nthreshold = 0\n[[blade]]\nframes = 2\n[[blade]]\nframes = 2\n[[memory]]\nspare = 4\nhomes = [{ domain = 0, page = 0, pages = 16 }]\n[[memory]]\nspare = 4\nhomes = [{ domain = 0, page = 16, pages = 16 }]\n[[image]]\nname = \"a.bin\"\nat = 0\n[[image]]\nname = \"b.bin\"\nat = 0\n[[thread]]\nblade = 0\ndomain = 0\nimage = 0\nqueue = 2\n[[thread]]\nblade = 1\ndomain = 0\nimage = 1\nqueue = 2\n[[map]]\ndomain = 0\npage = 1\npages = 2\nperm = \"rw\"\n",
-        wanted: "kind slots",
-    },
-    Row {
-        rack: b"slots = 0\nformat = 1\nprotect = 8\noutliers = 2\nregion = 0\nmost = 9\nthreshold = 0\n[[blade]]\nframes = 2\n[[blade]]\nframes = 2\n[[memory]]\nspare = 4\nhomes = [{ domain = 0, page = 0, pages = 16 }]\n[[memory]]\nspare = 4\nhomes = [{ domain = 0, page = 16, pages = 16 }]\n[[image]]\nname = \"a.bin\"\nat = 0\n[[image]]\nname = \"b.bin\"\nat = 0\n[[thread]]\nblade = 0\ndomain = 0\nimage = 0\nqueue = 2\n[[thread]]\nblade = 1\ndomain = 0\nimage = 1\nqueue = 2\n[[map]]\ndomain = 0\npage = 1\npages = 2\nperm = \"rw\"\n",
-        wanted: "limit slots",
-    },
-    Row {
-        rack: b"slots = -1\nformat = 1\nprotect = 8\noutliers = 2\nregion = 0\nmost = 9\nthreshold = 0\n[[blade]]\nframes = 2\n[[blade]]\nframes = 2\n[[memory]]\nspare = 4\nhomes = [{ domain = 0, page = 0, pages = 16 }]\n[[memory]]\nspare = 4\nhomes = [{ domain = 0, page = 16, pages = 16 }]\n[[image]]\nname = \"a.bin\"\nat = 0\n[[image]]\nname = \"b.bin\"\nat = 0\n[[thread]]\nblade = 0\ndomain = 0\nimage = 0\nqueue = 2\n[[thread]]\nblade = 1\ndomain = 0\nimage = 1\nqueue = 2\n[[map]]\ndomain = 0\npage = 1\npages = 2\nperm = \"rw\"\n",
-        wanted: "limit slots",
-    },
-    Row {
-        rack: b"format = 1\nslots = 4\nprotect = 8\noutliers = 2\nregion = 1\nmost = 0\nthreshold = 0\n[[blade]]\nframes = 2\n[[blade]]\nframes = 2\n[[memory]]\nspare = 4\nhomes = [{ domain = 0, page = 0, pages = 16 }]\n[[memory]]\nspare = 4\nhomes = [{ domain = 0, page = 16, pages = 16 }]\n[[image]]\nname = \"a.bin\"\nat = 0\n[[image]]\nname = \"b.bin\"\nat = 0\n[[thread]]\nblade = 0\ndomain = 0\nimage = 0\nqueue = 2\n[[thread]]\nblade = 1\ndomain = 0\nimage = 1\nqueue = 2\n[[map]]\ndomain = 0\npage = 1\npages = 2\nperm = \"rw\"\n",
-        wanted: "limit most",
-    },
-    Row {
-        rack: b"color = 1\nformat = 1\nslots = 4\nprotect = 8\noutliers = 2\nregion = 0\nmost = 9\nthreshold = 0\n[[blade]]\nframes = 2\n[[blade]]\nframes = 2\n[[memory]]\nspare = 4\nhomes = [{ domain = 0, page = 0, pages = 16 }]\n[[memory]]\nspare = 4\nhomes = [{ domain = 0, page = 16, pages = 16 }]\n[[image]]\nname = \"a.bin\"\nat = 0\n[[image]]\nname = \"b.bin\"\nat = 0\n[[thread]]\nblade = 0\ndomain = 0\nimage = 0\nqueue = 2\n[[thread]]\nblade = 1\ndomain = 0\nimage = 1\nqueue = 2\n[[map]]\ndomain = 0\npage = 1\npages = 2\nperm = \"rw\"\n",
-        wanted: "unknown top",
-    },
-    Row {
-        rack: b"color = 1\nformat = 1\nslots = 4\nprotect = 8\noutliers = 2\nregion = 0\nmost = 9\nthreshold = 0\n[[blade]]\nframes = 0\n[[blade]]\nframes = 2\n[[memory]]\nspare = 4\nhomes = [{ domain = 0, page = 0, pages = 16 }]\n[[memory]]\nspare = 4\nhomes = [{ domain = 0, page = 16, pages = 16 }]\n[[image]]\nname = \"a.bin\"\nat = 0\n[[image]]\nname = \"b.bin\"\nat = 0\n[[thread]]\nblade = 0\ndomain = 0\nimage = 0\nqueue = 2\n[[thread]]\nblade = 1\ndomain = 0\nimage = 1\nqueue = 2\n[[map]]\ndomain = 0\npage = 1\npages = 2\nperm = \"rw\"\n",
-        wanted: "unknown top",
-    },
-    Row {
-        rack: b"format = 1\nslots = 4\nprotect = 8\noutliers = 2\nregion = 0\nmost = 9\nthreshold = 0\n[[blade]]\nframes = 0\n[[blade]]\nframes = 2\n[[memory]]\nspare = 4\nhomes = [{ domain = 0, page = 0, pages = 16 }]\n[[memory]]\nspare = 4\nhomes = [{ domain = 0, page = 16, pages = 16 }]\n[[image]]\nname = \"a.bin\"\nat = 0\n[[image]]\nname = \"b.bin\"\nat = 0\n[[thread]]\nblade = 0\ndomain = 0\nimage = 0\nqueue = 2\n[[thread]]\nblade = 1\ndomain = 0\nimage = 1\nqueue = 2\n[[map]]\ndomain = 0\npage = 1\npages = 2\nperm = \"rw\"\n",
-        wanted: "limit blade.0.frames",
-    },
-    Row {
-        rack: b"format = 1\nslots = 4\nprotect = 8\noutliers = 2\nregion = 0\nmost = 9\nthreshold = 0\n[[memory]]\nspare = 4\nhomes = [{ domain = 0, page = 0, pages = 16 }]\n[[memory]]\nspare = 4\nhomes = [{ domain = 0, page = 16, pages = 16 }]\n[[image]]\nname = \"a.bin\"\nat = 0\n[[image]]\nname = \"b.bin\"\nat = 0\n[[thread]]\nblade = 0\ndomain = 0\nimage = 0\nqueue = 2\n[[thread]]\nblade = 1\ndomain = 0\nimage = 1\nqueue = 2\n[[map]]\ndomain = 0\npage = 1\npages = 2\nperm = \"rw\"\n",
-        wanted: "missing blade",
-    },
-    Row {
-        rack: b"blade = 3\nformat = 1\nslots = 4\nprotect = 8\noutliers = 2\nregion = 0\nmost = 9\nthreshold = 0\n[[memory]]\nspare = 4\nhomes = [{ domain = 0, page = 0, pages = 16 }]\n[[memory]]\nspare = 4\nhomes = [{ domain = 0, page = 16, pages = 16 }]\n[[image]]\nname = \"a.bin\"\nat = 0\n[[image]]\nname = \"b.bin\"\nat = 0\n[[thread]]\nblade = 0\ndomain = 0\nimage = 0\nqueue = 2\n[[thread]]\nblade = 1\ndomain = 0\nimage = 1\nqueue = 2\n[[map]]\ndomain = 0\npage = 1\npages = 2\nperm = \"rw\"\n",
-        wanted: "kind blade",
-    },
-    Row {
-        rack: b"blade = [1]\nformat = 1\nslots = 4\nprotect = 8\noutliers = 2\nregion = 0\nmost = 9\nthreshold = 0\n[[memory]]\nspare = 4\nhomes = [{ domain = 0, page = 0, pages = 16 }]\n[[memory]]\nspare = 4\nhomes = [{ domain = 0, page = 16, pages = 16 }]\n[[image]]\nname = \"a.bin\"\nat = 0\n[[image]]\nname = \"b.bin\"\nat = 0\n[[thread]]\nblade = 0\ndomain = 0\nimage = 0\nqueue = 2\n[[thread]]\nblade = 1\ndomain = 0\nimage = 1\nqueue = 2\n[[map]]\ndomain = 0\npage = 1\npages = 2\nperm = \"rw\"\n",
-        wanted: "kind blade.0",
-    },
-    Row {
-        rack: b"format = 1\nslots = 4\nprotect = 8\noutliers = 2\nregion = 0\nmost = 9\nthreshold = 0\n[[blade]]\nframes = 2\n[[blade]]\nframes = 2\n[[blade]]\nframes = 2\n[[blade]]\nframes = 2\n[[blade]]\nframes = 2\n[[blade]]\nframes = 2\n[[blade]]\nframes = 2\n[[blade]]\nframes = 2\n[[blade]]\nframes = 2\n[[memory]]\nspare = 4\nhomes = [{ domain = 0, page = 0, pages = 16 }]\n[[memory]]\nspare = 4\nhomes = [{ domain = 0, page = 16, pages = 16 }]\n[[image]]\nname = \"a.bin\"\nat = 0\n[[image]]\nname = \"b.bin\"\nat = 0\n[[thread]]\nblade = 0\ndomain = 0\nimage = 0\nqueue = 2\n[[thread]]\nblade = 1\ndomain = 0\nimage = 1\nqueue = 2\n[[map]]\ndomain = 0\npage = 1\npages = 2\nperm = \"rw\"\n",
-        wanted: "limit blade",
-    },
-    Row {
-        rack: b"format = 1\nslots = 4\nprotect = 8\noutliers = 2\nregion = 0\nmost = 9\nthreshold = 0\n[[blade]]\nframes = 2\n[[blade]]\nframes = 2\n[[memory]]\nspare = 4\nhomes = [{ domain = 0, page = 0, pages = 16 }]\n[[memory]]\nspare = 4\nhomes = [{ domain = 0, page = 8, pages = 16 }]\n[[image]]\nname = \"a.bin\"\nat = 0\n[[image]]\nname = \"b.bin\"\nat = 0\n[[thread]]\nblade = 0\ndomain = 0\nimage = 0\nqueue = 2\n[[thread]]\nblade = 1\ndomain = 0\nimage = 1\nqueue = 2\n[[map]]\ndomain = 0\npage = 1\npages = 2\nperm = \"rw\"\n",
-        wanted: "overlap memory.1.homes.0",
-    },
-    Row {
-        rack: b"format = 1\nslots = 4\nprotect = 8\noutliers = 2\nregion = 0\nmost = 9\nthreshold = 0\n[[blade]]\nframes = 2\n[[blade]]\nframes = 2\n[[memory]]\nspare = 4\nhomes = [{ domain = 0, page = 0, pages = 16, at = 1 }]\n[[memory]]\nspare = 4\nhomes = [{ domain = 0, page = 16, pages = 16 }]\n[[image]]\nname = \"a.bin\"\nat = 0\n[[image]]\nname = \"b.bin\"\nat = 0\n[[thread]]\nblade = 0\ndomain = 0\nimage = 0\nqueue = 2\n[[thread]]\nblade = 1\ndomain = 0\nimage = 1\nqueue = 2\n[[map]]\ndomain = 0\npage = 1\npages = 2\nperm = \"rw\"\n",
-        wanted: "unknown memory.0.homes.0",
-    },
-    Row {
-        rack: b"format = 1\nslots = 4\nprotect = 8\noutliers = 2\nregion = 0\nmost = 9\nthreshold = 0\n[[blade]]\nframes = 2\n[[blade]]\nframes = 2\n[[memory]]\nspare = 4\nhomes = [{ domain = 1, page = 0, pages = 4096 }, { domain = 1, page = 4096, pages = 4096 }, { domain = 2, page = 0, pages = 4096 }, { domain = 3, page = 0, pages = 4096 }]\n[[memory]]\nspare = 4\nhomes = [{ domain = 0, page = 16, pages = 16 }]\n[[image]]\nname = \"a.bin\"\nat = 0\n[[image]]\nname = \"b.bin\"\nat = 0\n[[thread]]\nblade = 0\ndomain = 0\nimage = 0\nqueue = 2\n[[thread]]\nblade = 1\ndomain = 0\nimage = 1\nqueue = 2\n[[map]]\ndomain = 0\npage = 1\npages = 2\nperm = \"rw\"\n",
-        wanted: "limit memory",
-    },
-    Row {
-        rack: b"format = 1\nslots = 4\nprotect = 8\noutliers = 2\nregion = 0\nmost = 9\nthreshold = 0\n[[blade]]\nframes = 2\n[[blade]]\nframes = 2\n[[memory]]\nspare = 4\nhomes = [{ domain = 0, page = 0, pages = 16 }]\n[[memory]]\nspare = 4\nhomes = [{ domain = 0, page = 16, pages = 16 }]\n[[image]]\nname = \"a.bin\"\nat = 0\n[[image]]\nname = \"b.bin\"\nat = 0\n[[thread]]\nblade = 0\ndomain = 0\nimage = 0\nqueue = 2\n[[thread]]\nblade = 1\ndomain = 0\nimage = 1\nqueue = 2\n[[map]]\ndomain = 0\npage = 30\npages = 4\nperm = \"rw\"\n",
-        wanted: "unplaced map.0",
-    },
-    Row {
-        rack: b"format = 1\nslots = 4\nprotect = 8\noutliers = 2\nregion = 0\nmost = 9\nthreshold = 0\n[[blade]]\nframes = 2\n[[blade]]\nframes = 2\n[[memory]]\nspare = 4\nhomes = [{ domain = 0, page = 0, pages = 16 }]\n[[memory]]\nspare = 4\nhomes = [{ domain = 0, page = 16, pages = 16 }]\n[[image]]\nname = \"a.bin\"\nat = 0\n[[image]]\nname = \"b.bin\"\nat = 0\n[[thread]]\nblade = 0\ndomain = 0\nimage = 0\nqueue = 2\n[[thread]]\nblade = 1\ndomain = 0\nimage = 1\nqueue = 2\n[[map]]\ndomain = 0\npage = 1\npages = 2\nperm = \"rw\"\n[[map]]\ndomain = 0\npage = 1\npages = 2\nperm = \"rw\"\n",
-        wanted: "overlap map.1",
-    },
-    Row {
-        rack: b"format = 1\nslots = 4\nprotect = 1\noutliers = 2\nregion = 0\nmost = 9\nthreshold = 0\n[[blade]]\nframes = 2\n[[blade]]\nframes = 2\n[[memory]]\nspare = 4\nhomes = [{ domain = 0, page = 0, pages = 16 }]\n[[memory]]\nspare = 4\nhomes = [{ domain = 0, page = 16, pages = 16 }]\n[[image]]\nname = \"a.bin\"\nat = 0\n[[image]]\nname = \"b.bin\"\nat = 0\n[[thread]]\nblade = 0\ndomain = 0\nimage = 0\nqueue = 2\n[[thread]]\nblade = 1\ndomain = 0\nimage = 1\nqueue = 2\n[[map]]\ndomain = 0\npage = 1\npages = 2\nperm = \"rw\"\n",
-        wanted: "slots map",
-    },
-    Row {
-        rack: b"policy = \"never\"\nformat = 1\nslots = 4\nprotect = 8\noutliers = 2\nregion = 0\nmost = 9\nthreshold = 0\n[[blade]]\nframes = 2\n[[blade]]\nframes = 2\n[[memory]]\nspare = 4\nhomes = [{ domain = 0, page = 0, pages = 16 }]\n[[memory]]\nspare = 4\nhomes = [{ domain = 0, page = 16, pages = 16 }]\n[[image]]\nname = \"a.bin\"\nat = 0\n[[image]]\nname = \"b.bin\"\nat = 0\n[[thread]]\nblade = 0\ndomain = 0\nimage = 0\nqueue = 2\n[[thread]]\nblade = 1\ndomain = 0\nimage = 1\nqueue = 2\n[[map]]\ndomain = 0\npage = 1\npages = 2\nperm = \"rw\"\n",
-        wanted: "limit policy",
-    },
+static ROWS: [Row; 120] = [
+    ("format = 1", "format = 1", 1, "ok"),
+    ("format = 1", "format =", 1, "toml "),
+    ("format = 1", "format = 0", 1, "limit format"),
+    ("format = 1", "format = 2", 1, "limit format"),
+    ("slots = 4\n", "", 1, "missing slots"),
+    ("slots = 4", "slots = \"4\"", 1, "kind slots"),
+    ("slots = 4", "slots = -1", 1, "limit slots"),
+    ("slots = 4", "slots = 0", 1, "limit slots"),
+    ("slots = 4", "slots = 1", 1, "ok"),
+    ("slots = 4", "slots = 4096", 1, "ok"),
+    ("slots = 4", "slots = 4097", 1, "limit slots"),
+    ("protect = 8", "protect = 0", 1, "limit protect"),
+    ("protect = 8", "protect = 1", 1, "slots map"),
+    ("protect = 8", "protect = 2", 1, "ok"),
+    ("protect = 8", "protect = 4096", 1, "ok"),
+    ("protect = 8", "protect = 4097", 1, "limit protect"),
+    ("outliers = 2", "outliers = 0", 1, "ok"),
+    ("outliers = 2", "outliers = 1024", 1, "ok"),
+    ("outliers = 2", "outliers = 1025", 1, "limit outliers"),
+    ("region = 0", "region = 9", 1, "ok"),
+    ("region = 0", "region = 10", 1, "limit region"),
+    ("region = 0\nmost = 9", "region = 5\nmost = 5", 1, "ok"),
+    (
+        "region = 0\nmost = 9",
+        "region = 5\nmost = 4",
+        1,
+        "limit most",
+    ),
+    ("most = 9", "most = 0", 1, "ok"),
+    ("most = 9", "most = 10", 1, "limit most"),
+    ("threshold = 0", "threshold = 1000000", 1, "ok"),
+    ("threshold = 0", "threshold = 1000001", 1, "limit threshold"),
+    ("format = 1", "format = 1\npolicy = \"threshold\"", 1, "ok"),
+    (
+        "format = 1",
+        "format = 1\npolicy = \"never\"",
+        1,
+        "limit policy",
+    ),
+    ("format = 1", "format = 1\npolicy = 1", 1, "kind policy"),
+    ("format = 1", "format = 1\ncolor = 1", 1, "unknown top"),
+    (
+        "threshold = 0\n[[blade]]\nframes = 2",
+        "threshold = 0\ncolor = 1\n[[blade]]\nframes = 0",
+        1,
+        "unknown top",
+    ),
+    (
+        "[[blade]]\nframes = 2\n[[blade]]\nframes = 2\n",
+        "",
+        1,
+        "missing blade",
+    ),
+    (
+        "threshold = 0\n[[blade]]\nframes = 2\n[[blade]]\nframes = 2\n",
+        "threshold = 0\nblade = 3\n",
+        1,
+        "kind blade",
+    ),
+    (
+        "threshold = 0\n[[blade]]\nframes = 2\n[[blade]]\nframes = 2\n",
+        "threshold = 0\nblade = []\n",
+        1,
+        "limit blade",
+    ),
+    (
+        "threshold = 0\n[[blade]]\nframes = 2\n[[blade]]\nframes = 2\n",
+        "threshold = 0\nblade = [1]\n",
+        1,
+        "kind blade.0",
+    ),
+    ("frames = 2", "frames = 0", 1, "limit blade.0.frames"),
+    ("frames = 2", "frames = 1", 1, "ok"),
+    ("frames = 2", "frames = 1024", 1, "ok"),
+    ("frames = 2", "frames = 1025", 1, "limit blade.0.frames"),
+    ("frames = 2", "", 1, "missing blade.0.frames"),
+    ("frames = 2", "frames = 2\ncolor = 1", 1, "unknown blade.0"),
+    (
+        "[[blade]]\nframes = 2\n[[blade]]\nframes = 2\n",
+        "[[blade]]\nframes = 2\n",
+        8,
+        "ok",
+    ),
+    (
+        "[[blade]]\nframes = 2\n[[blade]]\nframes = 2\n",
+        "[[blade]]\nframes = 2\n",
+        9,
+        "limit blade",
+    ),
+    (
+        "[[memory]]\nspare = 4\nhomes = [{ domain = 0, page = 0, pages = 16 }]\n[[memory]]\nspare = 4\nhomes = [{ domain = 0, page = 16, pages = 16 }]\n",
+        "",
+        1,
+        "missing memory",
+    ),
+    ("spare = 4", "spare = 0", 1, "ok"),
+    ("spare = 4", "spare = 4096", 1, "ok"),
+    ("spare = 4", "spare = 4097", 1, "limit memory.0.spare"),
+    (
+        "homes = [{ domain = 0, page = 0, pages = 16 }]",
+        "",
+        1,
+        "missing memory.0.homes",
+    ),
+    (
+        "homes = [{ domain = 0, page = 0, pages = 16 }]",
+        "homes = 1",
+        1,
+        "kind memory.0.homes",
+    ),
+    (
+        "homes = [{ domain = 0, page = 0, pages = 16 }]",
+        "homes = []",
+        1,
+        "limit memory.0.homes",
+    ),
+    (
+        "{ domain = 0, page = 0, pages = 16 }",
+        "1",
+        1,
+        "kind memory.0.homes.0",
+    ),
+    (
+        "pages = 16 }",
+        "pages = 16, at = 1 }",
+        1,
+        "unknown memory.0.homes.0",
+    ),
+    ("spare = 4", "spare = 4\ncolor = 1", 1, "unknown memory.0"),
+    (
+        "{ domain = 0, page = 0, pages = 16 }",
+        "{ domain = 0, page = 0, pages = 16 }, ",
+        16,
+        "overlap memory.0.homes.1",
+    ),
+    (
+        "{ domain = 0, page = 0, pages = 16 }",
+        "{ domain = 0, page = 0, pages = 16 }, ",
+        17,
+        "limit memory.0.homes",
+    ),
+    (
+        "[[memory]]\nspare = 4\nhomes = [{ domain = 0, page = 0, pages = 16 }]\n",
+        "[[memory]]\nspare = 4\nhomes = [{ domain = 0, page = 0, pages = 16 }]\n",
+        7,
+        "overlap memory.1.homes.0",
+    ),
+    (
+        "[[memory]]\nspare = 4\nhomes = [{ domain = 0, page = 0, pages = 16 }]\n",
+        "[[memory]]\nspare = 4\nhomes = [{ domain = 0, page = 0, pages = 16 }]\n",
+        8,
+        "limit memory",
+    ),
+    (
+        "domain = 0, page = 16, pages = 16",
+        "domain = 15, page = 16, pages = 16",
+        1,
+        "ok",
+    ),
+    (
+        "domain = 0, page = 16, pages = 16",
+        "domain = 16, page = 16, pages = 16",
+        1,
+        "limit memory.1.homes.0.domain",
+    ),
+    (
+        "domain = 0, page = 16, pages = 16",
+        "domain = 0, page = 1048575, pages = 1",
+        1,
+        "ok",
+    ),
+    (
+        "domain = 0, page = 16, pages = 16",
+        "domain = 0, page = 1048575, pages = 2",
+        1,
+        "limit memory.1.homes.0.pages",
+    ),
+    (
+        "domain = 0, page = 16, pages = 16",
+        "domain = 0, page = 1048576, pages = 1",
+        1,
+        "limit memory.1.homes.0.page",
+    ),
+    (
+        "domain = 0, page = 16, pages = 16",
+        "domain = 0, page = 1044480, pages = 4096",
+        1,
+        "ok",
+    ),
+    (
+        "domain = 0, page = 16, pages = 16",
+        "domain = 0, page = 1044481, pages = 4096",
+        1,
+        "limit memory.1.homes.0.pages",
+    ),
+    (
+        "domain = 0, page = 16, pages = 16",
+        "domain = 0, page = 16, pages = 0",
+        1,
+        "limit memory.1.homes.0.pages",
+    ),
+    (
+        "domain = 0, page = 16, pages = 16",
+        "domain = 0, page = 16, pages = 4096",
+        1,
+        "ok",
+    ),
+    (
+        "domain = 0, page = 16, pages = 16",
+        "domain = 0, page = 16, pages = 4097",
+        1,
+        "limit memory.1.homes.0.pages",
+    ),
+    (
+        "domain = 0, page = 16, pages = 16",
+        "domain = 0, page = 15, pages = 1",
+        1,
+        "overlap memory.1.homes.0",
+    ),
+    (
+        "domain = 0, page = 16, pages = 16",
+        "domain = 0, page = 15, pages = 16",
+        1,
+        "overlap memory.1.homes.0",
+    ),
+    (
+        "domain = 0, page = 16, pages = 16",
+        "domain = 1, page = 15, pages = 16",
+        1,
+        "ok",
+    ),
+    (
+        "{ domain = 0, page = 0, pages = 16 }",
+        "{ domain = 0, page = 0, pages = 16 }, { domain = 1, page = 0, pages = 4096 }, { domain = 2, page = 0, pages = 4096 }, { domain = 3, page = 0, pages = 4096 }, { domain = 4, page = 0, pages = 4064 }",
+        1,
+        "ok",
+    ),
+    (
+        "{ domain = 0, page = 0, pages = 16 }",
+        "{ domain = 0, page = 0, pages = 16 }, { domain = 1, page = 0, pages = 4096 }, { domain = 2, page = 0, pages = 4096 }, { domain = 3, page = 0, pages = 4096 }, { domain = 4, page = 0, pages = 4065 }",
+        1,
+        "limit memory",
+    ),
+    (
+        "[[image]]\nname = \"a.bin\"\nat = 0\n[[image]]\nname = \"b.bin\"\nat = 0\n",
+        "",
+        1,
+        "missing image",
+    ),
+    ("\"a.bin\"", "\"\"", 1, "limit image.0.name"),
+    ("\"a.bin\"", "\"!\"", 1, "ok"),
+    ("\"a.bin\"", "\"~\"", 1, "ok"),
+    ("\"a.bin\"", "\"a bin\"", 1, "limit image.0.name"),
+    (
+        "\"a.bin\"",
+        "\"0123456789012345678901234567890123456789012345678901234567890.io\"",
+        1,
+        "ok",
+    ),
+    (
+        "\"a.bin\"",
+        "\"0123456789012345678901234567890123456789012345678901234567890.ion\"",
+        1,
+        "limit image.0.name",
+    ),
+    ("\"a.bin\"", "1", 1, "kind image.0.name"),
+    ("at = 0", "at = 4", 1, "ok"),
+    ("at = 0", "at = 2", 1, "limit image.0.at"),
+    ("at = 0", "at = 4294967292", 1, "ok"),
+    ("at = 0", "at = 4294967294", 1, "limit image.0.at"),
+    ("at = 0", "at = 4294967296", 1, "limit image.0.at"),
+    (
+        "[[image]]\nname = \"a.bin\"\nat = 0\n",
+        "[[image]]\nname = \"a.bin\"\nat = 0\n",
+        15,
+        "ok",
+    ),
+    (
+        "[[image]]\nname = \"a.bin\"\nat = 0\n",
+        "[[image]]\nname = \"a.bin\"\nat = 0\n",
+        16,
+        "limit image",
+    ),
+    (
+        "[[thread]]\nblade = 0\ndomain = 0\nimage = 0\nqueue = 2\n[[thread]]\nblade = 1\ndomain = 0\nimage = 1\nqueue = 2\n",
+        "",
+        1,
+        "missing thread",
+    ),
+    ("blade = 0", "blade = 1", 1, "ok"),
+    ("blade = 0", "blade = 2", 1, "limit thread.0.blade"),
+    ("domain = 0\nimage = 0", "domain = 15\nimage = 0", 1, "ok"),
+    (
+        "domain = 0\nimage = 0",
+        "domain = 16\nimage = 0",
+        1,
+        "limit thread.0.domain",
+    ),
+    ("image = 0", "image = 1", 1, "ok"),
+    ("image = 0", "image = 2", 1, "limit thread.0.image"),
+    ("queue = 2", "queue = 0", 1, "limit thread.0.queue"),
+    ("queue = 2", "queue = 1", 1, "ok"),
+    ("queue = 2", "queue = 64", 1, "ok"),
+    ("queue = 2", "queue = 65", 1, "limit thread.0.queue"),
+    (
+        "[[thread]]\nblade = 1\ndomain = 0\nimage = 1\nqueue = 2\n",
+        "[[thread]]\nblade = 1\ndomain = 0\nimage = 1\nqueue = 2\n",
+        63,
+        "ok",
+    ),
+    (
+        "[[thread]]\nblade = 1\ndomain = 0\nimage = 1\nqueue = 2\n",
+        "[[thread]]\nblade = 1\ndomain = 0\nimage = 1\nqueue = 2\n",
+        64,
+        "limit thread",
+    ),
+    (
+        "[[map]]\ndomain = 0\npage = 1\npages = 2\nperm = \"rw\"\n",
+        "",
+        1,
+        "ok",
+    ),
+    (
+        "domain = 0\npage = 1\npages = 2",
+        "domain = 15\npage = 1\npages = 2",
+        1,
+        "unplaced map.0",
+    ),
+    (
+        "domain = 0\npage = 1\npages = 2",
+        "domain = 16\npage = 1\npages = 2",
+        1,
+        "limit map.0.domain",
+    ),
+    (
+        "domain = 0\npage = 1\npages = 2",
+        "domain = 0\npage = 1048575\npages = 1",
+        1,
+        "unplaced map.0",
+    ),
+    (
+        "domain = 0\npage = 1\npages = 2",
+        "domain = 0\npage = 1048575\npages = 2",
+        1,
+        "limit map.0.pages",
+    ),
+    (
+        "domain = 0\npage = 1\npages = 2",
+        "domain = 0\npage = 1048576\npages = 1",
+        1,
+        "limit map.0.page",
+    ),
+    (
+        "domain = 0\npage = 1\npages = 2",
+        "domain = 0\npage = 0\npages = 0",
+        1,
+        "limit map.0.pages",
+    ),
+    (
+        "domain = 0\npage = 1\npages = 2",
+        "domain = 0\npage = 0\npages = 32",
+        1,
+        "ok",
+    ),
+    (
+        "domain = 0\npage = 1\npages = 2",
+        "domain = 0\npage = 0\npages = 33",
+        1,
+        "unplaced map.0",
+    ),
+    (
+        "domain = 0\npage = 1\npages = 2",
+        "domain = 0\npage = 0\npages = 4096",
+        1,
+        "unplaced map.0",
+    ),
+    (
+        "domain = 0\npage = 1\npages = 2",
+        "domain = 0\npage = 0\npages = 4097",
+        1,
+        "limit map.0.pages",
+    ),
+    ("\"rw\"", "\"r\"", 1, "ok"),
+    ("\"rw\"", "\"w\"", 1, "limit map.0.perm"),
+    (
+        "perm = \"rw\"",
+        "perm = \"rw\"\ncolor = 1",
+        1,
+        "unknown map.0",
+    ),
+    (
+        "[[map]]\ndomain = 0\npage = 1\npages = 2\nperm = \"rw\"\n",
+        "[[map]]\ndomain = 0\npage = 1\npages = 2\nperm = \"rw\"\n",
+        256,
+        "overlap map.1",
+    ),
+    (
+        "[[map]]\ndomain = 0\npage = 1\npages = 2\nperm = \"rw\"\n",
+        "[[map]]\ndomain = 0\npage = 1\npages = 2\nperm = \"rw\"\n",
+        257,
+        "limit map",
+    ),
+    (
+        "[[map]]",
+        "[[map]]\ndomain = 0\npage = 3\npages = 1\nperm = \"r\"\n[[map]]",
+        1,
+        "ok",
+    ),
+    (
+        "[[map]]",
+        "[[map]]\ndomain = 0\npage = 2\npages = 1\nperm = \"r\"\n[[map]]",
+        1,
+        "overlap map.1",
+    ),
+    (
+        "frames = 2",
+        "frames = 0\ncolor = 1",
+        1,
+        "limit blade.0.frames",
+    ),
 ];
 
+/// The base rack with other text at one place.
+fn changed(rt: &HostRuntime, place: &str, by: &str, times: usize) -> Result<String, Fail> {
+    let text = by.repeat(rt.alloc(), times)?;
+    Ok(BASE.replacen(rt.alloc(), place, text.as_str(), 1)?)
+}
+
 #[test]
-fn bad_racks_are_refused_in_order(rt: HostRuntime) -> Result<(), Fail> {
-    for row in &BAD {
-        let told = answer(&rt, row.rack)?;
-        assert!(rt; told.as_str() == row.wanted, "{told}");
+fn racks_are_accepted_or_refused_by_their_first_fault(rt: HostRuntime) -> Result<(), Fail> {
+    for (place, by, times, wanted) in &ROWS {
+        let rack = changed(&rt, *place, *by, *times)?;
+        let told = answer(&rt, rack.as_bytes())?;
+        assert!(rt; told.as_str() == *wanted, "{place} {by} {times}: {told}");
     }
+    Ok(())
+}
+
+#[test]
+fn bytes_that_are_no_text_are_no_rack(rt: HostRuntime) -> Result<(), Fail> {
+    let told = answer(&rt, b"\xff")?;
+    assert!(rt; told.as_str() == "toml ", "{told}");
     Ok(())
 }
 

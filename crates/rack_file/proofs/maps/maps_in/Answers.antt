@@ -11,4 +11,4 @@ pub returns : goal.returns
 returns c =
     let P : (SpanView → Bool) → Type 0 = λ placed. Gives (λ maps. maps) c.maps_within.result (maps_within placed c.args.most (items_view c.in-Ok.values.now)) in
     gives-on (λ maps. maps) c.maps_within.result _ _ (maps_within (are_placed c.args.memories.now) c.args.most) c.in-Ok.ensures
-    (subst P c.in-Ok-homes_table.ensures c.maps_within.ensures)
+    (subst P c.in-Ok-homes_table.ensures.placed c.maps_within.ensures)
