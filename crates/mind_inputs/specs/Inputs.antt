@@ -16,9 +16,8 @@ use Rattle.rack_file.specs.declared.images.ImageFault.TheVariants.{Length, End}
 use Rattle.schedule_text.specs.Refusal as lines
 use Rattle.schedule_text.specs.Schedule.{schedule_in}
 use Rattle.mind_inputs.specs.Words.{Paths}
-use Rattle.mind_inputs.specs.Program.{is_runnable}
 use Rattle.mind_inputs.specs.declared.refusals.Refusal.{Refusal}
-use Rattle.mind_inputs.specs.declared.refusals.Refusal.TheVariants.{RackRefused, RackLong, ImageLength, ImageEnd, ImageLong, ImageEarly, ScheduleRefused, ScheduleLong, ScheduleEarly}
+use Rattle.mind_inputs.specs.declared.refusals.Refusal.TheVariants.{RackRefused, RackLong, ImageLength, ImageEnd, ImageLong, ScheduleRefused, ScheduleLong, ScheduleEarly}
 
 -- what is there under a name: nothing, more bytes than are read, or these bytes
 pub data Seen : Type 0 where
@@ -53,9 +52,8 @@ rack_judged Absent = Err Missing
 rack_judged Long = Err (Refused RackLong)
 rack_judged (Bytes bytes) = rack_answer (racks.rack_judged (racks.document_of bytes))
 
--- an image may ask for no memory yet
 abbrev pub image_answer : ℕ → Result Image ImageFault → Result Image Ending
-image_answer number (Ok image) = if is_runnable image.bytes then Ok image else Err (Refused (ImageEarly number))
+image_answer number (Ok image) = Ok image
 image_answer number (Err Length) = Err (Refused (ImageLength number))
 image_answer number (Err End) = Err (Refused (ImageEnd number))
 

@@ -1,6 +1,6 @@
 pub mod Inputs
+pub mod Journals
 pub mod Judged
 pub mod Loading
-pub mod Program
 pub mod Refusal
 pub mod Words

@@ -5,8 +5,10 @@ use Rattle.rack_file.specs.declared.refusals.RackFault.{RackFault}
 use Rattle.rack_file.specs.declared.refusals.RackFault.TheVariants as rack
 use Rattle.schedule_text.specs.declared.faults.LineFault.{LineFault}
 use Rattle.schedule_text.specs.declared.faults.LineFault.TheVariants as schedule
+use Rattle.journal_text.specs.declared.refusals.JournalFault.{JournalFault}
+use Rattle.journal_text.specs.declared.refusals.JournalFault.TheVariants.{Head, Line}
 use Rattle.mind_inputs.specs.declared.refusals.Refusal.{Refusal}
-use Rattle.mind_inputs.specs.declared.refusals.Refusal.TheVariants.{RackRefused, RackLong, ImageLength, ImageEnd, ImageLong, ImageEarly, ScheduleRefused, ScheduleLong, ScheduleEarly}
+use Rattle.mind_inputs.specs.declared.refusals.Refusal.TheVariants.{RackRefused, RackLong, ImageLength, ImageEnd, ImageLong, ScheduleRefused, ScheduleLong, ScheduleEarly, JournalRefused, JournalLong}
 
 abbrev pub decimal : ℕ → List ℕ
 decimal n = digits 10 false n
@@ -44,16 +46,22 @@ image_text word number = codes "refused image " ++ word ++ codes " " ++ decimal 
 abbrev pub schedule_text : ℕ → LineFault → List ℕ
 schedule_text line what = codes "refused schedule " ++ schedule_word what ++ codes " " ++ decimal line
 
+-- a first line that is another has no number
+abbrev pub journal_text : ℕ → JournalFault → List ℕ
+journal_text line Head = codes "refused journal head"
+journal_text line Line = codes "refused journal line " ++ decimal line
+
 abbrev pub reason_of : Refusal → List ℕ
 reason_of (RackRefused what path) = rack_text what path
 reason_of RackLong = codes "refused rack long"
 reason_of (ImageLength number) = image_text (codes "length") number
 reason_of (ImageEnd number) = image_text (codes "end") number
 reason_of (ImageLong number) = image_text (codes "long") number
-reason_of (ImageEarly number) = image_text (codes "early") number
 reason_of (ScheduleRefused line what) = schedule_text line what
 reason_of ScheduleLong = codes "refused schedule long"
 reason_of ScheduleEarly = codes "refused schedule early"
+reason_of (JournalRefused line what) = journal_text line what
+reason_of JournalLong = codes "refused journal long"
 
 abbrev pub line_of : Refusal → List ℕ
 line_of refusal = reason_of refusal ++ 10 ∷ []

@@ -1,14 +1,17 @@
-//! The inputs of a run: a rack, its images and a schedule, read and judged one after another.
+//! The inputs of a run: a rack, its images, a schedule and a journal, read and judged one after another.
 #![tactic(auto)]
 
+mod journals;
 mod loaded;
 mod loading;
-mod programs;
 mod refusals;
 mod stopped;
 
+pub use journals::{load_for_check, load_journal};
 pub use loaded::Loaded;
 pub use loading::load;
-pub use programs::accesses_no_memory;
 pub use refusals::Refusal;
 pub use stopped::Stopped;
+
+#[cfg(test)]
+mod tests;

@@ -5,7 +5,7 @@ ghost use Rattle.mind_inputs.specs.Inputs.{Judges, JudgesOne, JudgesImages, Byte
 ghost use Rattle.mind_inputs.specs.Judged.{Gives};
 ghost use Rattle.mind_inputs.specs.Loading.{Loads, Brings, stopped_of};
 
-use crate::{Loaded, Refusal, Stopped, accesses_no_memory};
+use crate::{Loaded, Refusal, Stopped};
 use mind_base::{Event, Image, ImagePlan, RackPlan, ReadError, Sequence, Store};
 use rack_file::{ImageFault, RackRefusal, image_of, rack_of};
 use schedule_text::{LineRefusal, schedule_of};
@@ -21,7 +21,7 @@ const IMAGE_BYTES: u64 = 65536;
 const SCHEDULE_BYTES: u64 = 4194304;
 
 /// What a failed read makes of the run; `long` refuses an input with too many bytes.
-fn stopped_by(error: ReadError, long: Refusal) -> Stopped
+pub(crate) fn stopped_by(error: ReadError, long: Refusal) -> Stopped
     ensures { result ≡ stopped_of error long }
 {
     match error {
@@ -51,13 +51,7 @@ fn image_from(number: u8, plan: &ImagePlan, bytes: Vec<u8>) -> Result<Image, Sto
     ensures fits { IfOk result (λ image. FitsImage plan.now image) }
 {
     match image_of(plan, bytes) {
-        Ok(image) => if accesses_no_memory(image.bytes.as_slice()) {
-            Ok(image)
-        } else {
-            Err(Stopped::Refused {
-                refusal: Refusal::ImageEarly { number },
-            })
-        },
+        Ok(image) => Ok(image),
         Err(ImageFault::Length) => Err(Stopped::Refused {
             refusal: Refusal::ImageLength { number },
         }),

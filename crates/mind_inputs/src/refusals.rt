@@ -1,6 +1,7 @@
 ghost use Rattle.std.specs.Prelude.{◌≡◌, ◌++◌, ◌∷◌, [], IfOk, OnOk};
-ghost use Rattle.mind_inputs.specs.Refusal.{decimal, rack_word, schedule_word, path_text, rack_text, image_text, schedule_text, line_of};
+ghost use Rattle.mind_inputs.specs.Refusal.{decimal, rack_word, schedule_word, path_text, rack_text, image_text, schedule_text, journal_text, line_of};
 
+use journal_text::JournalFault;
 use mind_base::NoMemory;
 use rack_file::{Path, RackFault};
 use schedule_text::LineFault;
@@ -15,10 +16,11 @@ pub enum Refusal {
     ImageLength { number: u8 },
     ImageEnd { number: u8 },
     ImageLong { number: u8 },
-    ImageEarly { number: u8 },
     ScheduleRefused { line: u32, what: LineFault },
     ScheduleLong,
     ScheduleEarly,
+    JournalRefused { line: u32, what: JournalFault },
+    JournalLong,
 }
 
 fn word_of_rack(what: RackFault) -> &'static [u8]
@@ -106,6 +108,21 @@ fn schedule_line(alloc: Global, line: u32, what: LineFault) -> Result<Vec<u8>, N
     Ok(out)
 }
 
+fn journal_line(alloc: Global, line: u32, what: JournalFault) -> Result<Vec<u8>, NoMemory>
+    ensures { IfOk result (λ text. text.items ≡ journal_text line what ++ 10 ∷ []) }
+{
+    let mut out = Vec::new(alloc);
+    match what {
+        JournalFault::Head => out.extend_from_slice(b"refused journal head")?,
+        JournalFault::Line => {
+            out.extend_from_slice(b"refused journal line ")?;
+            put_decimal(alloc, &mut out, line)?;
+        }
+    }
+    out.extend_from_slice(b"\n")?;
+    Ok(out)
+}
+
 impl Refusal {
     /// The line that is written of it, with its line end.
     pub fn line(&self, alloc: Global) -> Result<Vec<u8>, NoMemory>
@@ -117,10 +134,11 @@ impl Refusal {
             Refusal::ImageLength { number } => image_line(alloc, b"length", *number),
             Refusal::ImageEnd { number } => image_line(alloc, b"end", *number),
             Refusal::ImageLong { number } => image_line(alloc, b"long", *number),
-            Refusal::ImageEarly { number } => image_line(alloc, b"early", *number),
             Refusal::ScheduleRefused { line, what } => schedule_line(alloc, *line, *what),
             Refusal::ScheduleLong => Ok(Vec::from_slice(alloc, b"refused schedule long\n")?),
             Refusal::ScheduleEarly => Ok(Vec::from_slice(alloc, b"refused schedule early\n")?),
+            Refusal::JournalRefused { line, what } => journal_line(alloc, *line, *what),
+            Refusal::JournalLong => Ok(Vec::from_slice(alloc, b"refused journal long\n")?),
         }
     }
 }
