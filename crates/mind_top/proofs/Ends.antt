@@ -1,13 +1,20 @@
 -- From the parts of a call to how it ends.
-use Rattle.std.proofs.Common.{◌≡◌, ℕ, ◌⊎◌, inl, inr, ◌∙◌, List, ap, sym, refl, subst, Option, Some, None, IfSome, []}
-use Rattle.mind_base.specs.Store.{Files, Rises}
+use Rattle.std.proofs.Common.{◌≡◌, ℕ, inl, inr, List, sym, refl, subst, Option, Some, None, Ok, Err, []}
+use Rattle.mind_base.specs.Store.{Files}
 use Rattle.mind_base.specs.Sink.{Appends}
 use Rattle.mind_base.specs.declared.notes.Note.{Note}
 use Rattle.mind_inputs.specs.Words.{Paths}
-use Rattle.mind_top.specs.Words.{IsRun, IsNoForm}
-use Rattle.mind_inputs.specs.Inputs.{Missing, Refused, Judged, Ends, Accepts, Accepted, Judges, judge}
-use Rattle.mind_inputs.proofs.Chains.{judges-judge}
-use Rattle.mind_top.specs.Ending.{Counts, Due, EndsWith, Says, Finishes, Refuses, status_of}
+use Rattle.mind_inputs.specs.Refusal.{line_of}
+use Rattle.mind_inputs.specs.Inputs.{Missing, Judged, Ends, Accepts, Accepted, Judges}
+use Rattle.mind_inputs.specs.Journals.{Checkable, JudgesCheck}
+use Rattle.mind_inputs.specs.Loading.{FaultTold, MissTold, Loads, StopsBy}
+use Rattle.mind_inputs.specs.declared.stopped.Stopped.{Stopped}
+use Rattle.mind_inputs.specs.declared.stopped.Stopped.TheVariants as stopped
+use Rattle.mind_top.specs.Words.{Form, Run, Check, IsForm}
+use Rattle.mind_top.specs.Due.{EndsBy, Due, not_a_run_line}
+use Rattle.mind_top.specs.Ending.{Counts, EndsWith}
+use Rattle.mind_top.specs.Parts.{Says, SaysLine, Stops, RunEnds, CheckEnds}
+use Rattle.mind_top.specs.declared.words.Output.{Output}
 use Rattle.mind_top.specs.declared.statuses.Status.{Status}
 use Rattle.mind_top.specs.declared.statuses.Status.TheVariants as status
 
@@ -18,6 +25,7 @@ due-written : (holds : Option Files) (words : List (List ℕ)) (log : List Note)
 due-written holds words log before now old new text status.Done due appends = (text, due, appends)
 due-written holds words log before now old new text status.Usage due appends = (text, due, appends)
 due-written holds words log before now old new text status.Malformed due appends = (text, due, appends)
+due-written holds words log before now old new text status.NotARun due appends = (text, due, appends)
 due-written holds words log before now old new text status.ReadFault due appends = absurd due
 due-written holds words log before now old new text status.WriteFault due appends = absurd due
 due-written holds words log before now old new text status.NoMemory due appends = absurd due
@@ -31,66 +39,73 @@ said holds words log before now old new text due result is_due (inr (fault, rise
     let P : Status → Type 0 = λ s. EndsWith holds words log before now old new s in
     subst P (sym fault) (rises, due, text, is_due, front)
 
--- an input is refused
-pub refused : (holds : Option Files) (words : List (List ℕ)) (log : List Note) (before now : Counts) (old new : Option (List ℕ)) (text : List ℕ) (result : Status)
-    → log ≡ [] → Due holds words log status.Malformed text → Refuses old new before.failed now.failed text result → EndsWith holds words log before now old new result
-refused holds words log before now old new text result empty due (inl (none, same)) =
-    let P : Status → Type 0 = λ s. EndsWith holds words log before now old new s in subst P (sym none) (inl empty, same)
-refused holds words log before now old new text result empty due (inr says) = said holds words log before now old new text status.Malformed result due says
+-- the same of a line, for which there may be no memory
+said-line : (holds : Option Files) (words : List (List ℕ)) (log : List Note) (before now : Counts) (old new : Option (List ℕ)) (text : List ℕ) (due result : Status)
+    → log ≡ [] → Due holds words log due text → SaysLine old new before.failed now.failed text due result → EndsWith holds words log before now old new result
+said-line holds words log before now old new text due result empty is_due (inl (none, kept)) =
+    let P : Status → Type 0 = λ s. EndsWith holds words log before now old new s in subst P (sym none) (inl empty, kept)
+said-line holds words log before now old new text due result empty is_due (inr says) = said holds words log before now old new text due result is_due says
 
--- a run of accepted inputs
-pub finished : (holds : Option Files) (words : List (List ℕ)) (paths : Paths) (accepted : Accepted) (log : List Note) (before now : Counts) (old new : Option (List ℕ)) (result : Status)
-    → IsRun words paths → Judges holds paths (Accepts accepted) → Finishes accepted log before.failed now.failed old new result
+-- ---- an input was not brought
+
+pub stopped-call : (holds : Option Files) (words : List (List ℕ)) (form : Form) (log : List Note) (before now : Counts) (old new : Option (List ℕ)) (why : Stopped) (result : Status)
+    → log ≡ [] → IsForm words form → StopsBy holds (λ ending. EndsBy holds form ending) before.faults now.faults before.missed now.missed why
+    → Stops old new before.failed now.failed why result → EndsWith holds words log before now old new result
+stopped-call holds words form log before now old new (stopped.Refused refusal) result empty is stops says =
+    said-line holds words log before now old new (line_of refusal) status.Malformed result empty (form, is, refusal, stops, empty, refl) says
+stopped-call holds words form log before now old new stopped.ReadFault result empty is (rises, told) (same, kept) =
+    let P : Status → Type 0 = λ s. EndsWith holds words log before now old new s in subst P (sym same) (form, is, rises, told, empty, kept)
+stopped-call holds words form log before now old new stopped.NoMemory result empty is stops (same, kept) =
+    let P : Status → Type 0 = λ s. EndsWith holds words log before now old new s in subst P (sym same) (inl empty, kept)
+
+miss-told : (holds : Option Files) (judges : Judged → Type 0) (f f' : ℕ) → FaultTold holds judges f f' → MissTold holds (judges (Ends Missing)) f f'
+miss-told None judges f f' told = tt
+miss-told (Some files) judges f f' told = told
+
+loads-stops : (holds : Option Files) (judges : Judged → Type 0) (f f' m m' : ℕ) (why : Stopped) → Loads holds judges f f' m m' (Err why)
+    → StopsBy holds (λ ending. judges (Ends ending)) f f' m m' why
+loads-stops holds judges f f' m m' (stopped.Refused refusal) loads = loads
+loads-stops holds judges f f' m m' stopped.ReadFault (rises, told) = (rises, miss-told holds judges f f' told)
+loads-stops holds judges f f' m m' stopped.NoMemory loads = tt
+
+-- ---- a run
+
+pub run-stopped : (holds : Option Files) (words : List (List ℕ)) (output : Output) (paths : Paths) (log : List Note) (before now : Counts) (old new : Option (List ℕ)) (why : Stopped) (result : Status)
+    → log ≡ [] → IsForm words (Run output paths) → Loads holds (Judges holds paths) before.faults now.faults before.missed now.missed (Err why)
+    → Stops old new before.failed now.failed why result → EndsWith holds words log before now old new result
+run-stopped holds words output paths log before now old new why result empty is loads says =
+    stopped-call holds words (Run output paths) log before now old new why result empty is
+    (loads-stops holds (Judges holds paths) before.faults now.faults before.missed now.missed why loads) says
+
+pub run-ended : (holds : Option Files) (words : List (List ℕ)) (output : Output) (paths : Paths) (accepted : Accepted) (log : List Note) (before now : Counts) (old new : Option (List ℕ)) (result : Status)
+    → IsForm words (Run output paths) → Judges holds paths (Accepts accepted) → RunEnds output accepted log old new before.failed now.failed result
     → EndsWith holds words log before now old new result
-finished holds words paths accepted log before now old new status.Done is_run judges (text, headline, appends) =
-    (text, (paths, is_run, accepted, judges, headline), appends)
-finished holds words paths accepted log before now old new status.WriteFault is_run judges (rises, text, headline, front) =
-    (rises, status.Done, text, (paths, is_run, accepted, judges, headline), front)
-finished holds words paths accepted log before now old new status.NoMemory is_run judges (stands, same) =
-    (inr (paths, is_run, accepted, judges, stands), same)
-finished holds words paths accepted log before now old new status.Usage is_run judges no_way = absurd no_way
-finished holds words paths accepted log before now old new status.Malformed is_run judges no_way = absurd no_way
-finished holds words paths accepted log before now old new status.ReadFault is_run judges no_way = absurd no_way
+run-ended holds words output paths accepted log before now old new result is judges (inl (none, kept, stands)) =
+    let P : Status → Type 0 = λ s. EndsWith holds words log before now old new s in
+    subst P (sym none) (inr (output, paths, is, accepted, judges, stands), kept)
+run-ended holds words output paths accepted log before now old new result is judges (inr (text, writes, says)) =
+    said holds words log before now old new text status.Done result (Run output paths, is, (accepted, judges, writes)) says
 
--- ---- the words name their files in one way
+-- ---- a check
 
-same-paths : (words : List (List ℕ)) (p q : Paths) → IsRun words p → IsRun words q → p ≡ q
-same-paths words p q a b = let e = sym a ∙ b in
-    let rack : p.rack ≡ q.rack = cc in let schedule : p.schedule ≡ q.schedule = cc in
-    ap (λ (x : List ℕ). let r : Paths = record { rack = x; schedule = p.schedule } in r) rack
-    ∙ ap (λ (x : List ℕ). let r : Paths = record { rack = q.rack; schedule = x } in r) schedule
+pub check-ended : (holds : Option Files) (words : List (List ℕ)) (paths : Paths) (journal : List ℕ) (inputs : Checkable) (before now : Counts) (old new : Option (List ℕ)) (result : Status)
+    → IsForm words (Check paths journal) → JudgesCheck holds paths journal (Ok inputs) → CheckEnds inputs old new before.failed now.failed result
+    → EndsWith holds words [] before now old new result
+check-ended holds words paths journal inputs before now old new result is judges (inl (none, kept)) =
+    let P : Status → Type 0 = λ s. EndsWith holds words [] before now old new s in subst P (sym none) (inl refl, kept)
+check-ended holds words paths journal inputs before now old new result is judges (inr (inl (text, whole, says))) =
+    said holds words [] before now old new text status.Done result (Check paths journal, is, (inputs, judges, whole, refl)) says
+check-ended holds words paths journal inputs before now old new result is judges (inr (inr (label, stuck, says))) =
+    said-line holds words [] before now old new (not_a_run_line label) status.NotARun result refl (paths, journal, is, inputs, judges, label, stuck, refl, refl) says
 
-called-for : (files : Files) (words : List (List ℕ)) (p q : Paths) (j : Judged) → IsRun words p → IsRun words q → Judges (Some files) q j → status_of j ≡ status_of (judge files p)
-called-for files words p q j a b judges = ap status_of (judges-judge files q j judges) ∙ ap (λ paths. status_of (judge files paths)) (same-paths words q p b a)
+-- a log that stayed empty
+pub with-log : (holds : Option Files) (words : List (List ℕ)) (log : List Note) (before now : Counts) (old new : Option (List ℕ)) (result : Status)
+    → log ≡ [] → EndsWith holds words [] before now old new result → EndsWith holds words log before now old new result
+with-log holds words log before now old new result empty ends =
+    let P : List Note → Type 0 = λ l. EndsWith holds words l before now old new result in subst P (sym empty) ends
 
--- ---- the clauses of the top call
-
-pub told : (files : Files) (words : List (List ℕ)) (log : List Note) (before now : Counts) (old new : Option (List ℕ)) (result : Status)
-    → EndsWith (Some files) words log before now old new result → (p : Paths) → IsRun words p
-    → ¬ (Rises before.faults now.faults) → ¬ (Rises before.failed now.failed) → (result ≡ status.NoMemory) ⊎ (result ≡ status_of (judge files p))
-told files words log before now old new status.Done (text, (q, b, accepted, judges, headline), appends) p a no_fault no_failure =
-    inr (called-for files words p q (Accepts accepted) a b judges)
-told files words log before now old new status.Usage (text, (no_form, empty, line), appends) p a no_fault no_failure = absurd (no_form p a)
-told files words log before now old new status.Malformed (text, (q, b, refusal, judges, empty, line), appends) p a no_fault no_failure =
-    inr (called-for files words p q (Ends (Refused refusal)) a b judges)
-told files words log before now old new status.ReadFault (q, b, rises, inl fault, empty, same) p a no_fault no_failure = absurd (no_fault fault)
-told files words log before now old new status.ReadFault (q, b, rises, inr judges, empty, same) p a no_fault no_failure =
-    inr (called-for files words p q (Ends Missing) a b judges)
-told files words log before now old new status.WriteFault (failure, due, text, is_due, front) p a no_fault no_failure = absurd (no_failure failure)
-told files words log before now old new status.NoMemory ends p a no_fault no_failure = inl refl
-
-pub told-where-held : (holds : Option Files) (words : List (List ℕ)) (log : List Note) (before now : Counts) (old new : Option (List ℕ)) (result : Status)
-    → EndsWith holds words log before now old new result
-    → IfSome holds (λ files. (p : Paths) → IsRun words p → ¬ (Rises before.faults now.faults) → ¬ (Rises before.failed now.failed)
-    → (result ≡ status.NoMemory) ⊎ (result ≡ status_of (judge files p)))
-told-where-held (Some files) words log before now old new result ends = told files words log before now old new result ends
-told-where-held None words log before now old new result ends = tt
-
-pub usage-due : (holds : Option Files) (words : List (List ℕ)) (log : List Note) (before now : Counts) (old new : Option (List ℕ)) (result : Status)
-    → EndsWith holds words log before now old new result → IsNoForm words → (result ≡ status.Usage) ⊎ ((result ≡ status.WriteFault) ⊎ (result ≡ status.NoMemory))
-usage-due holds words log before now old new status.Done (text, (q, b, accepted, judges, headline), appends) no_form = absurd (no_form q b)
-usage-due holds words log before now old new status.Usage ends no_form = inl refl
-usage-due holds words log before now old new status.Malformed (text, (q, b, refusal, judges, empty, line), appends) no_form = absurd (no_form q b)
-usage-due holds words log before now old new status.ReadFault (q, b, rises, cause, empty, same) no_form = absurd (no_form q b)
-usage-due holds words log before now old new status.WriteFault ends no_form = inr (inl refl)
-usage-due holds words log before now old new status.NoMemory ends no_form = inr (inr refl)
+-- a line that was said in another spelling
+pub line-said : (old new : Option (List ℕ)) (failed failed' : ℕ) (said text : List ℕ) (due result : Status) → said ≡ text → Says old new failed failed' said due result
+    → SaysLine old new failed failed' text due result
+line-said old new failed failed' said text due result same says =
+    let P : List ℕ → Type 0 = λ t. Says old new failed failed' t due result in inr (subst P same says)

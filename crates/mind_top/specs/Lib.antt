@@ -1,3 +1,6 @@
+pub mod Asked
 pub mod Code
+pub mod Due
 pub mod Ending
+pub mod Parts
 pub mod Words

@@ -1,7 +1,10 @@
 //! The program `mind` over any store of files and any sink of text.
 #![tactic(auto)]
 
+mod checks;
+mod runs;
 mod statuses;
+mod texts;
 mod top;
 mod words;
 

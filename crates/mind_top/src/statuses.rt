@@ -10,6 +10,7 @@ pub enum Status {
     ReadFault,
     WriteFault,
     NoMemory,
+    NotARun,
 }
 
 impl Status {
@@ -24,6 +25,7 @@ impl Status {
             Status::ReadFault => 3,
             Status::WriteFault => 4,
             Status::NoMemory => 5,
+            Status::NotARun => 6,
         }
     }
 }

@@ -1,11 +1,8 @@
 //! The program over files in memory.
 use crate::{Status, mind};
 use mind_base::{Log, MemSink, MemStore, Name, Note};
-use mind_inputs::load;
-use mind_steps::machine_of;
 use std::process::Abort;
 use std::test::Fail;
-use tso_machine::{Machine, Replay};
 
 /// The files of a run, and how it ends.
 struct Row {
@@ -87,7 +84,7 @@ static RUNS: [Row; 7] = [
     },
 ];
 
-static REFUSALS: [Row; 12] = [
+static REFUSALS: [Row; 9] = [
     // No TOML; the rack is judged before all else.
     Row {
         rack: "format =",
@@ -136,30 +133,6 @@ static REFUSALS: [Row; 12] = [
         status: Status::Malformed,
         text: "refused image length 0\n",
     },
-    // lw x10,0(x5).
-    Row {
-        rack: RACK,
-        image: b"\x03\xa5\x02\x00",
-        schedule: SIX_STEPS,
-        status: Status::Malformed,
-        text: "refused image early 0\n",
-    },
-    // sw x7,0(x5).
-    Row {
-        rack: RACK,
-        image: b"\x23\xa0\x72\x00",
-        schedule: SIX_STEPS,
-        status: Status::Malformed,
-        text: "refused image early 0\n",
-    },
-    // lr.w x7,(x5).
-    Row {
-        rack: RACK,
-        image: b"\xaf\xa3\x02\x10",
-        schedule: SIX_STEPS,
-        status: Status::Malformed,
-        text: "refused image early 0\n",
-    },
     // No such thread.
     Row {
         rack: RACK,
@@ -207,6 +180,17 @@ fn files_of<R: AllocGlobal>(
     put(rt, &mut files, "r.toml", rack.as_bytes())?;
     put(rt, &mut files, "a.bin", image)?;
     put(rt, &mut files, "s.txt", schedule.as_bytes())?;
+    Ok(files)
+}
+
+/// The files of a check of a program that puts a byte.
+fn files_with<R: AllocGlobal>(
+    rt: &R,
+    schedule: &str,
+    journal: &str,
+) -> Result<Vec<(Name, Vec<u8>)>, Fail> {
+    let mut files = files_of(rt, RACK, PUTS_A, schedule)?;
+    put(rt, &mut files, "j.txt", journal.as_bytes())?;
     Ok(files)
 }
 
@@ -262,20 +246,45 @@ fn refused_inputs(rt: HostRuntime) -> Result<(), Fail> {
     Ok(())
 }
 
-const WORDS: [&str; 4] = ["run", "r.toml", "s.txt", "more"];
+/// Words of no form.
+struct NoForm {
+    words: &'static [&'static str],
+}
+
+static NO_FORMS: [NoForm; 9] = [
+    NoForm { words: &[] },
+    NoForm { words: &["run"] },
+    NoForm {
+        words: &["run", "r.toml"],
+    },
+    NoForm {
+        words: &["run", "r.toml", "s.txt", "j.txt"],
+    },
+    NoForm {
+        words: &["journal", "r.toml", "s.txt", "j.txt"],
+    },
+    NoForm {
+        words: &["check", "r.toml", "s.txt"],
+    },
+    NoForm {
+        words: &["check", "r.toml", "s.txt", "j.txt", "more"],
+    },
+    NoForm {
+        words: &["runs", "r.toml", "s.txt"],
+    },
+    NoForm {
+        words: &["", "r.toml", "s.txt", "j.txt"],
+    },
+];
+
+const USAGE: &str =
+    "usage: mind run RACK SCHEDULE | journal RACK SCHEDULE | check RACK SCHEDULE JOURNAL\n";
 
 #[test]
 fn words_of_no_form(rt: HostRuntime) -> Result<(), Fail> {
-    for count in [0usize, 1, 2, 4] {
-        let mut store = MemStore::new(Vec::new(rt.alloc()), Vec::new(rt.alloc()));
-        let _log = expect(
-            &rt,
-            &WORDS[..count],
-            &mut store,
-            64,
-            Status::Usage,
-            "usage: mind run RACK SCHEDULE\n",
-        )?;
+    for row in &NO_FORMS {
+        let mut store = MemStore::new(files_with(&rt, "", EMPTY)?, Vec::new(rt.alloc()));
+        let _log = expect(&rt, row.words, &mut store, 128, Status::Usage, USAGE)?;
     }
     Ok(())
 }
@@ -350,31 +359,243 @@ fn the_log_of_a_run(rt: HostRuntime) -> Result<(), Fail> {
 const ONE_STEP: &str =
     "mind 1\nthread 0 running 00000004 out -\ncounts events 1 labels 1 takes 0 gives 0 downs 0 peak 0 splits 0 merges 0\n";
 
-fn machine_at_its_start<R: AllocGlobal>(rt: &R) -> Result<Machine, Fail> {
-    let mut store = MemStore::new(files_of(rt, RACK, PUTS_A, "")?, Vec::new(rt.alloc()));
-    let loaded = load(rt.alloc(), &mut store, "r.toml", "s.txt")
-        .ok()
-        .ok_or("refused")?;
-    let machine = machine_of(rt.alloc(), &loaded.plan, loaded.images.as_slice())?;
-    Ok(machine)
+const JOURNAL: [&str; 3] = ["journal", "r.toml", "s.txt"];
+
+const CHECK: [&str; 4] = ["check", "r.toml", "s.txt", "j.txt"];
+
+/// The journal of no event.
+const EMPTY: &str = "mind journal 1\n";
+
+const SIX_NOTED: &str =
+    "mind journal 1\ne 0\nx 0\ne 1\nx 0\ne 2\nx 0\ne 3\nx 0\ne 4\nx 0\ne 5\nx 0\n";
+
+/// A schedule of the program that puts a byte, and its journal.
+struct Journal {
+    schedule: &'static str,
+    status: Status,
+    text: &'static str,
 }
 
-fn replays<R: Abort + AllocGlobal>(rt: &R, notes: &[Note], ended: Replay) -> Result<(), Fail> {
-    let mut machine = machine_at_its_start(rt)?;
-    let mut log = Log::new(rt.alloc());
-    for note in notes {
-        log.add(*note)?;
+static JOURNALS: [Journal; 4] = [
+    Journal {
+        schedule: SIX_STEPS,
+        status: Status::Done,
+        text: SIX_NOTED,
+    },
+    Journal {
+        schedule: "",
+        status: Status::Done,
+        text: EMPTY,
+    },
+    // There is no store to drain.
+    Journal {
+        schedule: "drain 0\nstep 0\nevict 0 0 1\n",
+        status: Status::Done,
+        text: "mind journal 1\ne 0\ne 1\nx 0\ne 2\n",
+    },
+    Journal {
+        schedule: "settle\n",
+        status: Status::Malformed,
+        text: "refused schedule early\n",
+    },
+];
+
+#[test]
+fn journals_of_runs(rt: HostRuntime) -> Result<(), Fail> {
+    for row in &JOURNALS {
+        let files = files_of(&rt, RACK, PUTS_A, row.schedule)?;
+        let mut store = MemStore::new(files, Vec::new(rt.alloc()));
+        let _log = expect(&rt, &JOURNAL, &mut store, 4096, row.status, row.text)?;
     }
-    assert!(rt; machine.replay(&log)? == ended);
+    Ok(())
+}
+
+/// A journal that is checked against the program that puts a byte.
+struct Check {
+    schedule: &'static str,
+    journal: &'static str,
+    status: Status,
+    text: &'static str,
+}
+
+static CHECKS: [Check; 7] = [
+    Check {
+        schedule: SIX_STEPS,
+        journal: SIX_NOTED,
+        status: Status::Done,
+        text: "mind 1\nthread 0 exit 0 out 41\ncounts events 6 labels 6 takes 0 gives 0 downs 0 peak 0 splits 0 merges 0\n",
+    },
+    // The schedule is read, and need not be that of the journal.
+    Check {
+        schedule: "",
+        journal: "mind journal 1\nx 0\ng 7 15 0\n",
+        status: Status::Done,
+        text: "mind 1\nthread 0 running 00000004 out -\ncounts events 0 labels 1 takes 0 gives 1 downs 0 peak 0 splits 0 merges 0\n",
+    },
+    // The third line drains, and there is no store to drain.
+    Check {
+        schedule: SIX_STEPS,
+        journal: "mind journal 1\ne 0\nd 0\ne 1\nx 0\ne 2\nx 0\ne 3\nx 0\ne 4\nx 0\ne 5\nx 0\n",
+        status: Status::NotARun,
+        text: "not a run: label 0\n",
+    },
+    // The program has ended after six labels.
+    Check {
+        schedule: SIX_STEPS,
+        journal: "mind journal 1\nx 0\nx 0\nx 0\nx 0\nx 0\nx 0\nx 0\n",
+        status: Status::NotARun,
+        text: "not a run: label 6\n",
+    },
+    // There is no such thread.
+    Check {
+        schedule: "",
+        journal: "mind journal 1\nx 0\nx 63\n",
+        status: Status::NotARun,
+        text: "not a run: label 1\n",
+    },
+    // The schedule is judged before the journal.
+    Check {
+        schedule: "step 64\n",
+        journal: "",
+        status: Status::Malformed,
+        text: "refused schedule range 1\n",
+    },
+    Check {
+        schedule: "settle\n",
+        journal: EMPTY,
+        status: Status::Malformed,
+        text: "refused schedule early\n",
+    },
+];
+
+/// Checks a journal; a check leaves no log.
+fn checks<R: Abort + AllocGlobal>(
+    rt: &R,
+    schedule: &str,
+    journal: &str,
+    room: u32,
+    status: Status,
+    text: &str,
+) -> Result<(), Fail> {
+    let files = files_with(rt, schedule, journal)?;
+    let mut store = MemStore::new(files, Vec::new(rt.alloc()));
+    let log = expect(rt, &CHECK, &mut store, room, status, text)?;
+    assert!(rt; log.len() == 0);
     Ok(())
 }
 
 #[test]
-fn a_log_replays_up_to_what_is_not_enabled(rt: HostRuntime) -> Result<(), Fail> {
-    replays(&rt, &[Note::Exec { hart: 0 }], Replay::Whole)?;
-    replays(
+fn checks_of_journals(rt: HostRuntime) -> Result<(), Fail> {
+    for row in &CHECKS {
+        checks(&rt, row.schedule, row.journal, 4096, row.status, row.text)?;
+    }
+    checks(
         &rt,
-        &[Note::Exec { hart: 0 }, Note::Drain { hart: 0 }],
-        Replay::Stuck { label: 1 },
+        "",
+        "mind journal 1\nd 0\n",
+        5,
+        Status::WriteFault,
+        "not a",
     )
+}
+
+#[test]
+fn a_missing_journal(rt: HostRuntime) -> Result<(), Fail> {
+    let files = files_of(&rt, RACK, PUTS_A, SIX_STEPS)?;
+    let mut store = MemStore::new(files, Vec::new(rt.alloc()));
+    let _log = expect(&rt, &CHECK, &mut store, 4096, Status::ReadFault, "")?;
+    Ok(())
+}
+
+/// A text that is no journal, and what is said of it.
+struct NoJournal {
+    journal: &'static str,
+    text: &'static str,
+}
+
+static NO_JOURNALS: [NoJournal; 19] = [
+    NoJournal {
+        journal: "",
+        text: "refused journal head\n",
+    },
+    NoJournal {
+        journal: "e 0\n",
+        text: "refused journal head\n",
+    },
+    NoJournal {
+        journal: "mind journal 1 \ne 0\n",
+        text: "refused journal head\n",
+    },
+    NoJournal {
+        journal: "mind journal 1",
+        text: "refused journal head\n",
+    },
+    NoJournal {
+        journal: "mind journal 1\nq 0\n",
+        text: "refused journal line 2\n",
+    },
+    NoJournal {
+        journal: "mind journal 1\ne 0\nx\n",
+        text: "refused journal line 3\n",
+    },
+    NoJournal {
+        journal: "mind journal 1\nx 0 0\n",
+        text: "refused journal line 2\n",
+    },
+    NoJournal {
+        journal: "mind journal 1\ne 0\nx  0\n",
+        text: "refused journal line 3\n",
+    },
+    NoJournal {
+        journal: "mind journal 1\ne 00\n",
+        text: "refused journal line 2\n",
+    },
+    NoJournal {
+        journal: "mind journal 1\ne 1000000\n",
+        text: "refused journal line 2\n",
+    },
+    NoJournal {
+        journal: "mind journal 1\ne 0\ne 1\nx 64\n",
+        text: "refused journal line 4\n",
+    },
+    NoJournal {
+        journal: "mind journal 1\ng 8 0 0\n",
+        text: "refused journal line 2\n",
+    },
+    NoJournal {
+        journal: "mind journal 1\nr 0 0 0 s 0\n",
+        text: "refused journal line 2\n",
+    },
+    NoJournal {
+        journal: "mind journal 1\nr 0 0 0 s 256\n",
+        text: "refused journal line 2\n",
+    },
+    NoJournal {
+        journal: "mind journal 1\no 0 0 10\n",
+        text: "refused journal line 2\n",
+    },
+    NoJournal {
+        journal: "mind journal 1\ns 0 1 1\n",
+        text: "refused journal line 2\n",
+    },
+    NoJournal {
+        journal: "mind journal 1\nm 0 waiting\n",
+        text: "refused journal line 2\n",
+    },
+    NoJournal {
+        journal: "mind journal 1\ne 0\nx 0",
+        text: "refused journal line 3\n",
+    },
+    NoJournal {
+        journal: "mind journal 1\n\ne 0\n",
+        text: "refused journal line 2\n",
+    },
+];
+
+#[test]
+fn texts_that_are_no_journal(rt: HostRuntime) -> Result<(), Fail> {
+    for row in &NO_JOURNALS {
+        checks(&rt, "", row.journal, 4096, Status::Malformed, row.text)?;
+    }
+    Ok(())
 }

@@ -1,85 +1,24 @@
-ghost use Rattle.std.specs.Prelude.{◌≡◌, ◌≤◌, ◌⊎◌, ℕ, List, [], length, map, string_bytes, IfSome};
+ghost use Rattle.std.specs.Prelude.{◌≡◌, ◌≤◌, ◌⊎◌, ℕ, List, [], Ok, length, map, string_bytes, IfSome};
 ghost use Rattle.mind_base.specs.Store.{Rises};
 ghost use Rattle.mind_base.specs.Sink.{Appends};
-ghost use Rattle.mind_base.specs.Fit.{IsFit, FitImages};
 ghost use Rattle.mind_inputs.specs.Words.{Paths};
-ghost use Rattle.mind_inputs.specs.Refusal.{line_of};
-ghost use Rattle.mind_inputs.specs.Inputs.{Accepted, Judges, Accepts, judge};
-ghost use Rattle.mind_steps.specs.Run.{setup_of, Headline};
-ghost use Rattle.mind_top.specs.Words.{IsRun, IsNoForm};
-ghost use Rattle.mind_top.specs.Ending.{Answers, Counts, EndsWith, Finishes, Refuses, Says, status_of};
+ghost use Rattle.mind_inputs.specs.Inputs.{Accepted, Judges, Accepts};
+ghost use Rattle.mind_inputs.specs.Journals.{Checkable, JudgesCheck};
+ghost use Rattle.mind_steps.specs.Run.{setup_of, Headline, JournalHeadline};
+ghost use Rattle.mind_top.specs.Words.{Form, IsForm, IsRun, IsJournal, IsCheck, IsNoForm};
+ghost use Rattle.mind_top.specs.Due.{IsWhole, IsStuck, not_a_run_line, CallFor};
+ghost use Rattle.mind_top.specs.Ending.{Counts, EndsWith};
 
 use crate::Status;
-use crate::words::paths_of;
-use mind_base::{Log, NoMemory, Sink, Store};
-use mind_inputs::{Loaded, Refusal, Stopped, load};
-use mind_steps::run;
+use crate::checks::answer_check;
+use crate::runs::answer_run;
+use crate::texts::say;
+use crate::words::{Asked, asked_of};
+use mind_base::{Log, Sink, Store};
 use std::alloc::Global;
 
-const USAGE_LINE: &[u8; 30] = b"usage: mind run RACK SCHEDULE\n";
-
-/// Writes a text, and answers the status that is due, or that the write failed.
-fn say<K: Sink>(sink: &mut K, text: &[u8], due: Status) -> Status
-    ensures { Says (K.written sink.old) (K.written sink.new) (K.faults sink.old) (K.faults sink.new) text.now due result }
-{
-    match sink.write_all(text) {
-        Ok(()) => due,
-        Err(_) => Status::WriteFault,
-    }
-}
-
-/// Writes why an input is refused.
-fn refuse<K: Sink>(alloc: Global, refusal: &Refusal, sink: &mut K) -> Status
-    ensures { Refuses (K.written sink.old) (K.written sink.new) (K.faults sink.old) (K.faults sink.new) (line_of refusal.now) result }
-{
-    match refusal.line(alloc) {
-        Ok(line) => say(sink, line.as_slice(), Status::Malformed),
-        Err(NoMemory) => Status::NoMemory,
-    }
-}
-
-/// Runs accepted inputs and writes the report.
-fn finish<K: Sink>(alloc: Global, loaded: &Loaded, sink: &mut K, log: &mut Log) -> Status
-    requires fit { IsFit loaded.now.plan }
-    requires images { FitImages loaded.now.plan.images loaded.now.images }
-    requires few { length loaded.now.events ≤ 1000000 }
-    requires empty { log.old.notes ≡ [] }
-    ensures { Finishes loaded.now log.new.notes (K.faults sink.old) (K.faults sink.new) (K.written sink.old) (K.written sink.new) result }
-{
-    match run(
-        alloc,
-        &loaded.plan,
-        loaded.images.as_slice(),
-        loaded.events.as_slice(),
-        log,
-    ) {
-        Ok(text) => say(sink, text.as_slice(), Status::Done),
-        Err(NoMemory) => Status::NoMemory,
-    }
-}
-
-/// Reads, judges and runs the files of these names.
-fn answer<S: Store, K: Sink>(
-    alloc: Global,
-    rack: &str,
-    schedule: &str,
-    store: &mut S,
-    sink: &mut K,
-    log: &mut Log,
-) -> Status
-    requires { log.old.notes ≡ [] }
-    ensures { Answers (S.holds store.old) (record { rack = rack.now; schedule = schedule.now }) log.new.notes
-        (record { faults = S.faults store.old; missed = S.missed store.old; failed = K.faults sink.old })
-        (record { faults = S.faults store.new; missed = S.missed store.new; failed = K.faults sink.new })
-        (K.written sink.old) (K.written sink.new) result }
-{
-    match load(alloc, store, rack, schedule) {
-        Ok(loaded) => finish(alloc, &loaded, sink, log),
-        Err(Stopped::Refused { refusal }) => refuse(alloc, &refusal, sink),
-        Err(Stopped::ReadFault) => Status::ReadFault,
-        Err(Stopped::NoMemory) => Status::NoMemory,
-    }
-}
+const USAGE_LINE: &[u8; 84] =
+    b"usage: mind run RACK SCHEDULE | journal RACK SCHEDULE | check RACK SCHEDULE JOURNAL\n";
 
 fn top<S: Store, K: Sink>(
     alloc: Global,
@@ -94,16 +33,30 @@ fn top<S: Store, K: Sink>(
         (record { faults = S.faults store.new; missed = S.missed store.new; failed = K.faults sink.new })
         (K.written sink.old) (K.written sink.new) result }
 {
-    match paths_of(words) {
+    match asked_of(words) {
         None => say(sink, USAGE_LINE, Status::Usage),
-        Some((rack, schedule)) => answer(alloc, rack, schedule, store, sink, log),
+        Some(
+            Asked::Run {
+                output,
+                rack,
+                schedule,
+            },
+        ) => answer_run(alloc, output, rack, schedule, store, sink, log),
+        Some(
+            Asked::Check {
+                rack,
+                schedule,
+                journal,
+            },
+        ) => answer_check(alloc, rack, schedule, journal, store, sink),
     }
 }
 
-/// The program: reads the rack file, its image and the schedule that the words name, runs the rack, and
-/// writes the report. Everything that it writes goes out by one write.
+/// The program: reads the files that the words name and writes what they ask for, all by one write.
+/// `run RACK SCHEDULE` writes the report of a run, `journal RACK SCHEDULE` the text of its log, and
+/// `check RACK SCHEDULE JOURNAL` the report of a journal whose labels the machine allows.
 ///
-/// The log gets the notes of the run. It stays empty where no run takes place; where memory ran out, the
+/// The log gets the notes of a run. It stays empty where no run takes place; where memory ran out, the
 /// labels before its last event note still replay from the machine's start.
 pub fn mind<S: Store, K: Sink>(
     alloc: Global,
@@ -121,9 +74,27 @@ pub fn mind<S: Store, K: Sink>(
         (K.written sink.old) (K.written sink.new) result }
 
     // The report is that of a run of the machine, the run being the labels of the log.
-    ensures headline { result ≡ Status.Done → (paths : Paths) × (accepted : Accepted) × (text : List ℕ)
-        × IsRun (map string_bytes words.now) paths × Judges (S.holds store.old) paths (Accepts accepted)
+    ensures headline { (paths : Paths) → IsRun (map string_bytes words.now) paths → result ≡ Status.Done
+        → (accepted : Accepted) × Judges (S.holds store.old) paths (Accepts accepted) × (text : List ℕ)
         × Headline (setup_of accepted.plan accepted.images) accepted.events log.new.notes text × Appends (K.written sink.old) (K.written sink.new) text }
+
+    // The journal is the text of the log of such a run.
+    ensures journal { (paths : Paths) → IsJournal (map string_bytes words.now) paths → result ≡ Status.Done
+        → (accepted : Accepted) × Judges (S.holds store.old) paths (Accepts accepted) × (text : List ℕ)
+        × JournalHeadline (setup_of accepted.plan accepted.images) accepted.events log.new.notes text × Appends (K.written sink.old) (K.written sink.new) text }
+
+    // A journal is found to be that of a run where its labels replay whole, and the report is that of its notes.
+    ensures check { (paths : Paths) (journal : List ℕ) → IsCheck (map string_bytes words.now) paths journal → result ≡ Status.Done
+        → (inputs : Checkable) × JudgesCheck (S.holds store.old) paths journal (Ok inputs) × (text : List ℕ)
+        × IsWhole inputs text × Appends (K.written sink.old) (K.written sink.new) text }
+
+    // Only a check finds a journal that is none, by its first label that is not enabled.
+    ensures not_a_run { result ≡ Status.NotARun → (paths : Paths) × (journal : List ℕ) × IsCheck (map string_bytes words.now) paths journal
+        × (inputs : Checkable) × JudgesCheck (S.holds store.old) paths journal (Ok inputs) × (label : ℕ) × IsStuck inputs label
+        × Appends (K.written sink.old) (K.written sink.new) (not_a_run_line label) }
+
+    // A check leaves no log.
+    ensures check_log { (paths : Paths) (journal : List ℕ) → IsCheck (map string_bytes words.now) paths journal → log.new.notes ≡ [] }
 
     // Words of no form, and no others, call for the usage line.
     ensures usage { result ≡ Status.Usage → IsNoForm (map string_bytes words.now) }
@@ -136,9 +107,9 @@ pub fn mind<S: Store, K: Sink>(
     ensures write_fault { result ≡ Status.WriteFault → Rises (K.faults sink.old) (K.faults sink.new) }
 
     // Where the store tells what it holds and nothing outside fails, the files decide the status.
-    ensures told { IfSome (S.holds store.old) (λ files. (paths : Paths) → IsRun (map string_bytes words.now) paths
+    ensures told { IfSome (S.holds store.old) (λ files. (form : Form) → IsForm (map string_bytes words.now) form
         → ¬ (Rises (S.faults store.old) (S.faults store.new)) → ¬ (Rises (K.faults sink.old) (K.faults sink.new))
-        → (result ≡ Status.NoMemory) ⊎ (result ≡ status_of (judge files paths))) }
+        → (result ≡ Status.NoMemory) ⊎ CallFor files form result) }
 {
     top(alloc, words, store, sink, log)
 }

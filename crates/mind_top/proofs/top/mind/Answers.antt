@@ -1,5 +1,15 @@
-use Rattle.mind_top.proofs.Ends.{told-where-held}
+use Rattle.mind_top.specs.declared.words.Output.TheVariants.{Report, Journal}
+use Rattle.mind_top.proofs.Clauses.{run-done, check-done, told-where-held}
 use Rattle.mind_top.proofs.top.mind.Goals as goal
 
+pub returns-clause-headline : goal.returns-clause-headline
+returns-clause-headline g c = run-done (g.S.Store.holds c.args.store.now) _ c.top.new.log.notes _ _ _ _ c.top.result Report c.top.ensures
+
+pub returns-clause-journal : goal.returns-clause-journal
+returns-clause-journal g c = run-done (g.S.Store.holds c.args.store.now) _ c.top.new.log.notes _ _ _ _ c.top.result Journal c.top.ensures
+
+pub returns-clause-check : goal.returns-clause-check
+returns-clause-check g c = check-done (g.S.Store.holds c.args.store.now) _ c.top.new.log.notes _ _ _ _ c.top.result c.top.ensures
+
 pub returns-clause-told : goal.returns-clause-told
-returns-clause-told g c = told-where-held (g.S.Store.holds c.args.store.now) _ _ _ _ _ _ c.top.result c.top.ensures
+returns-clause-told g c = told-where-held (g.S.Store.holds c.args.store.now) _ c.top.new.log.notes _ _ _ _ c.top.result c.top.ensures

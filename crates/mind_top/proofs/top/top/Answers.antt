@@ -1,4 +1,18 @@
+use Rattle.std.proofs.Common.{refl}
+use Rattle.mind_top.specs.Words.{usage_line}
+use Rattle.mind_top.specs.declared.statuses.Status.TheVariants as status
+use Rattle.mind_top.proofs.Ends.{said, with-log}
+use Rattle.mind_top.proofs.Forms.{asked-as}
 use Rattle.mind_top.proofs.top.top.Goals as goal
 
-pub returns-in-Some : goal.returns-in-Some
-returns-in-Some g c = c.answer.ensures _ c.in-Some.ensures
+pub returns-in-None : goal.returns-in-None
+returns-in-None g c =
+    said (g.S.Store.holds c.args.store.now) _ c.args.log.now.notes _ _ _ _ usage_line status.Usage c.say.result (c.in-None.ensures, c.requires, refl) c.say.ensures
+
+pub returns-in-Some-Run : goal.returns-in-Some-Run
+returns-in-Some-Run g c = c.answer_run.ensures _ (asked-as _ _ _ c.in-Some-Run.field-0-is c.in-Some-Run.ensures)
+
+pub returns-in-Some-Check : goal.returns-in-Some-Check
+returns-in-Some-Check g c =
+    with-log (g.S.Store.holds c.args.store.now) _ c.args.log.now.notes _ _ _ _ c.answer_check.result c.requires
+    (c.answer_check.ensures _ (asked-as _ _ _ c.in-Some-Check.field-0-is c.in-Some-Check.ensures))

@@ -1,0 +1,93 @@
+-- What is due: by the form of the words and the files that they name.
+use Rattle.std.specs.Prelude.{◌≡◌, ◌⊎◌, ℕ, false, codes, List, [], ◌∷◌, ◌++◌, Option, Some, Result, Ok, Err}
+use Rattle.std.specs.Fmt.{digits}
+use Rattle.mind_base.specs.Store.{Files}
+use Rattle.mind_base.specs.declared.notes.Note.{Note}
+use Rattle.mind_inputs.specs.Words.{Paths}
+use Rattle.mind_inputs.specs.Refusal.{line_of}
+use Rattle.mind_inputs.specs.Inputs.{Ending, Missing, Refused, Judged, Ends, Accepts, Accepted, Judges, judge}
+use Rattle.mind_inputs.specs.Journals.{Checkable, JudgesCheck}
+use Rattle.mind_inputs.specs.declared.refusals.Refusal.{Refusal}
+use Rattle.tso_machine.specs.State.{Setup, start_state}
+use Rattle.tso_machine.specs.Replay.{labels, Replayed, Whole, Stuck, replay}
+use Rattle.mind_steps.specs.Run.{setup_of, Headline, JournalHeadline, IsReportOf, IsStuckAt, Stands}
+use Rattle.mind_top.specs.Words.{Form, Run, Check, IsForm, IsCheck, IsNoForm, usage_line}
+use Rattle.mind_top.specs.declared.words.Output.{Output}
+use Rattle.mind_top.specs.declared.words.Output.TheVariants.{Report, Journal}
+use Rattle.mind_top.specs.declared.statuses.Status.{Status}
+use Rattle.mind_top.specs.declared.statuses.Status.TheVariants as status
+
+-- ---- what each form makes of its inputs
+
+-- the machine of accepted inputs
+abbrev pub setup_by : Accepted → Setup
+setup_by accepted = setup_of accepted.plan accepted.images
+
+-- a run leaves its log, and writes its report or the text of the log
+abbrev pub RunWrites : Output → Accepted → List Note → List ℕ → Type 0
+RunWrites Report accepted log text = Headline (setup_by accepted) accepted.events log text
+RunWrites Journal accepted log text = JournalHeadline (setup_by accepted) accepted.events log text
+
+-- a journal whose labels replay whole is that of a run, and the text is its report
+abbrev pub IsWhole : Checkable → List ℕ → Type 0
+IsWhole inputs text = IsReportOf (setup_by inputs.accepted) inputs.notes text
+
+-- any other is that of none, by its first label that is not enabled
+abbrev pub IsStuck : Checkable → ℕ → Type 0
+IsStuck inputs label = IsStuckAt (setup_by inputs.accepted) inputs.notes label
+
+abbrev pub not_a_run_line : ℕ → List ℕ
+not_a_run_line label = codes "not a run: label " ++ digits 10 false label ++ 10 ∷ []
+
+-- ---- by the form
+
+-- the inputs of a form are accepted, and this log and text are due; a check leaves no log
+abbrev pub DoneBy : Option Files → Form → List Note → List ℕ → Type 0
+DoneBy holds (Run output paths) log text = (accepted : Accepted) × Judges holds paths (Accepts accepted) × RunWrites output accepted log text
+DoneBy holds (Check paths journal) log text = (inputs : Checkable) × JudgesCheck holds paths journal (Ok inputs) × IsWhole inputs text × (log ≡ [])
+
+-- an input of a form ends the call
+abbrev pub EndsBy : Option Files → Form → Ending → Type 0
+EndsBy holds (Run output paths) ending = Judges holds paths (Ends ending)
+EndsBy holds (Check paths journal) ending = JudgesCheck holds paths journal (Err ending)
+
+-- The status and the text that are due where the one write does not fail, and the log that stands then.
+abbrev pub Due : Option Files → List (List ℕ) → List Note → Status → List ℕ → Type 0
+Due holds words log status.Done text = (form : Form) × IsForm words form × DoneBy holds form log text
+Due holds words log status.Usage text = IsNoForm words × (log ≡ []) × (text ≡ usage_line)
+Due holds words log status.Malformed text =
+    (form : Form) × IsForm words form × (refusal : Refusal) × EndsBy holds form (Refused refusal) × (log ≡ []) × (text ≡ line_of refusal)
+Due holds words log status.NotARun text =
+    (paths : Paths) × (journal : List ℕ) × IsCheck words paths journal × (inputs : Checkable) × JudgesCheck holds paths journal (Ok inputs)
+    × (label : ℕ) × IsStuck inputs label × (log ≡ []) × (text ≡ not_a_run_line label)
+Due holds words log status.ReadFault text = ⊥
+Due holds words log status.WriteFault text = ⊥
+Due holds words log status.NoMemory text = ⊥
+
+-- where memory ran out, the labels before the last event of the log replay, if a run took place at all
+abbrev pub LogStands : Option Files → List (List ℕ) → List Note → Type 0
+LogStands holds words log = (log ≡ []) ⊎ ((output : Output) × (paths : Paths) × IsForm words (Run output paths) × (accepted : Accepted)
+    × Judges holds paths (Accepts accepted) × Stands (setup_by accepted) log)
+
+-- ---- the status that the files call for
+
+abbrev pub status_of_ending : Ending → Status
+status_of_ending Missing = status.ReadFault
+status_of_ending (Refused refusal) = status.Malformed
+
+abbrev pub status_of : Judged → Status
+status_of (Ends ending) = status_of_ending ending
+status_of (Accepts accepted) = status.Done
+
+abbrev pub status_of_replay : Replayed → Status
+status_of_replay (Whole state) = status.Done
+status_of_replay (Stuck label state) = status.NotARun
+
+abbrev pub status_of_check : Result Checkable Ending → Status
+status_of_check (Err ending) = status_of_ending ending
+status_of_check (Ok inputs) = status_of_replay (replay (setup_by inputs.accepted) (start_state (setup_by inputs.accepted)) (labels inputs.notes))
+
+-- the files of a form call for this status
+abbrev pub CallFor : Files → Form → Status → Type 0
+CallFor files (Run output paths) result = result ≡ status_of (judge files paths)
+CallFor files (Check paths journal) result = (answer : Result Checkable Ending) × JudgesCheck (Some files) paths journal answer × (result ≡ status_of_check answer)
