@@ -1,0 +1,7 @@
+# IRIW, thread 1: y = 1. The words of p1.bin, at address 0:
+    lui x6, 2               # 00002337  y is the word at 0x2000
+    addi x7, x0, 1          # 00100393
+    sw x7, 0(x6)            # 00732023  y = 1
+    addi a0, x0, 0          # 00000513
+    addi a7, x0, 2          # 00200893  call 2 exits with a0
+    ecall                   # 00000073

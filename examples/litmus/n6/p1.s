@@ -1,0 +1,9 @@
+# n6, thread 1: y = 2, then x = 2. The words of p1.bin, at address 0:
+    lui x5, 1               # 000012b7  x is the word at 0x1000
+    lui x6, 2               # 00002337  y is the word at 0x2000
+    addi x7, x0, 2          # 00200393
+    sw x7, 0(x6)            # 00732023  y = 2
+    sw x7, 0(x5)            # 0072a023  x = 2
+    addi a0, x0, 0          # 00000513
+    addi a7, x0, 2          # 00200893  call 2 exits with a0
+    ecall                   # 00000073
