@@ -6,7 +6,8 @@ use Rattle.mind_base.specs.declared.events.Event.{Event}
 use Rattle.mind_base.specs.declared.notes.Note.{Note}
 use Rattle.mind_base.specs.declared.plans.ThreadPlan.{ThreadPlan}
 use Rattle.journal_text.specs.Journal.{journal_text_of}
-use Rattle.tso_machine.specs.State.{Setup, State, start_state, first_thread, image_at}
+use Rattle.hart_effect.specs.Thread.{first_thread}
+use Rattle.tso_machine.specs.State.{Setup, State, start_state, image_at}
 use Rattle.tso_machine.specs.Replay.{labels, Replayed, Whole, Stuck, replay}
 use Rattle.tso_machine.specs.Machine.{MachineView, StandsFor, Replays, ReplaysTo}
 use Rattle.tso_machine.specs.declared.labels.Replay.TheVariants as answer

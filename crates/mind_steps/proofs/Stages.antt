@@ -8,7 +8,8 @@ use Rattle.mind_base.specs.declared.events.Event.TheVariants as event
 use Rattle.mind_base.specs.declared.notes.Note.{Note}
 use Rattle.mind_base.specs.declared.notes.Note.TheVariants as note
 use Rattle.mind_base.specs.declared.plans.ThreadPlan.{ThreadPlan}
-use Rattle.tso_machine.specs.State.{Setup, State, start_state, first_thread, image_at}
+use Rattle.hart_effect.specs.Thread.{first_thread}
+use Rattle.tso_machine.specs.State.{Setup, State, start_state, image_at}
 use Rattle.tso_machine.specs.Step.{after}
 use Rattle.tso_machine.specs.Replay.{labels, label_of, Whole, advanced, replay}
 use Rattle.tso_machine.specs.Machine.{MachineView, StandsFor}

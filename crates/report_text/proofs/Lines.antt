@@ -5,7 +5,7 @@ use Rattle.std.specs.Option.{option_map}
 use Rattle.std.proofs.lemmas.List.{length-take}
 use Rattle.std.proofs.lemmas.Option.{slice_get_within, same_Some}
 use Rattle.mind_base.specs.declared.ends.End.{End}
-use Rattle.tso_machine.specs.State.{Thread}
+use Rattle.hart_effect.specs.Thread.{Thread}
 use Rattle.tso_machine.proofs.Runs.{take-at}
 use Rattle.report_text.specs.ThreadLine.{thread_line_of, thread_line, thread_lines_from, thread_lines}
 

@@ -2,7 +2,8 @@
 use Rattle.std.specs.Prelude.{ℕ, codes, List, ◌++◌}
 use Rattle.mind_base.specs.declared.commands.Command.{Command}
 use Rattle.mind_base.specs.declared.notes.Note.{Note}
-use Rattle.tso_machine.specs.State.{Thread, Taken}
+use Rattle.hart_effect.specs.Thread.{Thread}
+use Rattle.tso_machine.specs.State.{Taken}
 use Rattle.report_text.specs.CommandLine.{command_lines}
 use Rattle.report_text.specs.ThreadLine.{thread_lines}
 use Rattle.report_text.specs.Counts.{counts_line}

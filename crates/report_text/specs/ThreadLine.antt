@@ -5,7 +5,7 @@ use Rattle.mind_base.specs.declared.ends.End.{End}
 use Rattle.mind_base.specs.declared.ends.End.TheVariants.{Running, Exit, Fault}
 use Rattle.mind_base.specs.declared.ends.FaultKind.{FaultKind}
 use Rattle.mind_base.specs.declared.ends.FaultKind.TheVariants as fault
-use Rattle.tso_machine.specs.State.{Thread}
+use Rattle.hart_effect.specs.Thread.{Thread}
 use Rattle.report_text.specs.Digits.{decimal, hex2, hex8}
 
 abbrev pub fault_word : FaultKind → List ℕ

@@ -8,11 +8,12 @@ use Rattle.flat_memory.specs.FlatMemory.{MemoryView, byte_in, stored}
 use Rattle.mind_base.specs.declared.images.Image.{Image}
 use Rattle.mind_base.specs.declared.plans.ThreadPlan.{ThreadPlan}
 use Rattle.protect_table.specs.Protect.{permission_at}
-use Rattle.tso_machine.specs.State.{State, Thread}
-use Rattle.tso_machine.specs.Place.{place_of, granule_at}
+use Rattle.hart_effect.specs.Thread.{Thread}
+use Rattle.tso_machine.specs.State.{State}
+use Rattle.hart_effect.specs.Place.{place_of, granule_at}
 use Rattle.tso_machine.specs.Memory.{byte_of}
-use Rattle.tso_machine.specs.Access.{Around}
-use Rattle.tso_machine.specs.Deed.{Deed, Alone, Storing, executed, drained}
+use Rattle.hart_effect.specs.Access.{Around}
+use Rattle.hart_effect.specs.Deed.{Deed, Alone, Storing, executed, drained}
 use Rattle.tso_machine.specs.Done.{Does, Settles}
 use Rattle.tso_machine.specs.Step.{threads_off, around_in, done_by, after_exec, after_drain}
 use Rattle.tso_machine.specs.Machine.{MachineView, StandsFor, LeadsTo, CarriesOut, around_at}

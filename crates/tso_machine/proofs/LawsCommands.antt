@@ -12,7 +12,8 @@ use Rattle.mind_base.specs.declared.commands.Command.TheVariants.{Map, Unmap, Pr
 use Rattle.mind_base.specs.declared.commands.Outcome.{Outcome}
 use Rattle.mind_base.specs.declared.commands.Outcome.TheVariants as outcome
 use Rattle.mind_base.specs.declared.commands.Perm.{Perm}
-use Rattle.tso_machine.specs.State.{Setup, State, Thread, Write, Taken}
+use Rattle.hart_effect.specs.Thread.{Thread}
+use Rattle.tso_machine.specs.State.{Setup, State, Write, Taken}
 use Rattle.tso_machine.specs.Commands.{threads_outside, threads_after, writes_after, is_fine, is_held_up, taken_as, outcome_in_state, taken_unless_held_up, next_command}
 use Rattle.tso_machine.specs.Step.{after}
 use Rattle.tso_machine.specs.Orders.{Zeroed, mapped_span, zeroed_in_state, zeroes, spans_of, accepted_span, accepted_spans, writes_of}

@@ -17,14 +17,15 @@ use Rattle.mind_base.specs.declared.ends.FaultKind.{FaultKind}
 use Rattle.mind_base.specs.declared.ends.FaultKind.TheVariants as fault
 use Rattle.mind_base.specs.declared.images.Image.{Image}
 use Rattle.mind_base.specs.declared.plans.ThreadPlan.{ThreadPlan}
-use Rattle.tso_machine.specs.State.{Setup, State, Thread}
-use Rattle.tso_machine.specs.Place.{place_of, granule_at}
-use Rattle.tso_machine.specs.Access.{Around, read_denied, write_denied}
-use Rattle.tso_machine.specs.Deed.{Deed, Alone, Storing, faulted, continued, put_out, unless_denied, called, locked_done, holds_reservation, stored_if, acted, must_wait, holds_stores, found, carried_out, executed_at, executed, drained_of, drained}
+use Rattle.hart_effect.specs.Thread.{Thread}
+use Rattle.tso_machine.specs.State.{Setup, State}
+use Rattle.hart_effect.specs.Place.{place_of, granule_at}
+use Rattle.hart_effect.specs.Access.{Around, read_denied, write_denied}
+use Rattle.hart_effect.specs.Deed.{Deed, Alone, Storing, faulted, continued, put_out, unless_denied, called, locked_done, holds_reservation, stored_if, acted, must_wait, holds_stores, found, carried_out, executed_at, executed, drained_of, drained}
 use Rattle.tso_machine.specs.Step.{around_in, done_by, after}
 use Rattle.tso_machine.specs.Orders.{event_of, effect_of, scene_with, scene_of, in_effect, unless_refused, store_by, store_upon, store_at, executes, performs}
-use Rattle.tso_machine.specs.declared.finds.Found.{Found}
-use Rattle.tso_machine.specs.declared.finds.Found.TheVariants.{Outside, Unknown, Asks}
+use Rattle.hart_effect.specs.declared.finds.Found.{Found}
+use Rattle.hart_effect.specs.declared.finds.Found.TheVariants.{Outside, Unknown, Asks}
 use Rattle.tso_machine.specs.declared.labels.Label.{Label}
 use Rattle.tso_machine.specs.declared.labels.Label.TheVariants as label
 

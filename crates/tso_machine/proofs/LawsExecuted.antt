@@ -6,7 +6,8 @@ use Rattle.std.proofs.lemmas.Bool.{eqb-true}
 use Rattle.std.proofs.lemmas.Option.{none-some, cond_some}
 use Rattle.std.specs.Option.{option_map}
 use Rattle.mind_base.specs.Pending.{PendingView}
-use Rattle.tso_machine.specs.State.{Setup, State, Thread}
+use Rattle.hart_effect.specs.Thread.{Thread}
+use Rattle.tso_machine.specs.State.{Setup, State}
 use Rattle.tso_machine.specs.Laws.{RunsTo, IsStep, ExecutedBy}
 use Rattle.tso_machine.specs.Orders.{StoreEvent, event_of, executes, program_order, memory_order, store_if, stores_of, effects_of}
 use Rattle.tso_machine.specs.declared.labels.Label.{Label}

@@ -9,14 +9,15 @@ use Rattle.hart_core.specs.declared.outcome.Act.TheVariants as act
 use Rattle.mind_base.specs.declared.ends.End.{End}
 use Rattle.mind_base.specs.declared.ends.End.TheVariants.{Running, Exit, Fault}
 use Rattle.mind_base.specs.declared.images.Image.{Image}
-use Rattle.tso_machine.specs.State.{Setup, State, Thread}
-use Rattle.tso_machine.specs.Access.{Around}
-use Rattle.tso_machine.specs.Deed.{Deed, acted, must_wait, wants_empty, holds_stores, carried_out, executed_at, executed}
+use Rattle.hart_effect.specs.Thread.{Thread}
+use Rattle.tso_machine.specs.State.{Setup, State}
+use Rattle.hart_effect.specs.Access.{Around}
+use Rattle.hart_effect.specs.Deed.{Deed, acted, must_wait, wants_empty, holds_stores, carried_out, executed_at, executed}
 use Rattle.tso_machine.specs.Step.{around_in, done_by, after}
 use Rattle.tso_machine.specs.Laws.{RunsTo, AllInMemory, FencedIsEmpty}
 use Rattle.tso_machine.specs.Orders.{scene_with, scene_of, upon, comes_upon, memory_order, effects_of}
-use Rattle.tso_machine.specs.declared.finds.Found.{Found}
-use Rattle.tso_machine.specs.declared.finds.Found.TheVariants.{Asks}
+use Rattle.hart_effect.specs.declared.finds.Found.{Found}
+use Rattle.hart_effect.specs.declared.finds.Found.TheVariants.{Asks}
 use Rattle.tso_machine.specs.declared.labels.Label.{Label}
 use Rattle.tso_machine.specs.declared.labels.Label.TheVariants as label
 use Rattle.tso_machine.proofs.LawsDeeds.{thread_of, locked-buffer, nothing-waits, mapped-some}

@@ -5,7 +5,8 @@ use Rattle.std.specs.Option.{option_map, option_to_list}
 use Rattle.std.proofs.lemmas.List.Elements.{All-nil, All-same}
 use Rattle.std.proofs.lemmas.Option.{same_Some, none-some}
 use Rattle.mind_base.specs.Pending.{PendingView, covers, byte_at}
-use Rattle.tso_machine.specs.State.{Setup, State, Thread}
+use Rattle.hart_effect.specs.Thread.{Thread}
+use Rattle.tso_machine.specs.State.{Setup, State}
 use Rattle.tso_machine.specs.Memory.{byte_of}
 use Rattle.tso_machine.specs.Step.{after, bytes_of}
 use Rattle.tso_machine.specs.Laws.{sees, SeesAtOnce, SeesOwnStore}

@@ -6,7 +6,8 @@ use Rattle.std.specs.List.{flat_map}
 use Rattle.std.proofs.lemmas.List.Concat.{flat_map-cons}
 use Rattle.std.proofs.lemmas.Bool.Decides.{eqb_tells}
 use Rattle.mind_base.specs.Pending.{PendingView, covers, byte_at, byte_number, newest_from, newest_byte}
-use Rattle.tso_machine.specs.State.{State, Thread, Write, Byte, Zeros}
+use Rattle.hart_effect.specs.Thread.{Thread}
+use Rattle.tso_machine.specs.State.{State, Write, Byte, Zeros}
 use Rattle.tso_machine.specs.Memory.{byte_after, byte_from, byte_of}
 use Rattle.tso_machine.specs.Step.{bytes_from, bytes_of}
 use Rattle.tso_machine.specs.Laws.{IsLast, IsNewestStore, NoneCovers, write_covers, byte_written, IsLastWrite, HasSource, sees}

@@ -6,7 +6,8 @@ use Rattle.std.proofs.lemmas.Option.{same_Some, none-some, slice_get_within, sli
 use Rattle.std.specs.Option.{option_map, option_to_list}
 use Rattle.mind_base.specs.Pending.{PendingView}
 use Rattle.mind_base.specs.Span.{SpanView}
-use Rattle.tso_machine.specs.State.{Setup, State, Thread, Write, Zeros}
+use Rattle.hart_effect.specs.Thread.{Thread}
+use Rattle.tso_machine.specs.State.{Setup, State, Write, Zeros}
 use Rattle.tso_machine.specs.Laws.{RunsTo, IsStep, ExecutedBy, ZeroedBy, WroteBy, ByStore, ByMap, BytesComeFromStores}
 use Rattle.tso_machine.specs.Orders.{in_effect, StoreEvent, Effect, Stored, Zeroed, effect_of, zeroes, performs, memory_order, effect_if, effects_of, writes_of}
 use Rattle.tso_machine.specs.declared.labels.Label.{Label}

@@ -3,7 +3,6 @@ use Rattle.std.proofs.Common.{◌≡◌, ℕ, zero, suc, ◌-◌, ◌^◌, ◌�
 use Rattle.mind_base.specs.Cover.{count_below, sum_below, is_uniform, has_uniform_parent, is_in_cover, cover_of}
 use Rattle.mind_base.specs.Fit.{IsFit, FitImages}
 use Rattle.mind_base.specs.declared.commands.Perm.TheVariants.{No}
-use Rattle.mind_base.specs.declared.images.Image.{Image}
 use Rattle.mind_base.specs.declared.plans.RackPlan.{RackPlan}
 use Rattle.tso_machine.specs.Sample.{sample_plan}
 
@@ -63,10 +62,8 @@ plan-fit plan name e = subst IsFit (sym e) (sample-fit name)
 sample-image : (bytes : List ℕ) (name : List ℕ) → length bytes ≡ 36 → FitImages (sample_plan name).images (record { at = 0; bytes = bytes } ∷ [])
 sample-image bytes name e = (record { at = refl; some = omega arith; most = omega arith; words = omega arith; end = omega arith }, tt)
 
-pub images-fit : (plan : RackPlan) (name : List ℕ) (images : List Image) (image : Image) (bytes : List ℕ) → plan ≡ sample_plan name
-    → images ≡ image ∷ [] → image ≡ record { at = 0; bytes = bytes } → length bytes ≡ 36 → FitImages plan.images images
-images-fit plan name images image bytes e f g h =
-    let P : RackPlan → Type 0 = λ p. FitImages p.images images in
-    let Q : List Image → Type 0 = λ is. FitImages (sample_plan name).images is in
-    let R : Image → Type 0 = λ i. FitImages (sample_plan name).images (i ∷ []) in
-    subst P (sym e) (subst Q (sym f) (subst R (sym g) (sample-image bytes name h)))
+pub images-fit : (plan : RackPlan) (name bytes : List ℕ) → plan ≡ sample_plan name → length bytes ≡ 36
+    → FitImages plan.images (record { at = 0; bytes = bytes } ∷ [])
+images-fit plan name bytes e f =
+    let P : RackPlan → Type 0 = λ p. FitImages p.images (record { at = 0; bytes = bytes } ∷ []) in
+    subst P (sym e) (sample-image bytes name f)

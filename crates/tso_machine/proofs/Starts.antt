@@ -6,7 +6,8 @@ use Rattle.mind_base.specs.declared.commands.Command.{Command}
 use Rattle.mind_base.specs.declared.images.Image.{Image}
 use Rattle.mind_base.specs.declared.plans.RackPlan.{RackPlan}
 use Rattle.protect_table.specs.Protect.{ProtectView, permission_at}
-use Rattle.tso_machine.specs.State.{Thread, Taken, first_thread, image_at, start_state}
+use Rattle.hart_effect.specs.Thread.{Thread, first_thread}
+use Rattle.tso_machine.specs.State.{Taken, image_at, start_state}
 use Rattle.tso_machine.specs.Machine.{StandsFor}
 
 pub stands-start : (plan copied : RackPlan) (images : List Image) (commands : List Command) (threads : List Thread) (memory : MemoryView) (perms : ProtectView) (taken : List Taken)

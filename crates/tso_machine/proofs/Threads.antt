@@ -7,10 +7,11 @@ use Rattle.std.proofs.lemmas.Option.{same_Some, option_and_then_some}
 use Rattle.mind_base.specs.declared.commands.Command.{Command}
 use Rattle.mind_base.specs.declared.commands.Command.TheVariants.{Map, Unmap, Protect, Migrate}
 use Rattle.mind_base.specs.declared.commands.Outcome.{Outcome}
-use Rattle.tso_machine.specs.State.{Setup, State, Thread}
+use Rattle.hart_effect.specs.Thread.{Thread}
+use Rattle.tso_machine.specs.State.{Setup, State}
 use Rattle.tso_machine.specs.Commands.{next_command, is_held_up, thread_outside, threads_after, taken_as, outcome_in_state, taken_unless_held_up}
-use Rattle.tso_machine.specs.Deed.{Deed, Alone, Storing, executed, drained}
-use Rattle.tso_machine.specs.Place.{place_of, granule_at}
+use Rattle.hart_effect.specs.Deed.{Deed, Alone, Storing, executed, drained}
+use Rattle.hart_effect.specs.Place.{place_of, granule_at}
 use Rattle.tso_machine.specs.Step.{done_by, around_in, thread_off, after}
 use Rattle.tso_machine.specs.Replay.{Replayed, Whole, Stuck, advanced, advance, advance_all, replay}
 use Rattle.tso_machine.specs.declared.labels.Label.{Label}

@@ -3,7 +3,7 @@ use Rattle.std.proofs.Common.{◌≡◌, ℕ, ◌≤◌, min, false, List, [], �
 use Rattle.std.proofs.lemmas.List.{length-drop}
 use Rattle.mind_base.specs.Span.{SpanView}
 use Rattle.mind_base.specs.declared.plans.ThreadPlan.{ThreadPlan}
-use Rattle.tso_machine.specs.State.{Thread}
+use Rattle.hart_effect.specs.Thread.{Thread}
 use Rattle.tso_machine.specs.Commands.{is_buffered}
 
 no-threads : (span : SpanView) (plans : List ThreadPlan) (threads : List Thread) → min (length plans) (length threads) ≤ 0 → is_buffered span plans threads ≡ false

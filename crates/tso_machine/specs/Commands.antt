@@ -1,9 +1,8 @@
 -- Which command is taken next, whether a buffered store holds it up, and what it does.
-use Rattle.std.specs.Prelude.{ℕ, suc, ◌/◌, Bool, true, false, ◌==◌, ◌&&◌, ◌||◌, not, List, [], ◌∷◌, ◌++◌, map, slice_get, Option, Some, None, is_some, option_and_then, if◌then◌else◌}
+use Rattle.std.specs.Prelude.{ℕ, suc, Bool, true, false, ◌==◌, ◌&&◌, ◌||◌, not, List, [], ◌∷◌, ◌++◌, map, slice_get, Option, Some, None, is_some, option_and_then, if◌then◌else◌}
 use Rattle.std.specs.List.{list_any}
 use Rattle.control_plane.specs.Outcome.{outcome_of}
 use Rattle.mind_base.specs.Home.{in_span}
-use Rattle.mind_base.specs.Page.{PageView}
 use Rattle.mind_base.specs.Pending.{PendingView}
 use Rattle.mind_base.specs.Permission.{permission_of}
 use Rattle.mind_base.specs.Span.{SpanView}
@@ -14,9 +13,10 @@ use Rattle.mind_base.specs.declared.commands.Outcome.{Outcome}
 use Rattle.mind_base.specs.declared.commands.Outcome.TheVariants as outcome
 use Rattle.mind_base.specs.declared.plans.MapPlan.{MapPlan}
 use Rattle.mind_base.specs.declared.plans.ThreadPlan.{ThreadPlan}
-use Rattle.tso_machine.specs.State.{Setup, Thread, Write, Zeros, Taken, State}
-use Rattle.tso_machine.specs.Place.{place_of, page_at}
-use Rattle.tso_machine.specs.declared.granules.Granule.{Granule}
+use Rattle.hart_effect.specs.Thread.{Thread}
+use Rattle.tso_machine.specs.State.{Setup, Write, Zeros, Taken, State}
+use Rattle.hart_effect.specs.Place.{place_of, page_at, page_with}
+use Rattle.hart_effect.specs.declared.granules.Granule.{Granule}
 
 -- ---- which command is next
 
@@ -66,10 +66,6 @@ is_held_up (Protect span perm) plans threads = is_buffered span plans threads
 is_held_up (Migrate range memory) plans threads = false
 
 -- ---- what it does
-
--- the page in which a granule lies
-abbrev pub page_with : Granule → PageView
-page_with granule = record { domain = granule.domain; number = granule.number / 64 }
 
 -- a reservation inside the span is gone; any other stays
 abbrev pub reservation_outside : SpanView → Option Granule → Option Granule

@@ -1,9 +1,9 @@
 -- What a thread of the code has done of a deed.
 use Rattle.std.specs.Prelude.{◌≡◌, ℕ, Bool, true, false, List, Option, Some, None}
 use Rattle.flat_memory.specs.FlatMemory.{MemoryView, byte_in, stored}
-use Rattle.tso_machine.specs.State.{Thread}
-use Rattle.tso_machine.specs.Deed.{Deed, Alone, Storing}
-use Rattle.tso_machine.specs.Place.{place_of, granule_at}
+use Rattle.hart_effect.specs.Thread.{Thread}
+use Rattle.hart_effect.specs.Deed.{Deed, Alone, Storing}
+use Rattle.hart_effect.specs.Place.{place_of, granule_at}
 use Rattle.tso_machine.specs.Step.{threads_off}
 use Rattle.tso_machine.specs.declared.deeds.Done.{Done}
 use Rattle.tso_machine.specs.declared.deeds.Done.TheVariants as done

@@ -11,14 +11,15 @@ use Rattle.mind_base.specs.declared.commands.Command.TheVariants.{Map}
 use Rattle.mind_base.specs.declared.commands.Outcome.TheVariants.{Fine}
 use Rattle.mind_base.specs.declared.commands.Perm.{Perm}
 use Rattle.mind_base.specs.declared.plans.ThreadPlan.{ThreadPlan}
-use Rattle.tso_machine.specs.State.{Setup, Thread, Write, Byte, Zeros, Taken, State}
+use Rattle.hart_effect.specs.Thread.{Thread}
+use Rattle.tso_machine.specs.State.{Setup, Write, Byte, Zeros, Taken, State}
 use Rattle.tso_machine.specs.Memory.{byte_of}
-use Rattle.tso_machine.specs.Access.{seen_byte}
-use Rattle.tso_machine.specs.Deed.{wants_empty}
+use Rattle.hart_effect.specs.Access.{seen_byte}
+use Rattle.hart_effect.specs.Deed.{wants_empty}
 use Rattle.tso_machine.specs.Step.{bytes_of}
 use Rattle.tso_machine.specs.Replay.{Whole, replay}
 use Rattle.tso_machine.specs.Orders.{StoreEvent, event_of, Stored, comes_upon, executes, performs, program_order, memory_order, stores_of, effects_of, spans_of, accepted_spans, writes_of}
-use Rattle.tso_machine.specs.declared.finds.Found.TheVariants.{Asks}
+use Rattle.hart_effect.specs.declared.finds.Found.TheVariants.{Asks}
 use Rattle.tso_machine.specs.declared.labels.Label.{Label}
 use Rattle.tso_machine.specs.declared.labels.Label.TheVariants as label
 

@@ -1,12 +1,9 @@
-pub mod Access
 pub mod Commands
-pub mod Deed
 pub mod Done
 pub mod Laws
 pub mod Machine
 pub mod Memory
 pub mod Orders
-pub mod Place
 pub mod Queue
 pub mod Replay
 pub mod Sample

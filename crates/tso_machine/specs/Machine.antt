@@ -3,11 +3,12 @@ use Rattle.std.specs.Prelude.{◌≡◌, ℕ, Bool, true, false, List, ◌++◌,
 use Rattle.flat_memory.specs.FlatMemory.{MemoryView, byte_in, stored}
 use Rattle.mind_base.specs.Permission.{permission_of}
 use Rattle.protect_table.specs.Protect.{ProtectView, permission_at}
-use Rattle.tso_machine.specs.State.{Setup, Thread, Taken, State}
-use Rattle.tso_machine.specs.Place.{place_of, granule_at}
+use Rattle.hart_effect.specs.Thread.{Thread}
+use Rattle.tso_machine.specs.State.{Setup, Taken, State}
+use Rattle.hart_effect.specs.Place.{place_of, granule_at}
 use Rattle.tso_machine.specs.Memory.{byte_of}
-use Rattle.tso_machine.specs.Access.{Around}
-use Rattle.tso_machine.specs.Deed.{Deed, Alone, Storing}
+use Rattle.hart_effect.specs.Access.{Around}
+use Rattle.hart_effect.specs.Deed.{Deed, Alone, Storing}
 use Rattle.tso_machine.specs.Step.{threads_off, after}
 use Rattle.tso_machine.specs.Replay.{Replayed, Whole, Stuck, replay}
 use Rattle.tso_machine.specs.declared.labels.Label.{Label}

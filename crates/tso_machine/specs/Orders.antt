@@ -12,13 +12,14 @@ use Rattle.mind_base.specs.declared.ends.End.{End}
 use Rattle.mind_base.specs.declared.ends.End.TheVariants.{Running, Exit, Fault}
 use Rattle.mind_base.specs.declared.ends.FaultKind.{FaultKind}
 use Rattle.mind_base.specs.declared.images.Image.{Image}
-use Rattle.tso_machine.specs.State.{Setup, Thread, Write, Zeros, Taken, State}
-use Rattle.tso_machine.specs.Access.{Around, write_denied}
+use Rattle.hart_effect.specs.Thread.{Thread}
+use Rattle.tso_machine.specs.State.{Setup, Write, Zeros, Taken, State}
+use Rattle.hart_effect.specs.Access.{Around, write_denied}
 use Rattle.tso_machine.specs.Commands.{is_fine, outcome_in_state, after_command}
-use Rattle.tso_machine.specs.Deed.{Deed, Alone, Storing, locked_done, found, executed}
+use Rattle.hart_effect.specs.Deed.{Deed, Alone, Storing, locked_done, found, executed}
 use Rattle.tso_machine.specs.Step.{around_in, bytes_of, after}
-use Rattle.tso_machine.specs.declared.finds.Found.{Found}
-use Rattle.tso_machine.specs.declared.finds.Found.TheVariants.{Outside, Unknown, Asks}
+use Rattle.hart_effect.specs.declared.finds.Found.{Found}
+use Rattle.hart_effect.specs.declared.finds.Found.TheVariants.{Outside, Unknown, Asks}
 use Rattle.tso_machine.specs.declared.labels.Label.{Label}
 use Rattle.tso_machine.specs.declared.labels.Label.TheVariants as label
 

@@ -1,33 +1,20 @@
 -- The state of the machine: threads with their registers and buffers over one flat memory for each domain.
-use Rattle.std.specs.Prelude.{ℕ, List, [], map, slice_get, Option, None, option_map, unwrap_or}
-use Rattle.hart_core.specs.Registers.{zero_registers}
-use Rattle.mind_base.specs.Pending.{PendingView}
+use Rattle.std.specs.Prelude.{ℕ, List, [], map, slice_get, option_map, unwrap_or}
 use Rattle.mind_base.specs.Span.{SpanView}
 use Rattle.mind_base.specs.declared.commands.Command.{Command}
 use Rattle.mind_base.specs.declared.commands.Outcome.{Outcome}
-use Rattle.mind_base.specs.declared.ends.End.{End}
-use Rattle.mind_base.specs.declared.ends.End.TheVariants.{Running}
 use Rattle.mind_base.specs.declared.images.Image.{Image}
 use Rattle.mind_base.specs.declared.plans.ImagePlan.{ImagePlan}
 use Rattle.mind_base.specs.declared.plans.MapPlan.{MapPlan}
 use Rattle.mind_base.specs.declared.plans.RackPlan.{RackPlan}
 use Rattle.mind_base.specs.declared.plans.ThreadPlan.{ThreadPlan}
-use Rattle.tso_machine.specs.declared.granules.Granule.{Granule}
+use Rattle.hart_effect.specs.Thread.{Thread, first_thread}
 
 -- what a machine is made from, which never changes
 pub record Setup : Type 0 where
   pub plan : RackPlan
   pub images : List Image
   pub commands : List Command
-
--- a thread: its 32 registers, where it stands, the bytes that it put out, the stores that it has not
--- yet drained (the oldest first, as many as it likes), and the granule that it has reserved
-pub record Thread : Type 0 where
-  pub regs : List ℕ
-  pub end : End
-  pub output : List ℕ
-  pub buffer : List PendingView
-  pub reserved : Option Granule
 
 -- one write to memory: a byte at an address of a domain, or zeros over a run of pages
 pub data Write : Type 0 where
@@ -45,10 +32,6 @@ pub record State : Type 0 where
   pub writes : List Write
   pub perms : List MapPlan
   pub taken : List Taken
-
--- a thread that runs at the start of an image, and nothing in it but zeros
-abbrev pub first_thread : ℕ → Thread
-first_thread pc = record { regs = zero_registers; end = Running pc; output = []; buffer = []; reserved = None }
 
 -- where an image of the plan stands; 0 for one that the plan does not have
 abbrev pub image_at : List ImagePlan → ℕ → ℕ

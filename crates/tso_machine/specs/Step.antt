@@ -2,13 +2,14 @@
 use Rattle.std.specs.Prelude.{ℕ, zero, suc, ◌+◌, List, [], ◌∷◌, ◌++◌, map, slice_get, slice_set, Option, Some, None, if◌then◌else◌, option_and_then, option_map}
 use Rattle.mind_base.specs.Pending.{PendingView, byte_number}
 use Rattle.mind_base.specs.Permission.{permission_of}
-use Rattle.tso_machine.specs.State.{Setup, Thread, Write, Byte, State}
-use Rattle.tso_machine.specs.Place.{place_of, granule_at, same_granule}
+use Rattle.hart_effect.specs.Thread.{Thread}
+use Rattle.tso_machine.specs.State.{Setup, Write, Byte, State}
+use Rattle.hart_effect.specs.Place.{place_of, granule_at, same_granule}
 use Rattle.tso_machine.specs.Memory.{byte_of}
 use Rattle.tso_machine.specs.Commands.{after_command}
-use Rattle.tso_machine.specs.Access.{Around}
-use Rattle.tso_machine.specs.Deed.{Deed, Alone, Storing, executed, drained}
-use Rattle.tso_machine.specs.declared.granules.Granule.{Granule}
+use Rattle.hart_effect.specs.Access.{Around}
+use Rattle.hart_effect.specs.Deed.{Deed, Alone, Storing, executed, drained}
+use Rattle.hart_effect.specs.declared.granules.Granule.{Granule}
 use Rattle.tso_machine.specs.declared.labels.Label.{Label}
 use Rattle.tso_machine.specs.declared.labels.Label.TheVariants as label
 

@@ -2,30 +2,13 @@ ghost use Rattle.std.specs.Prelude.{◌≡◌, ◌<◌, ◌+◌, ◌%◌, None, 
 ghost use Rattle.flat_memory.specs.FlatMemory.{byte_in};
 ghost use Rattle.hart_core.specs.Memory.{IsAccessSize};
 ghost use Rattle.protect_table.specs.Protect.{permission_at};
-ghost use Rattle.tso_machine.specs.Access.{memory_byte, seen_byte, number_of, may_read as may_read_of, may_write as may_write_of, read_denied as read_denied_of, write_denied as write_denied_of};
+ghost use Rattle.hart_effect.specs.Access.{memory_byte, seen_byte, number_of, read_denied as read_denied_of, write_denied as write_denied_of};
 
 use crate::buffers::Buffer;
 use flat_memory::FlatMemory;
+use hart_effect::{may_read, may_write};
 use mind_base::{FaultKind, Page, Perm};
 use protect_table::Protect;
-
-fn may_read(perm: Perm) -> bool
-    ensures { result ≡ may_read_of perm }
-{
-    match perm {
-        Perm::No => false,
-        Perm::R | Perm::Rw => true,
-    }
-}
-
-fn may_write(perm: Perm) -> bool
-    ensures { result ≡ may_write_of perm }
-{
-    match perm {
-        Perm::No | Perm::R => false,
-        Perm::Rw => true,
-    }
-}
 
 /// Why a load of `size` bytes, 1, 2 or 4, is denied to a thread of the domain, if it is.
 pub fn read_denied(perms: &Protect, domain: u8, address: u32, size: u8) -> Option<FaultKind>

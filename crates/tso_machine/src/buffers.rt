@@ -4,7 +4,7 @@ ghost use Rattle.mind_base.specs.Home.{in_span};
 ghost use Rattle.mind_base.specs.Page.{page_of};
 ghost use Rattle.std.specs.List.{list_any};
 ghost use Rattle.tso_machine.specs.Commands.{stores_in};
-ghost use Rattle.tso_machine.specs.Deed.{holds_stores};
+ghost use Rattle.hart_effect.specs.Deed.{holds_stores};
 
 use mind_base::{NoMemory, Pending, Span};
 use std::alloc::Global;

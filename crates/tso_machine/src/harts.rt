@@ -2,21 +2,22 @@ ghost use Rattle.std.specs.Prelude.{◌≡◌, ◌<◌, ◌%◌, Some, IfOk, OnE
 ghost use Rattle.hart_core.specs.Act.{IsWellFormed};
 ghost use Rattle.hart_core.specs.Memory.{IsAccessSize};
 ghost use Rattle.hart_core.specs.Registers.{register};
-ghost use Rattle.tso_machine.specs.State.{Thread, first_thread};
-ghost use Rattle.tso_machine.specs.Deed.{Alone, faulted, continued, put_out, called, loaded, stored_later, load_reserved, store_conditional, atomic_done, locked_done, exchanged, holds_reservation, holds_stores, must_wait, acted, AsksWellFormed, carried_out, executed, drained};
+ghost use Rattle.hart_effect.specs.Thread.{Thread, first_thread};
+ghost use Rattle.hart_effect.specs.Deed.{Alone, faulted, continued, put_out, called, loaded, stored_later, load_reserved, store_conditional, atomic_done, locked_done, exchanged, holds_reservation, holds_stores, must_wait, acted, AsksWellFormed, carried_out, executed, drained};
 ghost use Rattle.tso_machine.specs.Done.{Does, DoesAlone};
 ghost use Rattle.tso_machine.specs.Machine.{around_at};
 ghost use Rattle.tso_machine.specs.Commands.{buffers_in, thread_outside};
 ghost use Rattle.tso_machine.specs.Step.{thread_off};
-ghost use Rattle.tso_machine.specs.Scheduled.{drains_first, running_label, label_at};
+ghost use Rattle.hart_effect.specs.Deed.{drains_first};
+ghost use Rattle.tso_machine.specs.Scheduled.{running_label, label_at};
 
+use crate::Label;
 use crate::accesses::{read_denied, seen_number, word_in, write_denied};
 use crate::buffers::Buffer;
 use crate::deeds::Done;
-use crate::finds::{Found, find, is_store, needs_empty};
-use crate::{Granule, Label};
 use flat_memory::FlatMemory;
 use hart_core::{Act, LockedKind, Regs, amo, extend, load_size};
+use hart_effect::{Found, Granule, find, is_store, needs_empty};
 use mind_base::{End, FaultKind, Image, NoMemory, Pending, Span};
 use protect_table::Protect;
 use rv32_decode::{AmoKind, LoadKind};
@@ -35,7 +36,7 @@ pub struct Hart {
 }
 
 impl Model for Hart {
-    ghost use Rattle.tso_machine.specs.State.{Thread};
+    ghost use Rattle.hart_effect.specs.Thread.{Thread};
 
     ghost Value = { Thread };
 

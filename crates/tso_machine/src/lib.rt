@@ -6,12 +6,9 @@ mod buffers;
 mod changes;
 mod command_queues;
 mod deeds;
-mod finds;
-mod granules;
 mod harts;
 mod labels;
 mod machines;
 
-pub use granules::Granule;
 pub use labels::{Label, Replay, label_in};
 pub use machines::Machine;

@@ -1,11 +1,13 @@
 //! Commands among the steps of two threads, of two domains, that run one program.
 
-ghost use Rattle.std.specs.Prelude.{◌≡◌, ◌≤◌, ◌<◌, ◌∷◌, [], length, IfOk};
+ghost use Rattle.std.specs.Prelude.{◌≡◌, ◌<◌, ◌≤◌, ◌∷◌, [], length, IfOk};
+ghost use Rattle.mind_base.specs.Fit.{IsFit, FitImages};
 ghost use Rattle.mind_base.specs.Span.{IsSpan};
-ghost use Rattle.tso_machine.specs.Sample.{sample_home, sample_thread, sample_plan};
+ghost use Rattle.tso_machine.specs.Sample.{sample_home, sample_memories, sample_threads, sample_plan};
 
 use super::*;
 use mind_base::{MemoryPlan, Name, Perm, PolicyKind, Range, Span, ThreadPlan};
+use std::process::Abort;
 use std::test::Fail;
 
 // Stores A in page 16, reserves and stores it again there, and exits with the answer of the last store
@@ -28,25 +30,46 @@ fn home_in(domain: u8) -> Span
     }
 }
 
-fn thread_in(domain: u8) -> ThreadPlan
-    ensures { result ≡ sample_thread domain }
-{
+static THREADS: [ThreadPlan; 2] = [
     ThreadPlan {
         blade: 0,
-        domain,
+        domain: 0,
         image: 0,
         queue: 1,
-    }
+    },
+    ThreadPlan {
+        blade: 0,
+        domain: 1,
+        image: 0,
+        queue: 1,
+    },
+];
+
+fn memories_in(alloc: Global) -> Result<Sequence<MemoryPlan>, NoMemory>
+    ensures { IfOk result (λ memories. memories ≡ sample_memories) }
+{
+    let homes = Sequence::from_vec(vec![in alloc; home_in(0), home_in(1)]?);
+    let memory = MemoryPlan { homes, spare: 0 };
+    Ok(Sequence::from_vec(vec![in alloc; memory]?))
+}
+
+fn threads_in(alloc: Global) -> Result<Sequence<ThreadPlan>, NoMemory>
+    ensures { IfOk result (λ threads. threads ≡ sample_threads) }
+{
+    Ok(Sequence::from_vec(Vec::from_slice(alloc, &THREADS)?))
+}
+
+fn name_in(alloc: Global) -> Result<Name, Fail> {
+    Ok(Name::of(alloc, "a.bin")?.ok_or("no name")?)
 }
 
 fn plan_of(alloc: Global, name: Name) -> Result<RackPlan, NoMemory>
     ensures { IfOk result (λ plan. plan ≡ sample_plan name) }
 {
-    let memory = MemoryPlan {
-        homes: Sequence::from_vec(vec![in alloc; home_in(0), home_in(1)]?),
-        spare: 0,
-    };
-    let image = ImagePlan { name, at: 0 };
+    let images = Sequence::from_vec(vec![in alloc; ImagePlan { name, at: 0 }]?);
+    let frames = Sequence::from_vec(vec![in alloc; 1u32]?);
+    let memories = memories_in(alloc)?;
+    let threads = threads_in(alloc)?;
     Ok(RackPlan {
         slots: 1,
         protect: 2,
@@ -55,31 +78,36 @@ fn plan_of(alloc: Global, name: Name) -> Result<RackPlan, NoMemory>
         most: 0,
         threshold: 0,
         policy: PolicyKind::Threshold,
-        frames: Sequence::from_vec(vec![in alloc; 1u32]?),
-        memories: Sequence::from_vec(vec![in alloc; memory]?),
-        images: Sequence::from_vec(vec![in alloc; image]?),
-        threads: Sequence::from_vec(vec![in alloc; thread_in(0), thread_in(1)]?),
+        frames,
+        memories,
+        images,
+        threads,
         maps: Sequence::new(alloc),
     })
 }
 
-fn image_in(alloc: Global) -> Result<Image, NoMemory>
-    ensures { IfOk result (λ image. image ≡ record { at = 0; bytes = PROGRAM }) }
+fn images_in(alloc: Global) -> Result<Vec<Image>, NoMemory>
+    ensures { IfOk result (λ images. images.items ≡ record { at = 0; bytes = PROGRAM } ∷ []) }
 {
-    Ok(Image {
-        at: 0,
-        bytes: Sequence::from_vec(Vec::from_slice(alloc, &PROGRAM)?),
-    })
+    let bytes = Sequence::from_vec(Vec::from_slice(alloc, &PROGRAM)?);
+    Ok(vec![in alloc; Image { at: 0, bytes }]?)
 }
 
-fn machine_of(alloc: Global, name: Name, commands: &[Command]) -> Result<Machine, NoMemory>
+fn started(alloc: Global, plan: &RackPlan, commands: &[Command]) -> Result<Machine, NoMemory>
+    requires fit { IsFit plan.now }
+    requires images { FitImages plan.now.images (record { at = 0; bytes = PROGRAM } ∷ []) }
+    requires commands { length commands.now ≤ 1000000 }
+{
+    let images = images_in(alloc)?;
+    let machine = Machine::start(alloc, plan, images.as_slice(), commands)?;
+    Ok(machine)
+}
+
+fn machine_of(alloc: Global, commands: &[Command]) -> Result<Machine, Fail>
     requires { length commands.now ≤ 1000000 }
 {
-    let plan = plan_of(alloc, name)?;
-    let image = image_in(alloc)?;
-    let images = vec![in alloc; image]?;
-    let machine = Machine::start(alloc, &plan, images.as_slice(), commands)?;
-    Ok(machine)
+    let plan = plan_of(alloc, name_in(alloc)?)?;
+    Ok(started(alloc, &plan, commands)?)
 }
 
 /// The number of the first row whose label is not enabled as it says; None where there is none.
@@ -87,6 +115,28 @@ fn first_other(machine: &mut Machine, rows: &[(Label, bool)]) -> Result<Option<u
     for (i, (label, enabled)) in rows.iter().enumerate() {
         if machine.step(*label)? != *enabled {
             return Ok(Some(i));
+        }
+    }
+    Ok(None)
+}
+
+/// Whether a command that was not taken ends so now; None where it is not to be taken.
+fn ends_so(machine: &mut Machine, index: u32, wanted: Option<Outcome>) -> Result<bool, NoMemory> {
+    if machine.outcome(index).is_some() {
+        return Ok(false);
+    }
+    let taken = machine.step(Label::Command { index })?;
+    Ok(taken == wanted.is_some() && machine.outcome(index) == wanted)
+}
+
+/// The number of the first command that does not end as its row says; None where there is none.
+fn first_other_end(
+    machine: &mut Machine,
+    rows: &[(u32, Option<Outcome>)],
+) -> Result<Option<u32>, NoMemory> {
+    for (index, wanted) in rows {
+        if !ends_so(machine, *index, *wanted)? {
+            return Ok(Some(*index));
         }
     }
     Ok(None)
@@ -100,7 +150,41 @@ fn first_end(machine: &Machine) -> Option<End> {
     Some(machine.end(0))
 }
 
-fn page_at(domain: u8, base: u32, pages: u32) -> Span
+/// What a run of rows came to: the first row that went otherwise, how command 1 ended, and where the
+/// first thread stands.
+#[derive(Clone, Copy, Debug, PartialEq, Eq)]
+struct Came {
+    other: Option<usize>,
+    second: Option<Outcome>,
+    end: Option<End>,
+}
+
+fn run(alloc: Global, commands: &[Command], rows: &[(Label, bool)]) -> Result<Came, Fail>
+    requires { length commands.now ≤ 1000000 }
+{
+    let mut machine = machine_of(alloc, commands)?;
+    let other = first_other(&mut machine, rows)?;
+    Ok(Came {
+        other,
+        second: machine.outcome(1),
+        end: first_end(&machine),
+    })
+}
+
+fn comes_to<R: Abort + AllocGlobal>(
+    rt: &R,
+    commands: &[Command],
+    rows: &[(Label, bool)],
+    wanted: Came,
+) -> Result<(), Fail>
+    requires { length commands.now ≤ 1000000 }
+{
+    let came = run(rt.alloc(), commands, rows)?;
+    assert_eq!(rt; came, wanted);
+    Ok(())
+}
+
+fn span_at(domain: u8, base: u32, pages: u32) -> Span
     requires { IsSpan domain base pages }
 {
     Span {
@@ -108,6 +192,14 @@ fn page_at(domain: u8, base: u32, pages: u32) -> Span
         base,
         pages,
     }
+}
+
+fn page() -> Span {
+    span_at(0, 16, 1)
+}
+
+fn other_page() -> Span {
+    span_at(1, 16, 1)
 }
 
 fn map(span: Span) -> Command {
@@ -128,135 +220,139 @@ fn protect(span: Span) -> Command {
     }
 }
 
-fn exec(hart: u8) -> Label {
-    Label::Exec { hart }
-}
-
-fn drain(hart: u8) -> Label {
-    Label::Drain { hart }
-}
-
-fn take(index: u32) -> Label {
-    Label::Command { index }
-}
-
-#[test]
-fn each_outcome_of_a_command(rt: HostRuntime) -> Result<(), Fail> {
-    let page = page_at(0, 16, 1);
-    let other = page_at(1, 16, 1);
+fn migrate() -> Command {
     let range = Range {
         domain: 0,
         base: 16,
         log: 0,
     };
-    let commands = [
-        unmap(page),
-        map(page),
-        map(page_at(0, 15, 2)), // page 15 has no home, and page 16 is mapped
-        map(page),
-        Command::Migrate { range, memory: 0 },
-        map(other),
-        map(page_at(0, 18, 1)), // a third block
-        protect(page),
-    ];
-    let outcomes = [
-        Some(Outcome::Unmapped),
-        Some(Outcome::Fine),
-        Some(Outcome::Unplaced),
-        Some(Outcome::Overlap),
-        None,
-        Some(Outcome::Fine),
-        Some(Outcome::Slots),
-        Some(Outcome::Fine),
-    ];
-    let name = Name::of(rt.alloc(), "a.bin")?.ok_or("no name")?;
-    let mut machine = machine_of(rt.alloc(), name, &commands)?;
-    for index in 0..8u32 {
-        let wanted = outcomes[index as usize];
-        assert_eq!(rt; machine.outcome(index), None, "before command {index}");
-        assert_eq!(rt;
-            machine.step(take(index))?,
-            wanted.is_some(),
-            "command {index}"
-        );
-        assert_eq!(rt; machine.outcome(index), wanted, "command {index}");
-    }
+    Command::Migrate { range, memory: 0 }
+}
+
+const EXEC: Label = Label::Exec { hart: 0 };
+
+const DRAIN: Label = Label::Drain { hart: 0 };
+
+const EXEC_OTHER: Label = Label::Exec { hart: 1 };
+
+const DRAIN_OTHER: Label = Label::Drain { hart: 1 };
+
+fn each_command() -> [Command; 8] {
+    [
+        unmap(page()),
+        map(page()),
+        map(span_at(0, 15, 2)), // page 15 has no home, and page 16 is mapped
+        map(page()),
+        migrate(),
+        map(other_page()),
+        map(span_at(0, 18, 1)), // a third block
+        protect(page()),
+    ]
+}
+
+static OUTCOMES: [(u32, Option<Outcome>); 8] = [
+    (0, Some(Outcome::Unmapped)),
+    (1, Some(Outcome::Fine)),
+    (2, Some(Outcome::Unplaced)),
+    (3, Some(Outcome::Overlap)),
+    (4, None),
+    (5, Some(Outcome::Fine)),
+    (6, Some(Outcome::Slots)),
+    (7, Some(Outcome::Fine)),
+];
+
+#[test]
+fn each_outcome_of_a_command(rt: HostRuntime) -> Result<(), Fail> {
+    let mut machine = machine_of(rt.alloc(), &each_command())?;
+    assert_eq!(rt; first_other_end(&mut machine, &OUTCOMES)?, None);
     Ok(())
 }
+
+fn maps_and_protects() -> [Command; 4] {
+    [
+        map(page()),
+        map(other_page()),
+        protect(page()),
+        protect(other_page()),
+    ]
+}
+
+static WAITS: [(Label, bool); 12] = [
+    (Label::Command { index: 1 }, false), // command 0 is before it
+    (Label::Command { index: 0 }, true),
+    (Label::Command { index: 1 }, true),
+    (EXEC_OTHER, true),
+    (EXEC_OTHER, true),
+    (EXEC_OTHER, true), // buffers a store in page 16 of domain 1
+    (Label::Command { index: 2 }, true),
+    (Label::Command { index: 3 }, false),
+    (DRAIN_OTHER, true),
+    (Label::Command { index: 3 }, true),
+    (Label::Command { index: 3 }, false), // it is taken
+    (Label::Command { index: 4 }, false), // there is none
+];
 
 #[test]
 fn a_command_waits_for_its_turn_and_for_stores_in_its_span(rt: HostRuntime) -> Result<(), Fail> {
-    let page = page_at(0, 16, 1);
-    let other = page_at(1, 16, 1);
-    let commands = [map(page), map(other), protect(page), protect(other)];
-    let rows = [
-        (take(1), false), // command 0 is before it
-        (take(0), true),
-        (take(1), true),
-        (exec(1), true),
-        (exec(1), true),
-        (exec(1), true), // buffers a store in page 16 of domain 1
-        (take(2), true),
-        (take(3), false),
-        (drain(1), true),
-        (take(3), true),
-        (take(3), false), // it is taken
-        (take(4), false), // there is none
-    ];
-    let name = Name::of(rt.alloc(), "a.bin")?.ok_or("no name")?;
-    let mut machine = machine_of(rt.alloc(), name, &commands)?;
-    assert_eq!(rt; first_other(&mut machine, &rows)?, None);
-    Ok(())
+    let wanted = Came {
+        other: None,
+        second: Some(Outcome::Fine),
+        end: Some(End::Running { pc: 0 }),
+    };
+    comes_to(&rt, &maps_and_protects(), &WAITS, wanted)
 }
+
+static MAPPED_BEFORE_THE_STORE: [(Label, bool); 13] = [
+    (Label::Command { index: 0 }, true),
+    (EXEC, true),
+    (EXEC, true),
+    (EXEC, true),
+    (EXEC, false), // the reserving load waits for the store
+    (DRAIN, true),
+    (EXEC, true),
+    (Label::Command { index: 1 }, true),
+    (EXEC, true),
+    (EXEC, true),
+    (EXEC, true),
+    (EXEC, true),
+    (EXEC, true),
+];
 
 #[test]
 fn a_refused_map_takes_the_reservation_away(rt: HostRuntime) -> Result<(), Fail> {
-    let page = page_at(0, 16, 1);
-    let rows = [
-        (take(0), true),
-        (exec(0), true),
-        (exec(0), true),
-        (exec(0), true),
-        (exec(0), false), // the reserving load waits for the store
-        (drain(0), true),
-        (exec(0), true),
-        (take(1), true),
-        (exec(0), true),
-        (exec(0), true),
-        (exec(0), true),
-        (exec(0), true),
-        (exec(0), true),
-    ];
-    let name = Name::of(rt.alloc(), "a.bin")?.ok_or("no name")?;
-    let mut machine = machine_of(rt.alloc(), name, &[map(page), map(page)])?;
-    assert_eq!(rt; first_other(&mut machine, &rows)?, None);
-    assert_eq!(rt; machine.outcome(1), Some(Outcome::Overlap));
     // the conditional store gave 1, and 65 is what the first store left
-    assert_eq!(rt; first_end(&machine), Some(End::Exit { value: 66 }));
-    Ok(())
+    let wanted = Came {
+        other: None,
+        second: Some(Outcome::Overlap),
+        end: Some(End::Exit { value: 66 }),
+    };
+    let commands = [map(page()), map(page())];
+    comes_to(&rt, &commands, &MAPPED_BEFORE_THE_STORE, wanted)
 }
+
+static ANEW_BEFORE_THE_STORE: [(Label, bool); 13] = [
+    (Label::Command { index: 0 }, true),
+    (EXEC, true),
+    (EXEC, true),
+    (EXEC, true),
+    (DRAIN, true),
+    (EXEC, true),
+    (EXEC, true),
+    (Label::Command { index: 1 }, true),
+    (Label::Command { index: 2 }, true),
+    (EXEC, true),
+    (EXEC, true),
+    (EXEC, true),
+    (EXEC, true),
+];
 
 #[test]
 fn a_mapped_page_is_zero(rt: HostRuntime) -> Result<(), Fail> {
-    let page = page_at(0, 16, 1);
-    let rows = [
-        (take(0), true),
-        (exec(0), true),
-        (exec(0), true),
-        (exec(0), true),
-        (drain(0), true),
-        (exec(0), true),
-        (exec(0), true),
-        (take(1), true),
-        (take(2), true),
-        (exec(0), true),
-        (exec(0), true),
-        (exec(0), true),
-        (exec(0), true),
-    ];
-    let name = Name::of(rt.alloc(), "a.bin")?.ok_or("no name")?;
-    let mut machine = machine_of(rt.alloc(), name, &[map(page), unmap(page), map(page)])?;
-    assert_eq!(rt; first_other(&mut machine, &rows)?, None);
-    assert_eq!(rt; first_end(&machine), Some(End::Exit { value: 0 }));
-    Ok(())
+    let wanted = Came {
+        other: None,
+        second: Some(Outcome::Fine),
+        end: Some(End::Exit { value: 0 }),
+    };
+    let commands = [map(page()), unmap(page()), map(page())];
+    comes_to(&rt, &commands, &ANEW_BEFORE_THE_STORE, wanted)
 }

@@ -1,6 +1,6 @@
 use Rattle.std.proofs.Common.{arith}
 use Rattle.std.proofs.lemmas.Grind.{common_steps}
-use Rattle.tso_machine.specs.Deed.{executed}
+use Rattle.hart_effect.specs.Deed.{executed}
 use Rattle.tso_machine.specs.Machine.{around_at}
 use Rattle.tso_machine.proofs.Carrying.{carried-at}
 use Rattle.tso_machine.proofs.machines.execute_among.Goals as goal

@@ -1,5 +1,6 @@
 use Rattle.std.proofs.Common.{◌≡◌, map, take}
-use Rattle.tso_machine.specs.State.{first_thread, image_at}
+use Rattle.hart_effect.specs.Thread.{first_thread}
+use Rattle.tso_machine.specs.State.{image_at}
 use Rattle.tso_machine.proofs.machines.start_harts.Given as goal
 
 abbrev pub invariant-loop-thread : goal.invariant-loop-thread

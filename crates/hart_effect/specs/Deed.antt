@@ -1,5 +1,5 @@
 -- What a thread does in one step, given what it finds around it.
-use Rattle.std.specs.Prelude.{ℕ, ◌+◌, ◌-◌, ◌%◌, ◌==◌, Bool, true, false, ◌&&◌, nat_le, List, [], ◌∷◌, ◌++◌, length, take, drop, Option, Some, None, if◌then◌else◌}
+use Rattle.std.specs.Prelude.{ℕ, ◌+◌, ◌-◌, ◌%◌, ◌==◌, Bool, true, false, ◌&&◌, ◌||◌, nat_le, List, [], ◌∷◌, ◌++◌, length, take, drop, Option, Some, None, if◌then◌else◌}
 use Rattle.std.specs.Int.{w32, from_le_bytes}
 use Rattle.rv32_decode.specs.Instr.{instr_of}
 use Rattle.rv32_decode.specs.declared.instruction.Instr.{Instr}
@@ -19,12 +19,12 @@ use Rattle.mind_base.specs.declared.ends.End.TheVariants.{Running, Exit, Fault}
 use Rattle.mind_base.specs.declared.ends.FaultKind.{FaultKind}
 use Rattle.mind_base.specs.declared.ends.FaultKind.TheVariants as fault
 use Rattle.mind_base.specs.declared.images.Image.{Image}
-use Rattle.tso_machine.specs.State.{Thread}
-use Rattle.tso_machine.specs.Place.{place_of, granule_at, same_granule}
-use Rattle.tso_machine.specs.Access.{Around, memory_byte, seen_byte, number_of, read_denied, write_denied}
-use Rattle.tso_machine.specs.declared.finds.Found.{Found}
-use Rattle.tso_machine.specs.declared.finds.Found.TheVariants.{Outside, Unknown, Asks}
-use Rattle.tso_machine.specs.declared.granules.Granule.{Granule}
+use Rattle.hart_effect.specs.Thread.{Thread}
+use Rattle.hart_effect.specs.Place.{place_of, granule_at, same_granule}
+use Rattle.hart_effect.specs.Access.{Around, memory_byte, seen_byte, number_of, read_denied, write_denied}
+use Rattle.hart_effect.specs.declared.finds.Found.{Found}
+use Rattle.hart_effect.specs.declared.finds.Found.TheVariants.{Outside, Unknown, Asks}
+use Rattle.hart_effect.specs.declared.granules.Granule.{Granule}
 
 -- the thread alone changes; or it changes and a store takes effect in memory with it, at once
 pub data Deed : Type 0 where
@@ -174,6 +174,23 @@ abbrev pub AsksWellFormed : Found → Type 0
 AsksWellFormed Outside = Unit {0}
 AsksWellFormed (Unknown word) = Unit {0}
 AsksWellFormed (Asks asked) = IsWellFormed asked
+
+abbrev pub is_store : Act → Bool
+is_store (act.Next rd value next) = false
+is_store (act.Load kind rd address) = false
+is_store (act.Store size address value) = true
+is_store (act.Locked kind rd address operand) = false
+is_store (act.Fence drains) = false
+is_store act.Call = false
+is_store (act.Jumped target) = false
+is_store act.Broke = false
+
+-- the thread's oldest store must drain first: the instruction must wait for an empty buffer, or it is a
+-- store and the buffer is as long as the thread's queue
+abbrev pub drains_first : Found → List PendingView → ℕ → Bool
+drains_first Outside buffer queue = false
+drains_first (Unknown word) buffer queue = false
+drains_first (Asks asked) buffer queue = must_wait asked buffer || is_store asked && length buffer == queue
 
 -- the thread does what it comes upon, unless it must wait for its buffer
 abbrev pub carried_out : Found → Around → ℕ → Thread → Option Deed

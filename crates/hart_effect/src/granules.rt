@@ -1,7 +1,7 @@
 ghost use Rattle.std.specs.Prelude.{◌≡◌, ◌<◌};
 ghost use Rattle.mind_base.specs.Home.{in_span};
-ghost use Rattle.tso_machine.specs.Commands.{page_with};
-ghost use Rattle.tso_machine.specs.Place.{granule_at, place_of};
+ghost use Rattle.hart_effect.specs.Place.{page_with};
+ghost use Rattle.hart_effect.specs.Place.{granule_at, place_of};
 
 use mind_base::Span;
 

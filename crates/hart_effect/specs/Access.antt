@@ -6,7 +6,7 @@ use Rattle.mind_base.specs.declared.commands.Perm.{Perm}
 use Rattle.mind_base.specs.declared.commands.Perm.TheVariants.{No, R, Rw}
 use Rattle.mind_base.specs.declared.ends.FaultKind.{FaultKind}
 use Rattle.mind_base.specs.declared.ends.FaultKind.TheVariants as fault
-use Rattle.tso_machine.specs.Place.{place_of, page_at}
+use Rattle.hart_effect.specs.Place.{place_of, page_at}
 
 -- What a thread finds around it: its number and its domain, the byte that memory holds at an address of
 -- a domain, and the permission of a page.

@@ -1,7 +1,7 @@
 -- Which byte of memory an access names, with its page and its granule.
 use Rattle.std.specs.Prelude.{ℕ, ◌/◌, Bool, ◌==◌, ◌&&◌}
 use Rattle.mind_base.specs.Page.{PageView, page_of}
-use Rattle.tso_machine.specs.declared.granules.Granule.{Granule}
+use Rattle.hart_effect.specs.declared.granules.Granule.{Granule}
 
 -- a byte of memory: a domain and an address in it
 pub record Place : Type 0 where
@@ -22,3 +22,7 @@ granule_at place = record { domain = place.domain; number = place.address / 64 }
 
 abbrev pub same_granule : Granule → Granule → Bool
 same_granule a b = a.domain == b.domain && a.number == b.number
+
+-- the page in which a granule lies
+abbrev pub page_with : Granule → PageView
+page_with granule = record { domain = granule.domain; number = granule.number / 64 }

@@ -1,7 +1,7 @@
 ghost use Rattle.std.specs.Prelude.{◌≡◌, ◌==◌, ◌&&◌, ◌||◌, ℕ, List, length};
 ghost use Rattle.rv32_decode.specs.Instr.{instr_of};
-ghost use Rattle.tso_machine.specs.Deed.{word_at, found, found_word, found_instr, AsksWellFormed, wants_empty};
-ghost use Rattle.tso_machine.specs.Scheduled.{is_store as is_store_of};
+ghost use Rattle.hart_effect.specs.Deed.{word_at, found, found_word, found_instr, AsksWellFormed, wants_empty};
+ghost use Rattle.hart_effect.specs.Deed.{is_store as is_store_of};
 
 use hart_core::{Act, Regs, act};
 use mind_base::Image;

@@ -1,0 +1,4 @@
+pub mod Access
+pub mod Deed
+pub mod Place
+pub mod Thread
