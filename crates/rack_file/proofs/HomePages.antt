@@ -1,18 +1,12 @@
--- Homes of pages: which runs meet, and how many pages they have.
-use Rattle.std.proofs.Common.{◌≡◌, ℕ, ◌+◌, ◌-◌, ◌<◌, ◌≤◌, ◌∙◌, Bool, ◌||◌, List, [], ◌∷◌, ◌++◌, length, drop, get_or, refl, sym, ap, None, arith, zero-add}
-use Rattle.std.specs.List.{list_any}
+-- How many pages homes have.
+use Rattle.std.proofs.Common.{◌≡◌, ℕ, ◌+◌, ◌-◌, ◌<◌, ◌≤◌, ◌∙◌, List, [], ◌∷◌, ◌++◌, length, drop, get_or, sym, ap, None, arith, zero-add}
 use Rattle.std.proofs.lemmas.List.{drop_more}
-use Rattle.std.proofs.lemmas.List.Folds.{list_any-append}
 use Rattle.std.proofs.lemmas.Grind.{common_steps}
 use Rattle.std.proofs.lemmas.List.Sums.{sum-map, sum_by-cons}
 use Rattle.mind_base.specs.Span.{SpanView}
 use Rattle.mind_base.specs.Fit.{all_homes}
 use Rattle.mind_base.specs.declared.plans.MemoryPlan.{MemoryPlan}
 use Rattle.rack_file.specs.Tables.{pages_in, home_pages, left_after}
-
-pub any-all : (p : SpanView → Bool) (ms : List MemoryPlan) → list_any (λ m. list_any p m.homes) ms ≡ list_any p (all_homes ms)
-any-all p [] = refl
-any-all p (m ∷ ms) = ap (λ b. list_any p m.homes || b) (any-all p ms) ∙ sym (list_any-append p m.homes (all_homes ms))
 
 -- ---- how many pages runs have
 

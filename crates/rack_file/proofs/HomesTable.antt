@@ -1,27 +1,23 @@
--- Whether pages have a home, by a table that lets the homes be read.
-use Rattle.std.proofs.Common.{◌≡◌, ℕ, ◌+◌, ◌∙◌, Bool, true, false, not, ◌||◌, ◌==◌, nat_lt, List, [], ◌∷◌, ◌++◌, map, is_some, refl, sym, ap, cond, append_assoc, subst, Ok}
+-- Which runs are apart from homes, by a table that lets the homes be read.
+use Rattle.std.proofs.Common.{◌≡◌, ℕ, ◌+◌, ◌∙◌, Bool, true, false, not, ◌||◌, ◌==◌, nat_lt, List, [], ◌∷◌, ◌++◌, map, refl, sym, ap, cond, append_assoc, subst, Ok}
 use Rattle.std.proofs.Math.Path.{fun_ext}
 use Rattle.std.specs.List.{list_any}
 use Rattle.std.proofs.lemmas.List.{map-append}
 use Rattle.mind_base.specs.Page.{PageView}
 use Rattle.mind_base.specs.Span.{SpanView}
-use Rattle.mind_base.specs.Home.{in_span, home_of}
-use Rattle.mind_base.specs.Fit.{all_homes}
+use Rattle.mind_base.specs.Home.{in_span}
 use Rattle.mind_base.specs.Cover.{level}
 use Rattle.mind_base.specs.Permission.{permission_from, permission_of}
 use Rattle.mind_base.specs.declared.commands.Perm.{Perm}
 use Rattle.mind_base.specs.declared.commands.Perm.TheVariants.{No, R, Rw}
-use Rattle.mind_base.specs.declared.plans.MemoryPlan.{MemoryPlan}
 use Rattle.protect_table.specs.Protect.{changed}
 use Rattle.protect_table.proofs.Counting.{all_below-same}
 use Rattle.protect_table.proofs.Tables.{permission_of-push}
 use Rattle.toml.specs.Data.{Data}
-use Rattle.control_plane.specs.Outcome.{are_mapped, are_unmapped, are_placed}
-use Rattle.control_plane.proofs.Runs.{is_some-home_of}
+use Rattle.control_plane.specs.Outcome.{are_unmapped}
 use Rattle.rack_file.specs.Tables.{is_apart, home_judged, home_entry}
 use Rattle.rack_file.specs.Judged.{Stops}
 use Rattle.rack_file.specs.declared.refusals.RackRefusal.{RackRefusal}
-use Rattle.rack_file.proofs.HomePages.{any-all}
 
 or-false : (b : Bool) → b ≡ (b || false)
 or-false true = refl
@@ -38,13 +34,6 @@ level-from : (p : Perm) (spans : List SpanView) (page : PageView)
 level-from p [] page = or-false (nat_lt 0 (level p))
 level-from p (span ∷ spans) page =
     level-from (cond (in_span span page) R p) spans page ∙ level-one p (in_span span page) (list_any (λ s. in_span s page) spans)
-
-page-placed : (memories : List MemoryPlan) (page : PageView) → nat_lt 0 (level (permission_of (map home_entry (all_homes memories)) page)) ≡ is_some (home_of memories page)
-page-placed memories page =
-    level-from No (all_homes memories) page ∙ (sym (any-all (λ span. in_span span page) memories) ∙ sym (is_some-home_of memories page))
-
-pub homes-placed : (memories : List MemoryPlan) → are_mapped (permission_of (map home_entry (all_homes memories))) ≡ are_placed memories
-homes-placed memories = fun_ext (λ span. all_below-same _ _ span.pages (λ i lt. page-placed memories (record { domain = span.domain; number = span.base + i })))
 
 -- ---- runs that are apart from homes
 

@@ -16,6 +16,3 @@ mod tables;
 pub use images::{ImageFault, image_of};
 pub use racks::rack_of;
 pub use refusals::{Path, RackFault, RackRefusal};
-
-#[cfg(test)]
-mod tests;

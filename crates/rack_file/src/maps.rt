@@ -1,16 +1,17 @@
-ghost use Rattle.std.specs.Prelude.{◌≡◌, [], codes, nat_le, length, IfOk};
+ghost use Rattle.std.specs.Prelude.{◌≡◌, ◌≤◌, [], codes, nat_le, length, All, IfOk};
 ghost use Rattle.toml.specs.Data.{get_member};
 ghost use Rattle.toml.specs.View.{view, table_view, items_view};
+ghost use Rattle.mind_base.specs.Fit.{AreApart, all_homes};
 ghost use Rattle.mind_base.specs.Permission.{permission_of};
 ghost use Rattle.mind_base.specs.Cover.{cover_of};
 ghost use Rattle.protect_table.specs.Protect.{permission_at};
-ghost use Rattle.control_plane.specs.Outcome.{are_mapped, are_placed};
+ghost use Rattle.control_plane.specs.Outcome.{are_placed};
 ghost use Rattle.rack_file.specs.Keys.{numbered, keys_judged, items_judged, optional_array_judged};
 ghost use Rattle.rack_file.specs.Tables.{map_at, map_keys, map_judged, maps_judged, maps_within};
 ghost use Rattle.rack_file.specs.Judged.{Gives, Reads};
 
 use crate::keys::{array_in, member_at, table_in};
-use crate::placing::{homes_table, is_placed, is_unmapped, put};
+use crate::placing::{is_placed, is_unmapped, put};
 use crate::refusals::{RackFault, RackRefusal, element_path, refused};
 use crate::sections::{Section, check_known};
 use crate::tables::{perm_in, span_in};
@@ -38,10 +39,10 @@ fn map_in(
     alloc: Global,
     path: &str,
     value: &Value,
-    homes: &Protect,
+    homes: &range_translate::Table,
     mapped: &Protect,
 ) -> Result<MapPlan, RackRefusal>
-    ensures { Gives (λ entry. entry) result (map_judged (are_mapped (permission_at homes.now)) (permission_at mapped.now) path.now (view value.now)) }
+    ensures { Gives (λ entry. entry) result (map_judged (are_placed homes.now.homes) (permission_at mapped.now) path.now (view value.now)) }
 {
     let table = match table_in(alloc, path, value) {
         Ok(table) => table,
@@ -69,11 +70,11 @@ fn next_map(
     alloc: Global,
     value: &Value,
     maps: &Sequence<MapPlan>,
-    homes: &Protect,
+    homes: &range_translate::Table,
     mapped: &Protect,
 ) -> Result<MapPlan, RackRefusal>
     requires { permission_at mapped.now ≡ permission_of maps.now }
-    ensures { Gives (λ entry. entry) result (map_judged (are_mapped (permission_at homes.now)) (permission_of maps.now) (numbered (codes "map") (length maps.now)) (view value.now)) }
+    ensures { Gives (λ entry. entry) result (map_judged (are_placed homes.now.homes) (permission_of maps.now) (numbered (codes "map") (length maps.now)) (view value.now)) }
 {
     let place = match element_path(alloc, "map", maps.len()) {
         Ok(place) => place,
@@ -89,8 +90,12 @@ struct Mapped {
     cover: u32,
 }
 
-fn maps_of(alloc: Global, values: &[Value], homes: &Protect) -> Result<Mapped, RackRefusal>
-    ensures maps { Gives (λ mapped. mapped.maps) result (items_judged (λ done. map_judged (are_mapped (permission_at homes.now)) (permission_of done)) (codes "map") [] (items_view values.now)) }
+fn maps_of(
+    alloc: Global,
+    values: &[Value],
+    homes: &range_translate::Table,
+) -> Result<Mapped, RackRefusal>
+    ensures maps { Gives (λ mapped. mapped.maps) result (items_judged (λ done. map_judged (are_placed homes.now.homes) (permission_of done)) (codes "map") [] (items_view values.now)) }
     ensures cover { IfOk result (λ mapped. mapped.cover ≡ cover_of (permission_of mapped.maps)) }
 {
     let mut maps = Sequence::new(alloc);
@@ -129,10 +134,10 @@ fn map_values<'a>(alloc: Global, document: &'a Table) -> Result<&'a [Value], Rac
 fn maps_within(
     alloc: Global,
     values: &[Value],
-    homes: &Protect,
+    homes: &range_translate::Table,
     most: u32,
 ) -> Result<Sequence<MapPlan>, RackRefusal>
-    ensures { Gives (λ maps. maps) result (maps_within (are_mapped (permission_at homes.now)) most (items_view values.now)) }
+    ensures { Gives (λ maps. maps) result (maps_within (are_placed homes.now.homes) most (items_view values.now)) }
 {
     let mapped = match maps_of(alloc, values, homes) {
         Ok(mapped) => mapped,
@@ -152,13 +157,16 @@ pub(crate) fn maps_in(
     memories: &[MemoryPlan],
     most: u32,
 ) -> Result<Sequence<MapPlan>, RackRefusal>
+    requires apart { AreApart (all_homes memories.now) }
+    requires few { length memories.now ≤ 8 }
+    requires spare { All (λ memory. memory.spare ≤ 4096) memories.now }
     ensures { Gives (λ maps. maps) result (maps_judged (are_placed memories.now) most (table_view document.now)) }
 {
     let values = match map_values(alloc, document) {
         Ok(values) => values,
         Err(e) => return Err(e),
     };
-    let homes = match homes_table(alloc, memories) {
+    let homes = match range_translate::Table::new(alloc, memories, 0) {
         Ok(homes) => homes,
         Err(_) => return Err(RackRefusal::NoMemory),
     };

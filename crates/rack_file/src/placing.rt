@@ -1,14 +1,15 @@
-//! Tables of permissions as what is known of pages: which have a home, and which are mapped.
+//! What is known of runs of pages: whether they have a home, and whether they are mapped.
 ghost use Rattle.std.specs.Prelude.{◌≡◌, ◌++◌, map, OnOk, IfOk};
 ghost use Rattle.mind_base.specs.Fit.{all_homes};
 ghost use Rattle.mind_base.specs.Permission.{permission_of};
 ghost use Rattle.protect_table.specs.Protect.{permission_at, changed};
-ghost use Rattle.control_plane.specs.Outcome.{are_mapped, are_unmapped, are_placed};
+ghost use Rattle.control_plane.specs.Outcome.{are_unmapped, are_placed};
 ghost use Rattle.rack_file.specs.Tables.{home_entry};
 
 use control_plane::apply;
-use mind_base::{Command, MapPlan, MemoryPlan, NoMemory, Perm, Span};
+use mind_base::{Command, MapPlan, MemoryPlan, NoMemory, Page, Perm, Span};
 use protect_table::Protect;
+use range_translate::Table;
 use std::alloc::Global;
 
 fn add_entries(entries: &mut Vec<MapPlan>, homes: &[Span]) -> Result<(), NoMemory>
@@ -36,7 +37,6 @@ fn home_entries(alloc: Global, memories: &[MemoryPlan]) -> Result<Vec<MapPlan>, 
 /// A table in which the pages with a home can be read, with room for any permissions.
 pub(crate) fn homes_table(alloc: Global, memories: &[MemoryPlan]) -> Result<Protect, NoMemory>
     ensures permissions { IfOk result (λ table. permission_at table ≡ permission_of (map home_entry (all_homes memories.now))) }
-    ensures placed { IfOk result (λ table. are_mapped (permission_at table) ≡ are_placed memories.now) }
     ensures slots { IfOk result (λ table. table.slots ≡ 4294967295) }
 {
     let entries = home_entries(alloc, memories)?;
@@ -46,11 +46,20 @@ pub(crate) fn homes_table(alloc: Global, memories: &[MemoryPlan]) -> Result<Prot
     }
 }
 
-/// Whether each page of the run has a permission.
-pub(crate) fn is_placed(homes: &Protect, span: &Span) -> bool
-    ensures { result ≡ are_mapped (permission_at homes.now) span.now }
+/// Whether each page of the run has a home.
+pub(crate) fn is_placed(homes: &Table, span: &Span) -> bool
+    ensures { result ≡ are_placed homes.now.homes span.now }
 {
-    homes.first_without(span).is_none()
+    for n in 0..span.pages {
+        let page = Page {
+            domain: span.domain,
+            number: span.base + n,
+        };
+        if homes.home(page).is_none() {
+            return false;
+        }
+    }
+    true
 }
 
 /// Whether no page of the run has a permission.

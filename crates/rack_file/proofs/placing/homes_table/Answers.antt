@@ -1,8 +1,6 @@
 use Rattle.std.proofs.Common.{refl, ◌∙◌, ap}
 use Rattle.mind_base.specs.Permission.{permission_of}
-use Rattle.control_plane.specs.Outcome.{are_mapped}
 use Rattle.protect_table.proofs.Tables.{cover_of-fits}
-use Rattle.rack_file.proofs.HomesTable.{homes-placed}
 use Rattle.rack_file.proofs.placing.homes_table.Goals as goal
 
 pub of-requires : goal.of-requires
@@ -10,7 +8,3 @@ of-requires c = cover_of-fits _ _ refl
 
 pub returns-in-Ok-clause-permissions : goal.returns-in-Ok-clause-permissions
 returns-in-Ok-clause-permissions c = c.in-Ok.ensures.maps ∙ ap permission_of (c.as_slice.ensures.value ∙ c.in_ok-entries.ensures)
-
-pub returns-in-Ok-clause-placed : goal.returns-in-Ok-clause-placed
-returns-in-Ok-clause-placed c =
-    ap are_mapped (c.in-Ok.ensures.maps ∙ ap permission_of (c.as_slice.ensures.value ∙ c.in_ok-entries.ensures)) ∙ homes-placed c.args.memories.now

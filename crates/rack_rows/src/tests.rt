@@ -1,19 +1,13 @@
 //! What no contract says: each call with ample memory, and the answers to racks written by hand.
-use crate::*;
-use mind_base::{ImagePlan, Name};
+use mind_base::{ImagePlan, Name, RackPlan};
+use rack_file::{ImageFault, RackFault, RackRefusal, image_of, rack_of};
+use std::alloc::Global;
+use std::process::Abort;
 use std::test::Fail;
 
 /// Two compute blades, two memory blades with one home each, two images, two threads, one map.
 const BASE: &str =
     "format = 1\nslots = 4\nprotect = 8\noutliers = 2\nregion = 0\nmost = 9\nthreshold = 0\n[[blade]]\nframes = 2\n[[blade]]\nframes = 2\n[[memory]]\nspare = 4\nhomes = [{ domain = 0, page = 0, pages = 16 }]\n[[memory]]\nspare = 4\nhomes = [{ domain = 0, page = 16, pages = 16 }]\n[[image]]\nname = \"a.bin\"\nat = 0\n[[image]]\nname = \"b.bin\"\nat = 0\n[[thread]]\nblade = 0\ndomain = 0\nimage = 0\nqueue = 2\n[[thread]]\nblade = 1\ndomain = 0\nimage = 1\nqueue = 2\n[[map]]\ndomain = 0\npage = 1\npages = 2\nperm = \"rw\"\n";
-
-fn joined(rt: &HostRuntime, parts: &[&str]) -> Result<String, Fail> {
-    let mut text = String::new(rt.alloc());
-    for part in parts {
-        text.push_str(*part)?;
-    }
-    Ok(text)
-}
 
 fn word(what: RackFault) -> &'static str {
     match what {
@@ -29,39 +23,22 @@ fn word(what: RackFault) -> &'static str {
 }
 
 /// What is answered to this rack: `ok`, or the fault and its path.
-fn answer(rt: &HostRuntime, rack: &[u8]) -> Result<String, Fail> {
-    match rack_of(rt.alloc(), rack) {
-        Ok(_) => joined(rt, &["ok"]),
-        Err(RackRefusal::NoMemory) => joined(rt, &["no memory"]),
+fn answer(alloc: Global, rack: &[u8]) -> Result<String, Fail> {
+    match rack_of(alloc, rack) {
+        Ok(_) => Ok(String::from_str(alloc, "ok")?),
+        Err(RackRefusal::NoMemory) => Ok(String::from_str(alloc, "no memory")?),
         Err(RackRefusal::Refused { what, path }) => {
             let place = std::str::from_utf8(path.as_bytes()).ok().ok_or("no text")?;
-            joined(rt, &[word(what), " ", place])
+            Ok(format!(in alloc; "{} {place}", word(what))?)
         }
     }
-}
-
-#[test]
-fn a_rack_is_read(rt: HostRuntime) -> Result<(), Fail> {
-    match rack_of(rt.alloc(), BASE.as_bytes()) {
-        Ok(plan) => {
-            assert_eq!(rt; plan.protect, 8);
-            assert_eq!(rt; plan.most, 9);
-            assert_eq!(rt; plan.frames.len(), 2);
-            assert_eq!(rt; plan.memories.len(), 2);
-            assert_eq!(rt; plan.images.len(), 2);
-            assert_eq!(rt; plan.threads.len(), 2);
-            assert_eq!(rt; plan.maps.len(), 1);
-        }
-        Err(_) => assert!(rt; false, "refused"),
-    }
-    Ok(())
 }
 
 /// A place of the base rack, what stands there in its stead, how many times, and the answer: `ok`, or
 /// what stands of the refusal behind `refused rack`.
 type Row = (&'static str, &'static str, usize, &'static str);
 
-static ROWS: [Row; 120] = [
+static SETTINGS: [Row; 31] = [
     ("format = 1", "format = 1", 1, "ok"),
     ("format = 1", "format =", 1, "toml "),
     ("format = 1", "format = 0", 1, "limit format"),
@@ -103,12 +80,9 @@ static ROWS: [Row; 120] = [
     ),
     ("format = 1", "format = 1\npolicy = 1", 1, "kind policy"),
     ("format = 1", "format = 1\ncolor = 1", 1, "unknown top"),
-    (
-        "threshold = 0\n[[blade]]\nframes = 2",
-        "threshold = 0\ncolor = 1\n[[blade]]\nframes = 0",
-        1,
-        "unknown top",
-    ),
+];
+
+static BLADES: [Row; 12] = [
     (
         "[[blade]]\nframes = 2\n[[blade]]\nframes = 2\n",
         "",
@@ -151,6 +125,9 @@ static ROWS: [Row; 120] = [
         9,
         "limit blade",
     ),
+];
+
+static MEMORIES: [Row; 14] = [
     (
         "[[memory]]\nspare = 4\nhomes = [{ domain = 0, page = 0, pages = 16 }]\n[[memory]]\nspare = 4\nhomes = [{ domain = 0, page = 16, pages = 16 }]\n",
         "",
@@ -198,23 +175,26 @@ static ROWS: [Row; 120] = [
         "overlap memory.0.homes.1",
     ),
     (
-        "{ domain = 0, page = 0, pages = 16 }",
-        "{ domain = 0, page = 0, pages = 16 }, ",
-        17,
-        "limit memory.0.homes",
-    ),
-    (
         "[[memory]]\nspare = 4\nhomes = [{ domain = 0, page = 0, pages = 16 }]\n",
         "[[memory]]\nspare = 4\nhomes = [{ domain = 0, page = 0, pages = 16 }]\n",
         7,
         "overlap memory.1.homes.0",
     ),
     (
-        "[[memory]]\nspare = 4\nhomes = [{ domain = 0, page = 0, pages = 16 }]\n",
-        "[[memory]]\nspare = 4\nhomes = [{ domain = 0, page = 0, pages = 16 }]\n",
-        8,
+        "{ domain = 0, page = 0, pages = 16 }",
+        "{ domain = 0, page = 0, pages = 16 }, { domain = 1, page = 0, pages = 4096 }, { domain = 2, page = 0, pages = 4096 }, { domain = 3, page = 0, pages = 4096 }, { domain = 4, page = 0, pages = 4064 }",
+        1,
+        "ok",
+    ),
+    (
+        "{ domain = 0, page = 0, pages = 16 }",
+        "{ domain = 0, page = 0, pages = 16 }, { domain = 1, page = 0, pages = 4096 }, { domain = 2, page = 0, pages = 4096 }, { domain = 3, page = 0, pages = 4096 }, { domain = 4, page = 0, pages = 4065 }",
+        1,
         "limit memory",
     ),
+];
+
+static HOMES: [Row; 13] = [
     (
         "domain = 0, page = 16, pages = 16",
         "domain = 15, page = 16, pages = 16",
@@ -293,18 +273,9 @@ static ROWS: [Row; 120] = [
         1,
         "ok",
     ),
-    (
-        "{ domain = 0, page = 0, pages = 16 }",
-        "{ domain = 0, page = 0, pages = 16 }, { domain = 1, page = 0, pages = 4096 }, { domain = 2, page = 0, pages = 4096 }, { domain = 3, page = 0, pages = 4096 }, { domain = 4, page = 0, pages = 4064 }",
-        1,
-        "ok",
-    ),
-    (
-        "{ domain = 0, page = 0, pages = 16 }",
-        "{ domain = 0, page = 0, pages = 16 }, { domain = 1, page = 0, pages = 4096 }, { domain = 2, page = 0, pages = 4096 }, { domain = 3, page = 0, pages = 4096 }, { domain = 4, page = 0, pages = 4065 }",
-        1,
-        "limit memory",
-    ),
+];
+
+static IMAGES: [Row; 15] = [
     (
         "[[image]]\nname = \"a.bin\"\nat = 0\n[[image]]\nname = \"b.bin\"\nat = 0\n",
         "",
@@ -345,6 +316,9 @@ static ROWS: [Row; 120] = [
         16,
         "limit image",
     ),
+];
+
+static THREADS: [Row; 13] = [
     (
         "[[thread]]\nblade = 0\ndomain = 0\nimage = 0\nqueue = 2\n[[thread]]\nblade = 1\ndomain = 0\nimage = 1\nqueue = 2\n",
         "",
@@ -378,6 +352,9 @@ static ROWS: [Row; 120] = [
         64,
         "limit thread",
     ),
+];
+
+static MAPS: [Row; 16] = [
     (
         "[[map]]\ndomain = 0\npage = 1\npages = 2\nperm = \"rw\"\n",
         "",
@@ -401,12 +378,6 @@ static ROWS: [Row; 120] = [
         "domain = 0\npage = 1048575\npages = 1",
         1,
         "unplaced map.0",
-    ),
-    (
-        "domain = 0\npage = 1\npages = 2",
-        "domain = 0\npage = 1048575\npages = 2",
-        1,
-        "limit map.0.pages",
     ),
     (
         "domain = 0\npage = 1\npages = 2",
@@ -459,12 +430,6 @@ static ROWS: [Row; 120] = [
         "overlap map.1",
     ),
     (
-        "[[map]]\ndomain = 0\npage = 1\npages = 2\nperm = \"rw\"\n",
-        "[[map]]\ndomain = 0\npage = 1\npages = 2\nperm = \"rw\"\n",
-        257,
-        "limit map",
-    ),
-    (
         "[[map]]",
         "[[map]]\ndomain = 0\npage = 3\npages = 1\nperm = \"r\"\n[[map]]",
         1,
@@ -476,6 +441,40 @@ static ROWS: [Row; 120] = [
         1,
         "overlap map.1",
     ),
+];
+
+/// Racks with two faults, of which the first is told.
+static ORDER: [Row; 6] = [
+    (
+        "threshold = 0\n[[blade]]\nframes = 2",
+        "threshold = 0\ncolor = 1\n[[blade]]\nframes = 0",
+        1,
+        "unknown top",
+    ),
+    (
+        "{ domain = 0, page = 0, pages = 16 }",
+        "{ domain = 0, page = 0, pages = 16 }, ",
+        17,
+        "limit memory.0.homes",
+    ),
+    (
+        "[[memory]]\nspare = 4\nhomes = [{ domain = 0, page = 0, pages = 16 }]\n",
+        "[[memory]]\nspare = 4\nhomes = [{ domain = 0, page = 0, pages = 16 }]\n",
+        8,
+        "limit memory",
+    ),
+    (
+        "domain = 0\npage = 1\npages = 2",
+        "domain = 0\npage = 1048575\npages = 2",
+        1,
+        "limit map.0.pages",
+    ),
+    (
+        "[[map]]\ndomain = 0\npage = 1\npages = 2\nperm = \"rw\"\n",
+        "[[map]]\ndomain = 0\npage = 1\npages = 2\nperm = \"rw\"\n",
+        257,
+        "limit map",
+    ),
     (
         "frames = 2",
         "frames = 0\ncolor = 1",
@@ -484,44 +483,100 @@ static ROWS: [Row; 120] = [
     ),
 ];
 
-/// The base rack with other text at one place.
-fn changed(rt: &HostRuntime, place: &str, by: &str, times: usize) -> Result<String, Fail> {
-    let text = by.repeat(rt.alloc(), times)?;
-    Ok(BASE.replacen(rt.alloc(), place, text.as_str(), 1)?)
+/// The base rack with other text at the row's place.
+fn rack_with(alloc: Global, row: &Row) -> Result<String, Fail> {
+    let (place, by, times, _) = row;
+    let text = by.repeat(alloc, *times)?;
+    Ok(BASE.replacen(alloc, *place, text.as_str(), 1)?)
 }
 
-#[test]
-fn racks_are_accepted_or_refused_by_their_first_fault(rt: HostRuntime) -> Result<(), Fail> {
-    for (place, by, times, wanted) in &ROWS {
-        let rack = changed(&rt, *place, *by, *times)?;
-        let told = answer(&rt, rack.as_bytes())?;
-        assert!(rt; told.as_str() == *wanted, "{place} {by} {times}: {told}");
+fn judge<R: Abort + AllocGlobal>(rt: &R, row: &Row) -> Result<(), Fail> {
+    let alloc = rt.alloc();
+    let rack = rack_with(alloc, row)?;
+    let told = answer(alloc, rack.as_bytes())?;
+    assert!(rt;
+        told.as_str() == row.3,
+        "{} {} {}: {told}",
+        row.0,
+        row.1,
+        row.2
+    );
+    Ok(())
+}
+
+fn judge_all<R: Abort + AllocGlobal>(rt: &R, rows: &[Row]) -> Result<(), Fail> {
+    for row in rows {
+        judge(rt, row)?;
     }
     Ok(())
 }
 
 #[test]
+fn settings_and_blades_have_their_keys(rt: HostRuntime) -> Result<(), Fail> {
+    judge_all(&rt, &SETTINGS)?;
+    judge_all(&rt, &BLADES)
+}
+
+#[test]
+fn memory_blades_have_homes_that_are_apart(rt: HostRuntime) -> Result<(), Fail> {
+    judge_all(&rt, &MEMORIES)?;
+    judge_all(&rt, &HOMES)
+}
+
+#[test]
+fn images_and_threads_have_their_keys(rt: HostRuntime) -> Result<(), Fail> {
+    judge_all(&rt, &IMAGES)?;
+    judge_all(&rt, &THREADS)
+}
+
+#[test]
+fn maps_have_homes_and_the_first_fault_is_told(rt: HostRuntime) -> Result<(), Fail> {
+    judge_all(&rt, &MAPS)?;
+    judge_all(&rt, &ORDER)
+}
+
+#[test]
 fn bytes_that_are_no_text_are_no_rack(rt: HostRuntime) -> Result<(), Fail> {
-    let told = answer(&rt, b"\xff")?;
-    assert!(rt; told.as_str() == "toml ", "{told}");
+    let told = answer(rt.alloc(), b"\xff")?;
+    assert_eq!(rt; told.as_str(), "toml ");
     Ok(())
+}
+
+/// How many blades, memory blades, images, threads and maps the plan has.
+fn counts(plan: &RackPlan) -> [usize; 5] {
+    [
+        plan.frames.len(),
+        plan.memories.len(),
+        plan.images.len(),
+        plan.threads.len(),
+        plan.maps.len(),
+    ]
+}
+
+#[test]
+fn a_rack_is_read(rt: HostRuntime) -> Result<(), Fail> {
+    let plan = rack_of(rt.alloc(), BASE.as_bytes()).ok().ok_or("refused")?;
+    assert_eq!(rt; (plan.protect, plan.most), (8, 9));
+    assert_eq!(rt; counts(&plan), [2, 2, 2, 2, 1]);
+    Ok(())
+}
+
+/// What is wrong with so many bytes as an image of this plan.
+fn image_fault(alloc: Global, plan: &ImagePlan, length: usize) -> Result<Option<ImageFault>, Fail> {
+    let bytes = vec![in alloc; 0u8; length]?;
+    Ok(image_of(plan, bytes).err())
 }
 
 #[test]
 fn an_image_has_whole_words(rt: HostRuntime) -> Result<(), Fail> {
     let alloc = rt.alloc();
+    let name = Name::of(alloc, "a.bin")?.ok_or("no name")?;
     let plan = ImagePlan {
-        name: Name::of(alloc, "a.bin")?.ok_or("no name")?,
+        name,
         at: 4294967292,
     };
-    assert!(rt; image_of(&plan, vec![in alloc; 0u8; 4]?).is_ok());
-    match image_of(&plan, vec![in alloc; 0u8; 6]?) {
-        Ok(_) => assert!(rt; false, "accepted"),
-        Err(fault) => assert_eq!(rt; fault, ImageFault::Length),
-    }
-    match image_of(&plan, vec![in alloc; 0u8; 8]?) {
-        Ok(_) => assert!(rt; false, "accepted"),
-        Err(fault) => assert_eq!(rt; fault, ImageFault::End),
-    }
+    assert_eq!(rt; image_fault(alloc, &plan, 4)?, None);
+    assert_eq!(rt; image_fault(alloc, &plan, 6)?, Some(ImageFault::Length));
+    assert_eq!(rt; image_fault(alloc, &plan, 8)?, Some(ImageFault::End));
     Ok(())
 }
