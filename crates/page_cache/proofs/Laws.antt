@@ -1,5 +1,5 @@
 -- Laws of the list of pages and frames.
-use Rattle.std.proofs.Common.{◌≡◌, ℕ, zero, suc, ◌+◌, ◌-◌, ◌↔◌, Bool, true, false, cond, List, [], ◌∷◌, ◌++◌, take, reverse, find, slice_get, Option, Some, None, IsTrue, option_map, if◌then◌else◌, refl, sym, ap, subst, ◌∙◌}
+use Rattle.std.proofs.Common.{◌≡◌, ℕ, zero, suc, ◌+◌, ◌-◌, ◌↔◌, Bool, true, false, cond, List, [], ◌∷◌, ◌++◌, take, reverse, find, slice_get, Option, Some, None, IsTrue, IfNone, option_map, if◌then◌else◌, refl, sym, ap, subst, ◌∙◌}
 use Rattle.std.specs.Option.{option_map_or, option_or}
 use Rattle.std.specs.Map.{lookup_entry, set_value}
 use Rattle.std.proofs.lemmas.Bool.{eqb-true, eq-eqb, and_parts, and_from, leb-true, le-leb, ltb-true, lt-ltb}
@@ -59,6 +59,20 @@ set_value-promoted page entries change frame h = rw promoted-with_first (set_fro
 -- a page that is not held changes nothing
 pub with_first-absent : (page : PageView) (entries : List (PageView × Frame)) (change : Frame → Frame) → frame_of page entries ≡ None → with_first change page entries ≡ entries
 with_first-absent page entries change h = ap (λ found. option_map_or (λ frame. (page, change frame) ∷ without page entries) found entries) h
+
+-- without a page that is not held, the entries are the same
+pub without_absent : (page : PageView) (entries : List (PageView × Frame)) → frame_of page entries ≡ None → without page entries ≡ entries
+without_absent page [] h = refl
+without_absent page (entry ∷ entries) h =
+    (elim (same_page page entry.0) as (λ b. cond b (Some entry.1) (frame_of page entries) ≡ None → cond b entries (entry ∷ without page entries) ≡ entry ∷ entries) [
+      | true ↦ λ n. cc
+      | false ↦ λ n. ap (λ es. entry ∷ es) (without_absent page entries n)
+    ]) h
+
+-- a cache from which nothing was taken is the same
+pub taken_none : (page : PageView) (old new : CacheView) (found : Option Frame) → found ≡ frame_of page old.entries → new ≡ record old { entries = without page old.entries } → IfNone found (new ≡ old)
+taken_none page old new None is after = after ∙ ap (λ es. record old { entries = es }) (without_absent page old.entries (sym is))
+taken_none page old new (Some frame) is after = tt
 
 put_entries_from : (cache : CacheView) (page : PageView) (frame : Frame) (found : Option Frame) → option_map_or (λ (entry : PageView × Frame). (entry.0, frame) ∷ without page cache.entries) (option_map (λ old. (page, old)) found) ((page, frame) ∷ take (cache.frames - 1) cache.entries) ≡ option_map_or (λ old. (page, frame) ∷ without page cache.entries) found ((page, frame) ∷ take (cache.frames - 1) cache.entries)
 put_entries_from cache page frame None = refl

@@ -1,5 +1,5 @@
 -- The cache of a blade: a list of pages and their frames by last use.
-use Rattle.std.specs.Prelude.{ℕ, ◌-◌, ◌<◌, ◌≤◌, Bool, true, false, ◌&&◌, ◌==◌, List, ◌∷◌, length, take, reverse, find, slice_get, Option, Some, None, option_map, if◌then◌else◌}
+use Rattle.std.specs.Prelude.{ℕ, ◌-◌, ◌<◌, ◌≤◌, Bool, true, false, ◌&&◌, ◌==◌, List, ◌∷◌, length, take, map, filter, reverse, find, slice_get, Option, Some, None, option_map, if◌then◌else◌}
 use Rattle.std.specs.Option.{option_map_or}
 use Rattle.std.specs.List.{IsDistinct}
 use Rattle.std.specs.Map.{keys_of, lookup, remove_entry, set_value}
@@ -68,6 +68,13 @@ put_of cache page = put_from (frame_of page cache.entries) (slice_get cache.entr
 abbrev pub put_kind_of : PageView → Option (PageView × Frame) → Put
 put_kind_of page None = Fresh
 put_kind_of page (Some entry) = if same_page page entry.0 then Replaced entry.1 else Pushed entry.0 entry.1
+
+-- the pages of the entries that pass a test, the most recently used first, and the least recently used first
+abbrev pub newest_first : (PageView × Frame → Bool) → List (PageView × Frame) → List PageView
+newest_first test entries = map (λ entry. entry.0) (filter test entries)
+
+abbrev pub oldest_first : (PageView × Frame → Bool) → List (PageView × Frame) → List PageView
+oldest_first test entries = reverse (newest_first test entries)
 
 -- the page of the least recently used entry that passes a test
 abbrev pub oldest_of : (PageView × Frame → Bool) → List (PageView × Frame) → Option PageView

@@ -1,7 +1,7 @@
-ghost use Rattle.std.specs.Prelude.{◌≡◌, ◌<◌, [], is_some, IsSome, IfOk, IsOk, OnOk, IfErr, OnErr};
+ghost use Rattle.std.specs.Prelude.{◌≡◌, ◌<◌, ◌≤◌, [], length, is_some, IsSome, IfNone, IfOk, IsOk, OnOk, IfErr, OnErr};
 ghost use Rattle.std.specs.Option.{option_copied};
 ghost use Rattle.page_image.specs.PageImage.{IsInside};
-ghost use Rattle.page_cache.specs.PageCache.{IsPageCache, frame_of, without, with_first, with_change, written_frame, lowered_frame, entries_after_put, put_of, put_kind_of, oldest_of, stands_in, stands_writable_in};
+ghost use Rattle.page_cache.specs.PageCache.{IsPageCache, frame_of, without, with_first, with_change, written_frame, lowered_frame, entries_after_put, put_of, put_kind_of, oldest_of, oldest_first, stands_in, stands_writable_in};
 
 use crate::{Frame, Put};
 use lru::LruCache;
@@ -103,10 +103,11 @@ impl PageCache {
         Ok(put_kind(page, displaced))
     }
 
-    /// Takes a page out with its frame; None exactly where it is not held.
+    /// Takes a page out with its frame; None, and nothing changes, exactly where it is not held.
     pub fn take(&mut self, page: Page) -> Option<Frame>
         ensures frame { result ≡ frame_of page self.old.entries }
         ensures entries { self.new ≡ record self.old { entries = without page self.old.entries } }
+        ensures none { IfNone result (self.new ≡ self.old) }
         ensures shape { IsPageCache self.new }
     {
         let frame = self.held.pop(&page);
@@ -150,6 +151,42 @@ impl PageCache {
             }
         }
         oldest
+    }
+
+    /// The pages of a run that are held, the least recently used first.
+    pub fn pages_in(&self, alloc: Global, span: &Span) -> Result<Vec<Page>, NoMemory>
+        ensures pages { IfOk result (λ pages. pages.items ≡ oldest_first (stands_in span.now) self.now.entries) }
+        ensures count { IfOk result (λ pages. length pages.items ≤ self.now.frames) }
+        ensures shape { IsPageCache self.now }
+    {
+        let mut pages = Vec::new(alloc);
+        let _len = self.held.len();
+        for (page, _) in self.held.iter() {
+            let inside = span.has(*page);
+            if inside {
+                pages.push(*page)?;
+            }
+        }
+        pages.reverse();
+        Ok(pages)
+    }
+
+    /// The pages of a run that may be written, the least recently used first.
+    pub fn writable_pages_in(&self, alloc: Global, span: &Span) -> Result<Vec<Page>, NoMemory>
+        ensures pages { IfOk result (λ pages. pages.items ≡ oldest_first (stands_writable_in span.now) self.now.entries) }
+        ensures count { IfOk result (λ pages. length pages.items ≤ self.now.frames) }
+        ensures shape { IsPageCache self.now }
+    {
+        let mut pages = Vec::new(alloc);
+        let _len = self.held.len();
+        for (page, frame) in self.held.iter() {
+            let inside = span.has(*page) && frame.writable;
+            if inside {
+                pages.push(*page)?;
+            }
+        }
+        pages.reverse();
+        Ok(pages)
     }
 }
 

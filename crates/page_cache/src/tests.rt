@@ -62,6 +62,7 @@ fn a_page_is_written_lowered_and_taken(rt: HostRuntime) -> Result<(), Fail> {
         pages: 8,
     };
     assert_eq!(rt; cache.oldest_in(&span), None);
+    assert!(rt; cache.pages_in(rt.alloc(), &span)?.is_empty());
     assert!(rt; cache.put(page(5), frame(rt.alloc(), true)?).is_ok());
     assert!(rt; cache.put(page(6), frame(rt.alloc(), false)?).is_ok());
     assert!(rt; cache.put(page(8), frame(rt.alloc(), true)?).is_ok());
@@ -69,12 +70,20 @@ fn a_page_is_written_lowered_and_taken(rt: HostRuntime) -> Result<(), Fail> {
     assert!(rt; !cache.write(page(7), 64, 4, 17, 3));
     assert_eq!(rt; cache.oldest_in(&span), Some(page(6)));
     assert_eq!(rt; cache.oldest_writable_in(&span), Some(page(5)));
+    let held = cache.pages_in(rt.alloc(), &span)?;
+    assert_eq!(rt; held.len(), 2);
+    assert_eq!(rt; held[0], page(6));
+    assert_eq!(rt; held[1], page(5));
+    let writable = cache.writable_pages_in(rt.alloc(), &span)?;
+    assert_eq!(rt; writable.len(), 1);
+    assert_eq!(rt; writable[0], page(5));
     let held = cache.find(page(5)).ok_or("not held")?;
     assert!(rt; held.dirty);
     assert_eq!(rt; held.image.load(64, 4), 17);
     assert_eq!(rt; held.image.tag(1), 3);
     cache.lower(page(5));
     assert_eq!(rt; cache.oldest_writable_in(&span), None);
+    assert!(rt; cache.writable_pages_in(rt.alloc(), &span)?.is_empty());
     let taken = cache.take(page(5)).ok_or("not held")?;
     assert!(rt; !taken.dirty);
     assert!(rt; !taken.writable);

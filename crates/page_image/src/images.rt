@@ -1,4 +1,4 @@
-ghost use Rattle.std.specs.Prelude.{◌≡◌, ◌++◌, ◌<◌, ◌↔◌, length, Some, IsSome, IfSome, IfOk, OnOk, OnErr};
+ghost use Rattle.std.specs.Prelude.{◌≡◌, ◌++◌, ◌<◌, ◌↔◌, length, slice_index, Some, IsSome, IfSome, IfOk, OnOk, OnErr};
 ghost use Rattle.page_image.specs.PageImage.{PageImageView, IsPageImage, IsInside, number_at, tag_at, image_after, zero_image, spelling_of};
 
 use crate::tags::{append_tags, tags_of};
@@ -57,6 +57,15 @@ impl PageImage {
         let mut word = [0u8; 4];
         word[..size].copy_from_slice(&self.bytes[at..at + size]);
         u32::from_le_bytes(word)
+    }
+
+    /// The byte at an offset below 4096.
+    pub fn byte(&self, offset: u32) -> u8
+        requires { offset < 4096 }
+        ensures byte { result ≡ slice_index self.now.bytes offset }
+        ensures shape { IsPageImage self.now }
+    {
+        self.bytes[offset as usize]
     }
 
     /// Stores the low `size` bytes of `value`, 1, 2 or 4, from the byte `offset` on, the lowest byte
