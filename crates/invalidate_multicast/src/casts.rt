@@ -11,7 +11,7 @@ pub struct Cast {
 }
 
 /// Whether the blade is one of the set.
-fn is_among(blades: u8, blade: u8) -> bool
+pub fn is_among(blades: u8, blade: u8) -> bool
     ensures { result ≡ has_blade blades blade }
 {
     blade < 8 && (blades >> blade) % 2 == 1

@@ -1,5 +1,5 @@
 -- What the searches of a list find.
-use Rattle.std.proofs.Common.{◌≡◌, ℕ, ◌<◌, ◌≤◌, Bool, true, not, ◌⊎◌, inl, inr, Some, None, List, [], ◌∷◌, length, get_or, refl, ap, sym, subst, ◌∙◌, zero, suc, arith}
+use Rattle.std.proofs.Common.{◌≡◌, ℕ, ◌<◌, ◌≤◌, ◌-◌, Bool, true, false, cond, not, ◌⊎◌, inl, inr, Some, None, List, [], ◌∷◌, length, get_or, refl, ap, sym, subst, ◌∙◌, zero, suc, arith}
 use Rattle.std.specs.List.{position, position_or_len, slice_get, list_all}
 use Rattle.std.specs.Option.{IsSomeAnd}
 use Rattle.std.proofs.lemmas.Bool.{false≢true}
@@ -10,7 +10,7 @@ use Rattle.mind_base.specs.Page.{PageView}
 use Rattle.mind_base.specs.Range.{RangeView, IsRange, InRange}
 use Rattle.region_directory.specs.Block.{in_range, are_apart, block_of}
 use Rattle.region_directory.specs.Directory.{DirectoryView, IsDirectory}
-use Rattle.region_directory.specs.Entry.{HasPage, NoneHas, MeetsNone, fresh_entry}
+use Rattle.region_directory.specs.Entry.{HasPage, NoneHas, MeetsNone, fresh_entry, largest_free}
 use Rattle.region_directory.specs.declared.entries.Entry.{Entry}
 use Rattle.region_directory.proofs.BlockLemmas.{has-from_test, test-from_has, apart-from_test, test-from_apart, block_of-only, one-page}
 
@@ -85,3 +85,14 @@ new-free es page r e f n (inr le) =
 pub new-largest : (es : List Entry) (page : PageView) (log : ℕ) (r other : RangeView) → ((k : ℕ) → r.log < k → k ≤ log → MeetsNone es (block_of page k) → ⊥) → IsRange other.domain other.base other.log → InRange other page → other.log ≤ log → MeetsNone es other → (r.log < other.log) ⊎ (other.log ≤ r.log) → other.log ≤ r.log
 new-largest es page log r other h b i le free (inl lt) = absurd (h other.log lt le (subst (MeetsNone es) (block_of-only other page b i) free))
 new-largest es page log r other h b i le free (inr done) = done
+
+-- one step of the search for the largest free block: the block of this size is free, or a smaller one is sought
+pub largest_free-here : (es : List Entry) (page : PageView) (n : ℕ) → 0 < n → list_all (λ entry. are_apart entry.range (block_of page n)) es ≡ true → largest_free es page n ≡ block_of page n
+largest_free-here es page zero lt t = absurd (omega arith)
+largest_free-here es page (suc n) lt t = ap (λ b. cond b (block_of page (suc n)) (largest_free es page n)) t
+
+pub largest_free-smaller : (es : List Entry) (page : PageView) (n : ℕ) → 0 < n → list_all (λ entry. are_apart entry.range (block_of page n)) es ≡ false → largest_free es page n ≡ largest_free es page (n - 1)
+largest_free-smaller es page zero lt f = absurd (omega arith)
+largest_free-smaller es page (suc n) lt f =
+    let e : n ≡ suc n - 1 = omega arith in
+    ap (λ b. cond b (block_of page (suc n)) (largest_free es page n)) f ∙ ap (largest_free es page) e

@@ -1,10 +1,11 @@
 -- Entries of a directory, and changes of their list.
-use Rattle.std.specs.Prelude.{ℕ, ◌+◌, ◌-◌, ◌^◌, min, zero, suc, List, [], ◌∷◌, None, IsSomeAnd, slice_get, All, count_by, Option}
+use Rattle.std.specs.Prelude.{ℕ, ◌+◌, ◌-◌, ◌^◌, min, zero, suc, List, [], ◌∷◌, None, IsSomeAnd, slice_get, All, count_by, Option, if◌then◌else◌}
+use Rattle.std.specs.List.{list_all}
 use Rattle.mind_base.specs.Page.{PageView}
 use Rattle.mind_base.specs.Range.{RangeView, InRange}
 use Rattle.mind_base.specs.declared.notes.State.{State}
 use Rattle.mind_base.specs.declared.notes.State.TheVariants.{I}
-use Rattle.region_directory.specs.Block.{IsApart, is_before}
+use Rattle.region_directory.specs.Block.{IsApart, is_before, are_apart, block_of}
 use Rattle.region_directory.specs.declared.entries.Busy.{Busy}
 use Rattle.region_directory.specs.declared.entries.Entry.{Entry}
 
@@ -49,3 +50,12 @@ abbrev pub changed_at : ℕ → (Entry → Entry) → List Entry → List Entry
 changed_at i change [] = []
 changed_at zero change (entry ∷ entries) = change entry ∷ entries
 changed_at (suc i) change (entry ∷ entries) = entry ∷ changed_at i change entries
+
+-- the largest aligned block with the page, of at most 2 ^ log pages, that shares no page with an entry; a
+-- page that no entry has is always a free block
+abbrev pub largest_free : List Entry → PageView → ℕ → RangeView
+largest_free entries page zero = block_of page 0
+largest_free entries page (suc log) =
+    if list_all (λ entry. are_apart entry.range (block_of page (suc log))) entries
+    then block_of page (suc log)
+    else largest_free entries page log

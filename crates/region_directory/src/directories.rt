@@ -1,6 +1,7 @@
-ghost use Rattle.std.specs.Prelude.{◌≡◌, ◌↔◌, ◌+◌, ◌<◌, ◌≤◌, ℕ, [], length, map, insert, remove, slice_get, Some, IsTrue, IsNone, IfSome, IfOk};
+ghost use Rattle.std.specs.Prelude.{◌≡◌, ◌↔◌, ◌+◌, ◌<◌, ◌≤◌, ℕ, [], length, map, insert, remove, position, slice_get, Some, IsTrue, IsNone, IfSome, IfOk};
 ghost use Rattle.mind_base.specs.Range.{RangeView, IsRange, InRange};
-ghost use Rattle.region_directory.specs.Entry.{HasPage, NoneHas, MeetsNone, place_of, fresh_entry, in_state, with_busy, with_hits, plus_hits, changed_at};
+ghost use Rattle.region_directory.specs.Block.{in_range};
+ghost use Rattle.region_directory.specs.Entry.{HasPage, NoneHas, MeetsNone, largest_free, place_of, fresh_entry, in_state, with_busy, with_hits, plus_hits, changed_at};
 ghost use Rattle.region_directory.specs.Directory.{DirectoryView, IsDirectory};
 ghost use Rattle.region_directory.specs.Room.{room_of, MustWait};
 
@@ -81,6 +82,7 @@ impl Directory {
 
     /// The index of the entry that has the page; None exactly where no entry has it.
     pub fn find(&self, page: Page) -> Option<u32>
+        ensures first { result ≡ position (λ entry. in_range entry.range page) self.now.entries }
         ensures found { IfSome result (λ i. HasPage self.now.entries i page) }
         ensures only { IfSome result
             (λ i. (k : ℕ) → HasPage self.now.entries k page → k ≡ i) }
@@ -102,11 +104,20 @@ impl Directory {
         self.entries[i as usize]
     }
 
+    /// How many entries come before the block: the index that its entry gets.
+    pub fn place(&self, range: &Range) -> u32
+        ensures place { result ≡ place_of self.now.entries range.now }
+        ensures within { result ≤ length self.now.entries }
+    {
+        place_for(self.entries.as_slice(), range) as u32
+    }
+
     /// The largest aligned block with the page, of at most 2^`log` pages, that shares no page with an
     /// entry.
     pub fn new_range(&self, page: Page, log: u8) -> Range
         requires unknown { NoneHas self.now.entries page }
         requires size { log ≤ 9 }
+        ensures new { result ≡ largest_free self.now.entries page log }
         ensures has { InRange result page }
         ensures block { IsRange result.domain result.base result.log }
         ensures size { result.log ≤ log }

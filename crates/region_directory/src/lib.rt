@@ -11,7 +11,7 @@ mod searches;
 
 pub use directories::Directory;
 pub use entries::{Busy, Entry};
-pub use rooms::Room;
+pub use rooms::{Room, has_any};
 
 #[cfg(test)]
 mod tests;

@@ -32,7 +32,8 @@ fn makes_room(entry: &Entry) -> bool
     }
 }
 
-fn has_any(range: &Range, pages: &[Page]) -> bool
+/// Whether one of the pages is in the block.
+pub fn has_any(range: &Range, pages: &[Page]) -> bool
     ensures { result ≡ list_any (in_range range.now) pages.now }
 {
     pages.iter().any(|page| has_page(range, page))

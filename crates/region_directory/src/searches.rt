@@ -2,7 +2,7 @@ ghost use Rattle.std.specs.Prelude.{◌≡◌, ◌≤◌, ◌<◌, ℕ, count_by
 ghost use Rattle.std.specs.List.{list_all};
 ghost use Rattle.mind_base.specs.Range.{RangeView};
 ghost use Rattle.region_directory.specs.Block.{in_range, is_before, are_apart, block_of};
-ghost use Rattle.region_directory.specs.Entry.{place_of, MeetsNone};
+ghost use Rattle.region_directory.specs.Entry.{largest_free, place_of, MeetsNone};
 
 use crate::Entry;
 use crate::blocks::{block_around, comes_before, has_page, stand_apart};
@@ -38,6 +38,7 @@ fn is_free(entries: &[Entry], range: &Range) -> bool
 /// The largest block with the page, of at most 2^`log` pages, that shares no page with an entry.
 pub fn largest_free(entries: &[Entry], page: &Page, log: u8) -> Range
     requires { log ≤ 9 }
+    ensures new { result ≡ largest_free entries.now page.now log }
     ensures block { result ≡ block_of page.now result.log }
     ensures size { result.log ≤ log }
     ensures free { 0 < result.log → MeetsNone entries.now result }

@@ -104,6 +104,7 @@ impl Requests {
         ensures found { result ≡ find (is_of blade page) self.old }
         ensures left { self.new ≡ filter (λ r. not (is_of blade page r)) self.old }
         ensures apart { AreApart self.new }
+        ensures was_apart { AreApart self.old }
     {
         let Some(at) = self.waiting.get_index_of(&Wanted { blade, page }) else {
             return None;
