@@ -1,0 +1,5 @@
+pub mod Carrying
+pub mod Finding
+pub mod Naming
+pub mod Putting
+pub mod Texts

@@ -1,0 +1,38 @@
+use Rattle.std.proofs.Common.{◌≡◌, ℕ, List, ◌++◌, map, All, sym, ap, ◌∙◌, subst}
+use Rattle.std.specs.Global.{Vec}
+use Rattle.link_retry.specs.Link.{Delivers}
+use Rattle.wire_msg.specs.Spelling.{spelling}
+use Rattle.wire_msg.specs.declared.msgs.Msg.{Msg}
+use Rattle.wire_msg.specs.WellFormed.{IsWellFormed}
+use Rattle.rack_net.specs.Net.{spelled}
+use Rattle.rack_net.specs.Kept.{IsSpelled, read, link_of}
+use Rattle.rack_net.proofs.Carrying.{taken-spelled, held-delivered, fifo-delivered, link-delivered}
+use Rattle.rack_net.proofs.Texts.{all-formed}
+use Rattle.rack_net.proofs.carried.deliver_on.Goals as goal
+
+pub read_all-requires : goal.read_all-requires
+read_all-requires c =
+    subst (λ (texts : List (Vec ℕ)). All IsSpelled (map (λ v. v.items) texts)) (sym c.as_slice.ensures.value)
+    (taken-spelled c.args.link.now c.args.side c.args.k _ c.deliver.new.self c.requires c.in_ok-taken.ensures.ok)
+
+pub returns-clause-fifo : goal.returns-clause-fifo
+returns-clause-fifo c =
+    let read_are : c.in_ok-msgs.msgs.items ≡ map read (map (λ v. v.items) c.in_ok-taken.taken.items) = c.in_ok-msgs.ensures ∙ ap (λ (texts : List (Vec ℕ)). map read (map (λ v. v.items) texts)) c.as_slice.ensures.value in
+    subst (λ (msgs : List Msg). (link_of c.args.link.now).pending ≡ msgs ++ (link_of c.deliver.new.self).pending) (sym read_are)
+    (fifo-delivered c.args.link.now c.args.side c.args.k _ c.deliver.new.self c.in_ok-taken.ensures.ok)
+
+pub returns-clause-link : goal.returns-clause-link
+returns-clause-link c =
+    let read_are : c.in_ok-msgs.msgs.items ≡ map read (map (λ v. v.items) c.in_ok-taken.taken.items) = c.in_ok-msgs.ensures ∙ ap (λ (texts : List (Vec ℕ)). map read (map (λ v. v.items) texts)) c.as_slice.ensures.value in
+    subst (λ (msgs : List Msg). Delivers (spelled (link_of c.args.link.now)) c.args.side c.args.k (map spelling msgs) (spelled (link_of c.deliver.new.self))) (sym read_are)
+    (link-delivered c.args.link.now c.args.side c.args.k _ c.deliver.new.self c.requires
+    (held-delivered c.args.link.now c.args.side c.args.k _ c.deliver.new.self c.requires c.in_ok-taken.ensures.link c.in_ok-taken.ensures.ok) c.in_ok-taken.ensures.ok)
+
+pub returns-clause-formed : goal.returns-clause-formed
+returns-clause-formed c =
+    let read_are : c.in_ok-msgs.msgs.items ≡ map read (map (λ v. v.items) c.in_ok-taken.taken.items) = c.in_ok-msgs.ensures ∙ ap (λ (texts : List (Vec ℕ)). map read (map (λ v. v.items) texts)) c.as_slice.ensures.value in
+    subst (All IsWellFormed) (sym read_are)
+    (all-formed _ (taken-spelled c.args.link.now c.args.side c.args.k _ c.deliver.new.self c.requires c.in_ok-taken.ensures.ok))
+
+pub returns-clause-held : goal.returns-clause-held
+returns-clause-held c = held-delivered c.args.link.now c.args.side c.args.k _ c.deliver.new.self c.requires c.in_ok-taken.ensures.link c.in_ok-taken.ensures.ok

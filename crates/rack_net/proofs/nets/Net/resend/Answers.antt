@@ -1,0 +1,26 @@
+use Rattle.std.proofs.Common.{◌≡◌, set}
+use Rattle.link_retry.specs.Link.{Resends}
+use Rattle.rack_net.specs.Net.{spelled}
+use Rattle.rack_net.specs.Kept.{view_of}
+use Rattle.rack_net.proofs.Putting.{Updates, updates, by-name, is-net}
+use Rattle.rack_net.proofs.nets.Net.resend.Goals as goal
+
+step : (c : goal.In-Ok) → Updates c.args.self.now (view_of c.self.inside.blades c.self.inside.memories (set c.self.inside.links.items c.place-at.result c.resend_on.new.link)) c.args.link c.index_mut.result.now c.resend_on.new.link
+step c =
+    updates c.args.self.now c.self.inside.blades c.self.inside.memories c.self.inside.links.items c.args.link c.place-at.result c.index_mut.result.now c.resend_on.new.link
+    c.self.view_is c.self.invariant c.requires c.place-at.ensures c.index_mut.ensures.value c.in-Ok.ensures.held
+
+pub returns-in-Ok-clause-fifo : goal.returns-in-Ok-clause-fifo
+returns-in-Ok-clause-fifo c = by-name _ _ c.args.link _ _ (λ a b. b.pending ≡ a.pending) (step c) c.in-Ok.ensures.fifo
+
+pub returns-in-Ok-clause-link : goal.returns-in-Ok-clause-link
+returns-in-Ok-clause-link c = by-name _ _ c.args.link _ _ (λ a b. Resends (spelled a) (spelled b)) (step c) c.in-Ok.ensures.link
+
+pub returns-in-Ok-clause-only : goal.returns-in-Ok-clause-only
+returns-in-Ok-clause-only c = (step c).only
+
+pub returns-in-Ok-clause-net : goal.returns-in-Ok-clause-net
+returns-in-Ok-clause-net c = (step c).net
+
+pub returns-in-Err-clause-net : goal.returns-in-Err-clause-net
+returns-in-Err-clause-net c = is-net _ _ _ c.give_up.ensures.kept

@@ -1,0 +1,113 @@
+ghost use Rattle.std.specs.Prelude.{◌≡◌, ◌↔◌, ◌++◌, ◌∷◌, [], Err, map, All, IsErr, IfOk, OnOk};
+ghost use Rattle.mind_base.specs.declared.failures.Stop.TheVariants.{Spent};
+ghost use Rattle.link_retry.specs.Link.{after_send, Delivers, after_lose, after_repeat, Resends};
+ghost use Rattle.wire_msg.specs.Spelling.{spelling};
+ghost use Rattle.wire_msg.specs.WellFormed.{FieldsAgree, IsWellFormed};
+ghost use Rattle.rack_net.specs.Net.{spelled};
+ghost use Rattle.rack_net.specs.Kept.{IsHeld, IsSpelled, link_of, read};
+
+use link_retry::Link;
+use mind_base::{NoMemory, Side, Stop};
+use std::alloc::Global;
+use wire_msg::{Msg, WireRefusal, decode, encode};
+
+/// Sends a message on a link. `Spent` leaves the link as it was.
+pub(crate) fn send_on(link: &mut Link, alloc: Global, msg: &Msg) -> Result<(), Stop>
+    requires fields { FieldsAgree msg.now }
+    requires held { IsHeld link.old }
+    ensures fifo { OnOk result ((link_of link.new).pending ≡ (link_of link.old).pending ++ msg.now ∷ []) }
+    ensures link { OnOk result (spelled (link_of link.new) ≡ after_send (spelled (link_of link.old)) (spelling msg.now)) }
+    ensures held { OnOk result (IsHeld link.new) }
+    ensures formed { OnOk result (IsWellFormed msg.now) }
+    ensures spent { (result ≡ Err Spent) ↔ (link.old.next ≡ 4294967295) }
+    ensures unchanged { result ≡ Err Spent → link.new ≡ link.old }
+{
+    let mut bytes = Vec::new(alloc);
+    match encode(msg, &mut bytes) {
+        Ok(()) => link.send(bytes),
+        Err(NoMemory) => refuse(link, alloc),
+    }
+}
+
+/// Why a link takes no message for which there is no memory. Only the link tells whether its numbers
+/// are spent as well, so it is asked with an empty message.
+fn refuse(link: &mut Link, alloc: Global) -> Result<(), Stop>
+    ensures err { IsErr result }
+    ensures spent { (result ≡ Err Spent) ↔ (link.old.next ≡ 4294967295) }
+    ensures unchanged { result ≡ Err Spent → link.new ≡ link.old }
+{
+    link.send(Vec::new(alloc))?;
+    Err(Stop::NoMemory)
+}
+
+/// Delivers a frame of a link, and reads the messages that the receiver takes.
+pub(crate) fn deliver_on(
+    link: &mut Link,
+    alloc: Global,
+    side: Side,
+    k: u32,
+) -> Result<Vec<Msg>, NoMemory>
+    requires { IsHeld link.old }
+    ensures fifo { IfOk result (λ taken. (link_of link.old).pending ≡ taken.items ++ (link_of link.new).pending) }
+    ensures link { IfOk result (λ taken. Delivers (spelled (link_of link.old)) side k (map spelling taken.items) (spelled (link_of link.new))) }
+    ensures formed { IfOk result (λ taken. All IsWellFormed taken.items) }
+    ensures held { OnOk result (IsHeld link.new) }
+{
+    let taken = link.deliver(side, k)?;
+    let msgs = read_all(alloc, taken.as_slice())?;
+    Ok(msgs)
+}
+
+/// Takes a frame out of a wire of a link.
+pub(crate) fn lose_on(link: &mut Link, side: Side, k: u32)
+    requires { IsHeld link.old }
+    ensures fifo { (link_of link.new).pending ≡ (link_of link.old).pending }
+    ensures link { spelled (link_of link.new) ≡ after_lose (spelled (link_of link.old)) side k }
+    ensures held { IsHeld link.new }
+{
+    link.lose(side, k);
+}
+
+/// Puts a copy of a frame at the end of its wire.
+pub(crate) fn repeat_on(link: &mut Link, side: Side, k: u32) -> Result<(), NoMemory>
+    requires { IsHeld link.old }
+    ensures fifo { OnOk result ((link_of link.new).pending ≡ (link_of link.old).pending) }
+    ensures link { OnOk result (spelled (link_of link.new) ≡ after_repeat (spelled (link_of link.old)) side k) }
+    ensures held { OnOk result (IsHeld link.new) }
+{
+    link.repeat(side, k)
+}
+
+/// Puts frames of the messages that a link keeps at the end of its message wire.
+pub(crate) fn resend_on(link: &mut Link) -> Result<(), NoMemory>
+    requires { IsHeld link.old }
+    ensures fifo { OnOk result ((link_of link.new).pending ≡ (link_of link.old).pending) }
+    ensures link { OnOk result (Resends (spelled (link_of link.old)) (spelled (link_of link.new))) }
+    ensures held { OnOk result (IsHeld link.new) }
+{
+    link.resend()
+}
+
+/// The messages that the texts spell.
+fn read_all(alloc: Global, texts: &[Vec<u8>]) -> Result<Vec<Msg>, NoMemory>
+    requires { All IsSpelled (map (λ v. v.items) texts.now) }
+    ensures { IfOk result (λ msgs. msgs.items ≡ map read (map (λ v. v.items) texts.now)) }
+{
+    let mut msgs = Vec::new(alloc);
+    for text in texts {
+        msgs.push(read_one(alloc, text.as_slice())?)?;
+    }
+    Ok(msgs)
+}
+
+/// The message that the bytes spell.
+fn read_one(alloc: Global, bytes: &[u8]) -> Result<Msg, NoMemory>
+    requires { IsSpelled bytes.now }
+    ensures { IfOk result (λ msg. msg ≡ read bytes.now) }
+{
+    match decode(alloc, bytes) {
+        Ok(msg) => Ok(msg),
+        Err(WireRefusal::NoMemory) => Err(NoMemory),
+        Err(WireRefusal::BadFrame) => unreachable!(),
+    }
+}
