@@ -1,0 +1,6 @@
+pub mod Chains
+pub mod Keeping
+pub mod Moving
+pub mod Ranges
+pub mod Resuming
+pub mod Stepping

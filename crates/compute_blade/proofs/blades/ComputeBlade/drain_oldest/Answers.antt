@@ -1,0 +1,18 @@
+use Rattle.compute_blade.specs.Blade.{BladeView}
+use Rattle.compute_blade.proofs.Moving.{IsRead, spent_at, drained_own}
+use Rattle.compute_blade.proofs.blades.ComputeBlade.drain_oldest.Goals as goal
+
+pub returns-in_err-drain-clause-spent : goal.returns-in_err-drain-clause-spent
+returns-in_err-drain-clause-spent c = λ err.
+    let blade : BladeView = record { plan = c.self.inside.plan; number = c.self.inside.number; harts = c.self.inside.harts.items; cache = c.self.inside.cache; requests = c.self.inside.requests.items } in
+    let read : IsRead blade c.args.self.now c.from.result c.args.h c.index_mut.result.now c.in-Some.mover =
+    record { view = c.self.view_is; own = c.requires.own; index = c.from.ensures; value = c.index_mut.ensures.value; is = c.in-Some.is } in
+    spent_at blade c.args.self.now c.from.result c.args.h c.index_mut.result.now c.in-Some.mover c.drain.new.self c.drain.new.cache read c.in_err-drain.ensures.err c.in_err-drain.ensures.spent
+
+pub returns-clause-ok : goal.returns-clause-ok
+returns-clause-ok c =
+    let blade : BladeView = record { plan = c.self.inside.plan; number = c.self.inside.number; harts = c.self.inside.harts.items; cache = c.self.inside.cache; requests = c.self.inside.requests.items } in
+    let read : IsRead blade c.args.self.now c.from.result c.args.h c.index_mut.result.now c.in-Some.mover =
+    record { view = c.self.view_is; own = c.requires.own; index = c.from.ensures; value = c.index_mut.ensures.value; is = c.in-Some.is } in
+    drained_own c.args.h c.args.plan blade c.args.self.now c.from.result c.index_mut.result.now c.in-Some.mover c.drain.new.self c.drain.new.cache _ _ read
+    c.in_ok-drain.ensures.ok c.in_ok-add.ensures.ok

@@ -1,0 +1,7 @@
+pub mod Blade
+pub mod Frames
+pub mod Harts
+pub mod Messages
+pub mod Pages
+pub mod Start
+pub mod Steps

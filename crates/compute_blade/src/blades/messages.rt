@@ -1,0 +1,161 @@
+//! What the blade does when a message of the switch comes.
+
+ghost use Rattle.std.specs.Prelude.{◌≡◌, ◌≤◌, not, filter, length, Some, Err, OnOk, OnErr};
+ghost use Rattle.mind_base.specs.declared.failures.Stop.TheVariants.{Spent};
+ghost use Rattle.page_cache.specs.PageCache.{same_page};
+ghost use Rattle.wire_msg.specs.declared.msgs.Msg.TheVariants.{Fill};
+ghost use Rattle.compute_blade.specs.Blade.{Did, BeginsWith, Keeps, SomeSpent};
+ghost use Rattle.compute_blade.specs.Messages.{BringsNothing, acknowledging, after_message};
+ghost use Rattle.compute_blade.specs.Pages.{given_up, lowered, held_in, writable_in, spared as spared_of};
+
+use crate::blades::ComputeBlade;
+use crate::blades::pages::span_of;
+use crate::kept::Answer;
+use mind_base::{Image, Log, NoMemory, Page, Perm, Range, Stop};
+use page_image::PageImage;
+use wire_msg::Msg;
+
+impl ComputeBlade {
+    /// Takes a message of the switch. A `Fill` brings the page that a step or a drain waited for, and it
+    /// is performed; a `Deny` lets the step that waited fault; `Inv` and `Lower` take pages of a range
+    /// away, or the leave to write them, and are acknowledged. `Spent` comes where a store would be its
+    /// hart's 2^58th.
+    pub fn receive(
+        &mut self,
+        msg: Msg,
+        images: &[Image],
+        out: &mut Vec<Msg>,
+        log: &mut Log,
+    ) -> Result<(), Stop>
+        ensures ok { OnOk result (Did (after_message images.now msg self.old) self.new out.old.items out.new.items log.old.notes log.new.notes) }
+        ensures keeps { OnOk result (Keeps self.old self.new) }
+        ensures spent { result ≡ Err Spent → SomeSpent self.old × SomeSpent self.new }
+        ensures err { OnErr result (BeginsWith out.old.items out.new.items × BeginsWith log.old.notes log.new.notes) }
+    {
+        match msg {
+            Msg::Fill {
+                page,
+                perm,
+                writable,
+                image,
+            } => self.fill(page, perm, writable, image, images, out, log),
+            other => self.obey(&other, images, out, log),
+        }
+    }
+
+    /// Takes a message that brings no page.
+    fn obey(
+        &mut self,
+        msg: &Msg,
+        images: &[Image],
+        out: &mut Vec<Msg>,
+        log: &mut Log,
+    ) -> Result<(), Stop>
+        requires { BringsNothing msg.now }
+        ensures ok { OnOk result (Did (after_message images.now msg.now self.old) self.new out.old.items out.new.items log.old.notes log.new.notes) }
+        ensures spent { result ≡ Err Spent → SomeSpent self.old × SomeSpent self.new }
+        ensures err { OnErr result (BeginsWith out.old.items out.new.items × BeginsWith log.old.notes log.new.notes) }
+    {
+        match msg {
+            Msg::Deny { page } => self.resume(Answer::Denied, *page, images, out, log)?,
+            Msg::Inv {
+                number,
+                range,
+                asked,
+            } => self.invalidate(*number, *range, *asked, out, log)?,
+            Msg::Lower {
+                number,
+                range,
+                asked,
+            } => self.lower_range(*number, *range, *asked, out, log)?,
+            _ => {}
+        }
+        Ok(())
+    }
+
+    /// Takes a page that was asked for, and performs what waited for it.
+    fn fill(
+        &mut self,
+        page: Page,
+        perm: Perm,
+        writable: bool,
+        image: PageImage,
+        images: &[Image],
+        out: &mut Vec<Msg>,
+        log: &mut Log,
+    ) -> Result<(), Stop>
+        ensures ok { OnOk result (Did (after_message images.now (Fill page perm writable image) self.old) self.new out.old.items out.new.items log.old.notes log.new.notes) }
+        ensures spent { result ≡ Err Spent → SomeSpent self.old × SomeSpent self.new }
+        ensures err { OnErr result (BeginsWith out.old.items out.new.items × BeginsWith log.old.notes log.new.notes) }
+    {
+        self.take(page, perm, writable, image, out, log)?;
+        self.resume(Answer::Filled, page, images, out, log)?;
+        Ok(())
+    }
+
+    /// Gives up the pages of a range, the least recently used first, and says how many of them were not
+    /// asked for.
+    fn invalidate(
+        &mut self,
+        number: u32,
+        range: Range,
+        asked: Option<Page>,
+        out: &mut Vec<Msg>,
+        log: &mut Log,
+    ) -> Result<(), NoMemory>
+        ensures ok { OnOk result (Did (acknowledging given_up (held_in range self.old) number asked self.old) self.new out.old.items out.new.items log.old.notes log.new.notes) }
+        ensures err { OnErr result (BeginsWith out.old.items out.new.items × BeginsWith log.old.notes log.new.notes) }
+    {
+        let alloc = *self.harts.allocator();
+        let pages = self.cache.pages_in(alloc, &span_of(range))?;
+        let count = spared(asked, pages.as_slice());
+        self.evict_each(pages.as_slice(), out, log)?;
+        out.push(Msg::Ack { number, count })?;
+        Ok(())
+    }
+
+    /// Lets the pages of a range be written no longer, the least recently used first, and says how many
+    /// of them were not asked for.
+    fn lower_range(
+        &mut self,
+        number: u32,
+        range: Range,
+        asked: Page,
+        out: &mut Vec<Msg>,
+        log: &mut Log,
+    ) -> Result<(), NoMemory>
+        ensures ok { OnOk result (Did (acknowledging lowered (writable_in range self.old) number (Some asked) self.old) self.new out.old.items out.new.items log.old.notes log.new.notes) }
+        ensures err { OnErr result (BeginsWith out.old.items out.new.items × BeginsWith log.old.notes log.new.notes) }
+    {
+        let alloc = *self.harts.allocator();
+        let pages = self.cache.writable_pages_in(alloc, &span_of(range))?;
+        let count = spared(Some(asked), pages.as_slice());
+        self.lower_each(pages.as_slice(), out, log)?;
+        out.push(Msg::Ack { number, count })?;
+        Ok(())
+    }
+}
+
+/// How many of the pages were not asked for; 0 where no page was.
+fn spared(asked: Option<Page>, pages: &[Page]) -> u32
+    requires { length pages.now ≤ 1024 }
+    ensures { result ≡ spared_of asked pages.now }
+{
+    match asked {
+        None => 0,
+        Some(asked) => count_others(asked, pages),
+    }
+}
+
+fn count_others(asked: Page, pages: &[Page]) -> u32
+    requires { length pages.now ≤ 1024 }
+    ensures { result ≡ length (filter (λ page. not (same_page asked page)) pages.now) }
+{
+    let mut count = 0;
+    for page in pages {
+        if asked != *page {
+            count += 1;
+        }
+    }
+    count
+}

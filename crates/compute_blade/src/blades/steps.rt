@@ -1,0 +1,315 @@
+//! Steps and drains of the blade's harts.
+
+ghost use Rattle.std.specs.Prelude.{◌≡◌, ◌<◌, ◌++◌, [], true, false, drop, slice_get, Err, OnOk, OnErr, IfSome, IsSome};
+ghost use Rattle.hart_effect.specs.Deed.{AsksWellFormed, drains_first as drains_first_of};
+ghost use Rattle.mind_base.specs.Fit.{FitImages};
+ghost use Rattle.mind_base.specs.declared.failures.Stop.TheVariants.{Spent};
+ghost use Rattle.compute_blade.specs.Blade.{Did, DidSome, Keeps, Notes, Sends, HasSpent, hart_of};
+ghost use Rattle.compute_blade.specs.Frames.{around_held};
+ghost use Rattle.compute_blade.specs.Messages.{around_denied};
+ghost use Rattle.compute_blade.specs.Steps.{performed, performed_in, asking, drained, draining_by, drain_of, stepping_by, step_at, after_step, after_drain};
+
+use crate::blades::{ComputeBlade, image_for};
+use crate::frames::is_writable;
+use crate::harts::Here;
+use crate::kept::Need;
+use crate::needs::{need_in, serves};
+use crate::requests::is_asked;
+use crate::{Asked, Waits};
+use hart_effect::{Found, find};
+use mind_base::{End, Image, Log, NoMemory, Note, Page, Pending, Stop, ThreadPlan};
+use wire_msg::Msg;
+
+impl ComputeBlade {
+    /// One step of the blade's hart `hart`: it performs the instruction at its pc, lets its oldest store
+    /// drain first, or waits for a page, for which the switch is asked. Nothing is done where the hart
+    /// has ended or its step waits. `Spent` comes where a store would be the hart's 2^58th, and leaves
+    /// the blade as it was.
+    pub fn step(
+        &mut self,
+        hart: u8,
+        images: &[Image],
+        out: &mut Vec<Msg>,
+        log: &mut Log,
+    ) -> Result<(), Stop>
+        requires own { IsSome (hart_of self.old hart) }
+        requires images { FitImages self.old.plan.images images.now }
+        ensures ok { OnOk result (DidSome (after_step images.now hart self.old) self.new out.old.items out.new.items log.old.notes log.new.notes) }
+        ensures keeps { OnOk result (Keeps self.old self.new) }
+        ensures spent { result ≡ Err Spent → HasSpent hart self.old × (self.new ≡ self.old) }
+        ensures err { OnErr result ((out.new.items ≡ out.old.items) × (log.new.notes ≡ log.old.notes)) }
+    {
+        let Some(plan) = self.thread(hart) else {
+            return Ok(());
+        };
+        let Some(image) = image_for(images, plan.image) else {
+            return Ok(());
+        };
+        self.step_of(hart, plan, image, out, log)?;
+        Ok(())
+    }
+
+    /// The oldest store of the blade's hart `hart`, if there is one, takes effect, or the switch is asked
+    /// for its page. Nothing is done where the hart's drain waits. `Spent` comes where the store would be
+    /// the hart's 2^58th, and leaves the blade as it was.
+    pub fn drain(&mut self, hart: u8, out: &mut Vec<Msg>, log: &mut Log) -> Result<(), Stop>
+        requires { IsSome (hart_of self.old hart) }
+        ensures ok { OnOk result (DidSome (after_drain hart self.old) self.new out.old.items out.new.items log.old.notes log.new.notes) }
+        ensures keeps { OnOk result (Keeps self.old self.new) }
+        ensures spent { result ≡ Err Spent → HasSpent hart self.old × (self.new ≡ self.old) }
+        ensures err { OnErr result ((out.new.items ≡ out.old.items) × (log.new.notes ≡ log.old.notes)) }
+    {
+        let Some(plan) = self.thread(hart) else {
+            return Ok(());
+        };
+        self.drain_of(hart, plan, out, log)?;
+        Ok(())
+    }
+
+    fn step_of(
+        &mut self,
+        h: u8,
+        plan: ThreadPlan,
+        image: &Image,
+        out: &mut Vec<Msg>,
+        log: &mut Log,
+    ) -> Result<(), Stop>
+        requires hart { h < 64 }
+        requires domain { plan.domain < 16 }
+        requires own { IsSome (hart_of self.old h) }
+        ensures ok { OnOk result (IfSome (hart_of self.old h) (λ hart.
+            Did (step_at hart.end h plan image.now self.old hart) self.new out.old.items out.new.items log.old.notes log.new.notes)) }
+        ensures spent { result ≡ Err Spent → HasSpent h self.old × (self.new ≡ self.old) }
+        ensures err { OnErr result ((out.new.items ≡ out.old.items) × (log.new.notes ≡ log.old.notes)) }
+    {
+        let Some(mover) = self.hart(h) else {
+            return Ok(());
+        };
+        let End::Running { pc } = mover.end() else {
+            return Ok(());
+        };
+        if mover.is_stepping() {
+            return Ok(());
+        }
+        let found = find(image, &mover.regs(), pc);
+        self.step_by(h, plan, found, pc, out, log)?;
+        Ok(())
+    }
+
+    fn step_by(
+        &mut self,
+        h: u8,
+        plan: ThreadPlan,
+        found: Found,
+        pc: u32,
+        out: &mut Vec<Msg>,
+        log: &mut Log,
+    ) -> Result<(), Stop>
+        requires hart { h < 64 }
+        requires domain { plan.domain < 16 }
+        requires well_formed { AsksWellFormed found }
+        requires own { IsSome (hart_of self.old h) }
+        ensures ok { OnOk result (IfSome (hart_of self.old h) (λ hart.
+            Did (stepping_by h plan found pc self.old hart) self.new out.old.items out.new.items log.old.notes log.new.notes)) }
+        ensures spent { result ≡ Err Spent → HasSpent h self.old × (self.new ≡ self.old) }
+        ensures err { OnErr result ((out.new.items ≡ out.old.items) × (log.new.notes ≡ log.old.notes)) }
+    {
+        if self.drains_first(h, found) {
+            self.drain_of(h, plan, out, log)?;
+            return Ok(());
+        }
+        if let Some(need) = need_in(found, plan.domain) {
+            if !serves(found, &self.cache, need.page) {
+                self.ask(h, Waits::Step, need, out)?;
+                return Ok(());
+            }
+        }
+        self.perform(h, plan, found, pc, log)?;
+        Ok(())
+    }
+
+    fn drain_of(
+        &mut self,
+        h: u8,
+        plan: ThreadPlan,
+        out: &mut Vec<Msg>,
+        log: &mut Log,
+    ) -> Result<(), Stop>
+        requires hart { h < 64 }
+        requires domain { plan.domain < 16 }
+        requires own { IsSome (hart_of self.old h) }
+        ensures ok { OnOk result (IfSome (hart_of self.old h) (λ hart.
+            Did (drain_of h plan self.old hart) self.new out.old.items out.new.items log.old.notes log.new.notes)) }
+        ensures spent { result ≡ Err Spent → HasSpent h self.old × (self.new ≡ self.old) }
+        ensures err { OnErr result ((out.new.items ≡ out.old.items) × (log.new.notes ≡ log.old.notes)) }
+    {
+        if self.is_draining(h) {
+            return Ok(());
+        }
+        self.drain_by(h, plan, out, log)?;
+        Ok(())
+    }
+
+    /// Hart `h`, of this plan, does what it found at a pc.
+    pub(crate) fn perform(
+        &mut self,
+        h: u8,
+        plan: ThreadPlan,
+        found: Found,
+        pc: u32,
+        log: &mut Log,
+    ) -> Result<(), Stop>
+        requires hart { h < 64 }
+        requires domain { plan.domain < 16 }
+        requires well_formed { AsksWellFormed found }
+        requires own { IsSome (hart_of self.old h) }
+        requires ready { IfSome (hart_of self.old h) (λ hart. drains_first_of found hart.queue.stores hart.queue.capacity ≡ false) }
+        ensures ok { OnOk result (IfSome (hart_of self.old h) (λ hart. Notes (performed h plan found pc self.old hart) self.new log.old.notes log.new.notes)) }
+        ensures spent { result ≡ Err Spent → HasSpent h self.old × (self.new ≡ self.old) }
+        ensures err { OnErr result (log.new.notes ≡ log.old.notes) }
+    {
+        let hart = h;
+        let here = Here {
+            hart,
+            domain: plan.domain,
+            pc,
+        };
+        let Some(mover) = &mut self.harts[usize::from(h)] else {
+            return Ok(());
+        };
+        mover.perform(found, here, &mut self.cache)?;
+        log.add(Note::Exec { hart })?;
+        Ok(())
+    }
+
+    /// The same where the domain may do nothing with any page.
+    pub(crate) fn refuse(
+        &mut self,
+        h: u8,
+        plan: ThreadPlan,
+        found: Found,
+        pc: u32,
+        log: &mut Log,
+    ) -> Result<(), NoMemory>
+        requires well_formed { AsksWellFormed found }
+        requires own { IsSome (hart_of self.old h) }
+        requires ready { IfSome (hart_of self.old h) (λ hart. drains_first_of found hart.queue.stores hart.queue.capacity ≡ false) }
+        ensures ok { OnOk result (IfSome (hart_of self.old h) (λ hart.
+            Notes (performed_in (around_denied (around_held self.old.cache.entries h plan.domain)) h plan found pc self.old hart) self.new log.old.notes log.new.notes)) }
+        ensures err { OnErr result (log.new.notes ≡ log.old.notes) }
+    {
+        let hart = h;
+        let here = Here {
+            hart,
+            domain: plan.domain,
+            pc,
+        };
+        let Some(mover) = &mut self.harts[usize::from(h)] else {
+            return Ok(());
+        };
+        mover.deny(found, here)?;
+        log.add(Note::Exec { hart })?;
+        Ok(())
+    }
+
+    /// The oldest store of hart `h` leaves its queue and takes effect.
+    fn drain_oldest(&mut self, h: u8, plan: ThreadPlan, log: &mut Log) -> Result<(), Stop>
+        requires hart { h < 64 }
+        requires domain { plan.domain < 16 }
+        requires own { IsSome (hart_of self.old h) }
+        ensures ok { OnOk result (IfSome (hart_of self.old h) (λ hart. IfSome (slice_get hart.queue.stores 0) (λ oldest.
+            Notes (drained h plan oldest (drop 1 hart.queue.stores) self.old hart) self.new log.old.notes log.new.notes))) }
+        ensures spent { result ≡ Err Spent → HasSpent h self.old × (self.new ≡ self.old) }
+        ensures err { OnErr result (log.new.notes ≡ log.old.notes) }
+    {
+        let hart = h;
+        let Some(mover) = &mut self.harts[usize::from(h)] else {
+            return Ok(());
+        };
+        mover.drain(hart, plan.domain, &mut self.cache)?;
+        log.add(Note::Drain { hart })?;
+        Ok(())
+    }
+
+    /// The oldest store that hart `h` has in its queue.
+    fn oldest(&self, h: u8) -> Option<Pending>
+        requires { IsSome (hart_of self.now h) }
+        ensures { IfSome (hart_of self.now h) (λ hart. result ≡ slice_get hart.queue.stores 0) }
+    {
+        self.hart(h)?.oldest()
+    }
+
+    fn is_draining(&self, h: u8) -> bool
+        requires { IsSome (hart_of self.now h) }
+        ensures { IfSome (hart_of self.now h) (λ hart. result ≡ hart.draining) }
+    {
+        match self.hart(h) {
+            None => false,
+            Some(hart) => hart.is_draining(),
+        }
+    }
+
+    /// Whether the oldest store of hart `h` must drain before the hart does what it found.
+    pub(crate) fn drains_first(&self, h: u8, found: Found) -> bool
+        requires { IsSome (hart_of self.now h) }
+        ensures { IfSome (hart_of self.now h) (λ hart. result ≡ drains_first_of found hart.queue.stores hart.queue.capacity) }
+    {
+        match self.hart(h) {
+            None => false,
+            Some(hart) => hart.drains_first(found),
+        }
+    }
+
+    /// The oldest store of hart `h` takes effect where its page may be written; else the page is asked
+    /// for.
+    pub(crate) fn drain_by(
+        &mut self,
+        h: u8,
+        plan: ThreadPlan,
+        out: &mut Vec<Msg>,
+        log: &mut Log,
+    ) -> Result<(), Stop>
+        requires hart { h < 64 }
+        requires domain { plan.domain < 16 }
+        requires own { IsSome (hart_of self.old h) }
+        ensures ok { OnOk result (IfSome (hart_of self.old h) (λ hart.
+            Did (draining_by h plan hart.queue.stores self.old hart) self.new out.old.items out.new.items log.old.notes log.new.notes)) }
+        ensures spent { result ≡ Err Spent → HasSpent h self.old × (self.new ≡ self.old) }
+        ensures err { OnErr result ((out.new.items ≡ out.old.items) × (log.new.notes ≡ log.old.notes)) }
+    {
+        let Some(oldest) = self.oldest(h) else {
+            return Ok(());
+        };
+        let page = Page::of(plan.domain, oldest.address);
+        if is_writable(&self.cache, page) {
+            self.drain_oldest(h, plan, log)?;
+        } else {
+            self.ask(h, Waits::Drain, Need { page, write: true }, out)?;
+        }
+        Ok(())
+    }
+
+    /// Asks the switch for a page for which hart `h` waits, unless a request for it is out.
+    fn ask(&mut self, h: u8, waits: Waits, need: Need, out: &mut Vec<Msg>) -> Result<(), NoMemory>
+        requires own { IsSome (hart_of self.old h) }
+        ensures ok { OnOk result (IfSome (hart_of self.old h) (λ hart. Sends (asking h waits need self.old hart) self.new out.old.items out.new.items)) }
+        ensures err { OnErr result (out.new.items ≡ out.old.items) }
+    {
+        let Need { page, write } = need;
+        if is_asked(self.requests.as_slice(), page) {
+            return Ok(());
+        }
+        let hart = h;
+        self.requests.push(Asked {
+            page,
+            write,
+            hart,
+            waits,
+        })?;
+        if let Some(hart) = &mut self.harts[usize::from(h)] {
+            hart.wait(waits);
+        }
+        out.push(Msg::Get { page, write })?;
+        Ok(())
+    }
+}

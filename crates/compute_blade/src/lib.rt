@@ -1,0 +1,12 @@
+//! A compute blade: its harts, the pages that it holds, and what it asks of the switch and answers it.
+#![tactic(auto)]
+
+mod blades;
+mod frames;
+mod harts;
+mod kept;
+mod needs;
+mod requests;
+
+pub use blades::ComputeBlade;
+pub use kept::{Asked, Reservation, Waits};
