@@ -1,0 +1,371 @@
+-- What a blade's acknowledgement and a fetched page make of the switch.
+use Rattle.std.proofs.Common.{◌≡◌, ℕ, ◌+◌, ◌<◌, ◌≤◌, Bool, true, false, cond, not, ◌&&◌, ◌==◌, Option, Some, None, List, [], ◌∷◌, ◌++◌, length, map, filter, refl, ap, sym, subst, ◌∙◌, inl, inr, zero, suc, arith, append_assoc}
+use Rattle.std.specs.List.{AllByRecursion, Any, find, flat_map, slice_index_or}
+use Rattle.std.specs.Option.{option_map, IfSome}
+use Rattle.std.specs.Prelude.{Result, Ok, Err, OnOk}
+use Rattle.mind_base.specs.declared.failures.Stop.{Stop}
+use Rattle.std.proofs.lemmas.Bool.{cases_Bool, eqb-true, false≢true}
+use Rattle.std.proofs.lemmas.List.{append-nil}
+use Rattle.mind_base.specs.Page.{PageView}
+use Rattle.mind_base.specs.Range.{RangeView}
+use Rattle.mind_base.specs.declared.commands.Perm.{Perm}
+use Rattle.mind_base.specs.declared.commands.Perm.TheVariants.{No, R, Rw}
+use Rattle.mind_base.specs.declared.links.LinkName.{LinkName}
+use Rattle.mind_base.specs.declared.notes.Note.{Note}
+use Rattle.mind_base.specs.declared.notes.Note.TheVariants as note
+use Rattle.mind_base.specs.declared.notes.State.{State}
+use Rattle.mind_base.specs.declared.plans.RackPlan.{RackPlan}
+use Rattle.invalidate_multicast.specs.First.{first_changed}
+use Rattle.invalidate_multicast.specs.Transition.{is_number, after_answer, without_waiting, acknowledged, is_answered, target_of, finished, first_ended, with_first_ended}
+use Rattle.page_image.specs.PageImage.{PageImageView}
+use Rattle.protect_table.specs.Protect.{permission_at}
+use Rattle.region_directory.specs.Directory.{DirectoryView}
+use Rattle.region_directory.specs.Entry.{with_busy, plus_hits}
+use Rattle.region_directory.specs.declared.entries.Busy.{Busy}
+use Rattle.region_directory.specs.declared.entries.Entry.{Entry}
+use Rattle.request_list.specs.Requests.{is_of, AreApart}
+use Rattle.request_list.specs.declared.requests.Request.{Request}
+use Rattle.wire_msg.specs.WellFormed.{CanFill}
+use Rattle.wire_msg.specs.declared.msgs.Msg.{Msg}
+use Rattle.wire_msg.specs.declared.msgs.Msg.TheVariants.{Fill}
+use Rattle.switch_core.specs.Handling.{ended, noted_end, filled, filling, handled_from, went_back, writing, Received}
+use Rattle.switch_core.specs.Invariant.{IsFitState, IsFitTarget, IsFitEntry, IsFitRequest, IsSpent, IsSwitch}
+use Rattle.switch_core.specs.Sending.{IsSendable, Start, Comes, Begins, Stays, start_at}
+use Rattle.switch_core.specs.Serving.{Serves}
+use Rattle.switch_core.specs.Switch.{SwitchView, Effect, with_requests, place_in, to_blade}
+use Rattle.switch_core.specs.Treating.{allows, without_request}
+use Rattle.switch_core.proofs.Lists.{under-le-length}
+use Rattle.switch_core.proofs.Safety.{place-in-rack}
+
+-- ---- transitions that wait for nobody end one after another
+
+abbrev pub answered_in : List Entry → ℕ
+answered_in [] = 0
+answered_in (e ∷ es) = cond (is_answered e.busy) 1 0 + answered_in es
+
+record EndsFirst (es : List Entry) (x : RangeView × State) : Type 0 where
+  noted : flat_map noted_end es ≡ note.Region x.0 x.1 ∷ flat_map noted_end (with_first_ended es)
+  same : map ended (with_first_ended es) ≡ map ended es
+  fewer : answered_in es ≡ answered_in (with_first_ended es) + 1
+
+first-changed-here : (e : Entry) (es : List Entry) → is_answered e.busy ≡ true → with_first_ended (e ∷ es) ≡ finished e ∷ es
+first-changed-here e es t = ap (λ (b : Bool). cond b (finished e ∷ es) (e ∷ with_first_ended es)) t
+
+first-changed-later : (e : Entry) (es : List Entry) → is_answered e.busy ≡ false → with_first_ended (e ∷ es) ≡ e ∷ with_first_ended es
+first-changed-later e es f = ap (λ (b : Bool). cond b (finished e ∷ es) (e ∷ with_first_ended es)) f
+
+step-here : (e : Entry) (es : List Entry) (x : RangeView × State) → is_answered e.busy ≡ true → (e.range, target_of e e.busy) ≡ x → EndsFirst (e ∷ es) x
+step-here e es x t same-x =
+    let w : with_first_ended (e ∷ es) ≡ finished e ∷ es = first-changed-here e es t in
+    let told : flat_map noted_end (e ∷ es) ≡ note.Region e.range (target_of e e.busy) ∷ flat_map noted_end es =
+    ap (λ (b : Bool). cond b (note.Region e.range (target_of e e.busy) ∷ []) [] ++ flat_map noted_end es) t in
+    let count : answered_in (e ∷ es) ≡ 1 + answered_in es = ap (λ (b : Bool). cond b 1 0 + answered_in es) t in
+    let left : answered_in (with_first_ended (e ∷ es)) ≡ 0 + answered_in es = ap answered_in w in
+    record {
+      noted = told ∙ ap (λ (y : RangeView × State). note.Region y.0 y.1 ∷ flat_map noted_end es) same-x ∙ sym (ap (λ (ys : List Entry). note.Region x.0 x.1 ∷ flat_map noted_end ys) w);
+      same = ap (map ended) w ∙ sym (ap (λ (b : Bool). cond b (finished e) e ∷ map ended es) t);
+      fewer = omega (arith, count, left);
+    }
+
+step-later : (e : Entry) (es : List Entry) (x : RangeView × State) → is_answered e.busy ≡ false → EndsFirst es x → EndsFirst (e ∷ es) x
+step-later e es x f h =
+    let w : with_first_ended (e ∷ es) ≡ e ∷ with_first_ended es = first-changed-later e es f in
+    let told : (ys : List Entry) → flat_map noted_end (e ∷ ys) ≡ flat_map noted_end ys =
+    λ ys. ap (λ (b : Bool). cond b (note.Region e.range (target_of e e.busy) ∷ []) [] ++ flat_map noted_end ys) f in
+    let left : answered_in (with_first_ended (e ∷ es)) ≡ cond (is_answered e.busy) 1 0 + answered_in (with_first_ended es) = ap answered_in w in
+    record {
+      noted = told es ∙ h.noted ∙ ap (λ (ns : List Note). note.Region x.0 x.1 ∷ ns) (sym (told (with_first_ended es))) ∙ sym (ap (λ (ys : List Entry). note.Region x.0 x.1 ∷ flat_map noted_end ys) w);
+      same = ap (map ended) w ∙ ap (λ (ys : List Entry). ended e ∷ ys) h.same;
+      fewer = omega (arith, h.fewer, left);
+    }
+
+ended-of : Entry → RangeView × State
+ended-of e = (e.range, target_of e e.busy)
+
+some-is : {A : Type 0} (a b : A) → Some a ≡ Some b → a ≡ b
+some-is a b e = (cc)
+
+ends-first : (es : List Entry) (x : RangeView × State) → first_ended es ≡ Some x → EndsFirst es x
+ends-first [] x h = absurd (cc)
+ends-first (e ∷ es) x h =
+    elim (cases_Bool (is_answered e.busy)) [
+      | inl t ↦
+          let found : first_ended (e ∷ es) ≡ Some (e.range, target_of e e.busy) =
+          ap (λ (b : Bool). option_map {T = Entry} {U = RangeView × State} (λ y. (y.range, target_of y y.busy)) (cond b (Some e) (find (λ y. is_answered y.busy) es))) t in
+          step-here e es x t (some-is (e.range, target_of e e.busy) x (sym found ∙ h))
+      | inr f ↦
+          let found : first_ended (e ∷ es) ≡ first_ended es =
+          ap (λ (b : Bool). option_map {T = Entry} {U = RangeView × State} (λ y. (y.range, target_of y y.busy)) (cond b (Some e) (find (λ y. is_answered y.busy) es))) f in
+          step-later e es x f (ends-first es x (sym found ∙ h))
+    ]
+
+record EndsNone (es : List Entry) : Type 0 where
+  noted : flat_map noted_end es ≡ []
+  same : map ended es ≡ es
+  left : with_first_ended es ≡ es
+
+ends-none : (es : List Entry) → first_ended es ≡ None → EndsNone es
+ends-none [] h = record { noted = refl; same = refl; left = refl }
+ends-none (e ∷ es) h =
+    elim (cases_Bool (is_answered e.busy)) [
+      | inl t ↦
+          let found : first_ended (e ∷ es) ≡ Some (e.range, target_of e e.busy) =
+          ap (λ (b : Bool). option_map {T = Entry} {U = RangeView × State} (λ y. (y.range, target_of y y.busy)) (cond b (Some e) (find (λ y. is_answered y.busy) es))) t in
+          let clash : Some (e.range, target_of e e.busy) ≡ None = sym found ∙ h in
+          absurd (cc)
+      | inr f ↦
+          let found : first_ended (e ∷ es) ≡ first_ended es =
+          ap (λ (b : Bool). option_map {T = Entry} {U = RangeView × State} (λ y. (y.range, target_of y y.busy)) (cond b (Some e) (find (λ y. is_answered y.busy) es))) f in
+          let rest = ends-none es (sym found ∙ h) in
+          record {
+            noted = ap (λ (b : Bool). cond b (note.Region e.range (target_of e e.busy) ∷ []) [] ++ flat_map noted_end es) f ∙ rest.noted;
+            same = ap (λ (b : Bool). cond b (finished e) e ∷ map ended es) f ∙ ap (λ (ys : List Entry). e ∷ ys) rest.same;
+            left = first-changed-later e es f ∙ ap (λ (ys : List Entry). e ∷ ys) rest.left;
+          }
+    ]
+
+-- ---- entries stay fit
+
+all-first : (P : Entry → Type 0) (test : Entry → Bool) (change : Entry → Entry) → ((e : Entry) → P e → P (change e)) → (es : List Entry) → AllByRecursion P es → AllByRecursion P (first_changed test change es)
+all-first P test change keeps [] h = tt
+all-first P test change keeps (e ∷ es) h =
+    let chosen = λ (b : Bool). AllByRecursion P (cond b (change e ∷ es) (e ∷ first_changed test change es)) in
+    elim (cases_Bool (test e)) [
+      | inl t ↦ subst chosen (sym t) (keeps e h.0, h.1)
+      | inr f ↦ subst chosen (sym f) (h.0, all-first P test change keeps es h.1)
+    ]
+
+all-mapped : (P : Entry → Type 0) (change : Entry → Entry) → ((e : Entry) → P e → P (change e)) → (es : List Entry) → AllByRecursion P es → AllByRecursion P (map change es)
+all-mapped P change keeps [] h = tt
+all-mapped P change keeps (e ∷ es) h = (keeps e h.0, all-mapped P change keeps es h.1)
+
+fit-target : (n : ℕ) (e : Entry) (busy : Option Busy) → IsFitState n e.state → IsFitTarget n busy → IsFitState n (target_of e busy)
+fit-target n e None h k = h
+fit-target n e (Some busy) h k = k
+
+fit-finished : (n : ℕ) (e : Entry) → IsFitEntry n e → IsFitEntry n (finished e)
+fit-finished n e h = record { state = fit-target n e e.busy h.state h.target; target = tt }
+
+pub fit-first : (n : ℕ) (es : List Entry) → AllByRecursion (IsFitEntry n) es → AllByRecursion (IsFitEntry n) (with_first_ended es)
+fit-first n es h = all-first (IsFitEntry n) (λ e. is_answered e.busy) finished (fit-finished n) es h
+
+answer-target : (n number blade : ℕ) (busy : Option Busy) → IsFitTarget n busy → IsFitTarget n (after_answer number blade busy)
+answer-target n number blade None h = h
+answer-target n number blade (Some busy) h =
+    let chosen = λ (b : Bool). IsFitTarget n (cond b (Some (without_waiting blade busy)) (Some busy)) in
+    elim (cases_Bool (busy.number == number)) [ inl t ↦ subst chosen (sym t) h | inr f ↦ subst chosen (sym f) h ]
+
+fit-answer : (n number blade : ℕ) (e : Entry) → IsFitEntry n e → IsFitEntry n (with_busy (after_answer number blade e.busy) e)
+fit-answer n number blade e h = record { state = h.state; target = answer-target n number blade e.busy h.target }
+
+fit-hits : (n count : ℕ) (e : Entry) → IsFitEntry n e → IsFitEntry n (plus_hits count e)
+fit-hits n count e h = record { state = h.state; target = h.target }
+
+pub fit-acknowledged : (n number blade count : ℕ) (es : List Entry) → AllByRecursion (IsFitEntry n) es → AllByRecursion (IsFitEntry n) (acknowledged number blade count es)
+fit-acknowledged n number blade count es h =
+    all-first (IsFitEntry n) (λ e. is_number number e.busy) (plus_hits count) (fit-hits n count) (map (λ e. with_busy (after_answer number blade e.busy) e) es)
+    (all-mapped (IsFitEntry n) (λ e. with_busy (after_answer number blade e.busy) e) (fit-answer n number blade) es h)
+
+-- ---- the loop over the endings
+
+-- how far it has come: what is left to end leads to the same end
+pub record Ending (first now : DirectoryView) (notes notes' : List Note) : Type 0 where
+  pub same : map ended now.entries ≡ map ended first.entries
+  pub noted : notes' ++ flat_map noted_end now.entries ≡ notes ++ flat_map noted_end first.entries
+  pub slots : now.slots ≡ first.slots
+  pub most : now.most ≡ first.most
+  pub count : length now.entries ≡ length first.entries
+  pub fit : (n : ℕ) → AllByRecursion (IsFitEntry n) first.entries → AllByRecursion (IsFitEntry n) now.entries
+  pub begins : Begins notes notes'
+
+pub ending-first : (d : DirectoryView) (notes : List Note) → Ending d d notes notes
+ending-first d notes = record { same = refl; noted = refl; slots = refl; most = refl; count = refl; fit = λ n h. h; begins = ([], sym (append-nil notes)) }
+
+-- one more entry has ended, before it is noted
+pub ending-fit : (first now d : DirectoryView) (notes notes' : List Note) → Ending first now notes notes' → d ≡ record now { entries = with_first_ended now.entries } → (n : ℕ) → AllByRecursion (IsFitEntry n) first.entries → AllByRecursion (IsFitEntry n) d.entries
+ending-fit first now d notes notes' h e n k =
+    subst (λ (x : DirectoryView). AllByRecursion (IsFitEntry n) x.entries) (sym e) (fit-first n now.entries (h.fit n k))
+
+pub ending-slots : (first now d : DirectoryView) (notes notes' : List Note) → Ending first now notes notes' → d ≡ record now { entries = with_first_ended now.entries } → d.slots ≡ first.slots
+ending-slots first now d notes notes' h e = ap (λ (x : DirectoryView). x.slots) e ∙ h.slots
+
+pub ending-more : (first now d : DirectoryView) (notes notes' notes'' : List Note) (range : RangeView) (state : State) → Ending first now notes notes' → first_ended now.entries ≡ Some (range, state) → d ≡ record now { entries = with_first_ended now.entries } → length d.entries ≡ length now.entries → notes'' ≡ notes' ++ note.Region range state ∷ [] → Ending first d notes notes''
+ending-more first now d notes notes' notes'' range state h found e same-count added =
+    let step = ends-first now.entries (range, state) found in
+    let entries : d.entries ≡ with_first_ended now.entries = ap (λ (x : DirectoryView). x.entries) e in
+    record {
+      same = ap (map ended) entries ∙ step.same ∙ h.same;
+      noted = ap (λ (ns : List Note). ns ++ flat_map noted_end d.entries) added
+          ∙ append_assoc notes' (note.Region range state ∷ []) (flat_map noted_end d.entries)
+          ∙ ap (λ (ys : List Entry). notes' ++ note.Region range state ∷ flat_map noted_end ys) entries
+          ∙ ap (λ (ns : List Note). notes' ++ ns) (sym step.noted)
+          ∙ h.noted;
+      slots = ending-slots first now d notes notes' h e;
+      most = ap (λ (x : DirectoryView). x.most) e ∙ h.most;
+      count = same-count ∙ h.count;
+      fit = ending-fit first now d notes notes' h e;
+      begins = (h.begins.0 ++ note.Region range state ∷ [], added ∙ ap (λ (ns : List Note). ns ++ note.Region range state ∷ []) h.begins.1 ∙ append_assoc notes h.begins.0 (note.Region range state ∷ []));
+    }
+
+pub ending-falls : (now d : DirectoryView) (range : RangeView) (state : State) → first_ended now.entries ≡ Some (range, state) → d ≡ record now { entries = with_first_ended now.entries } → answered_in d.entries < answered_in now.entries
+ending-falls now d range state found e =
+    let step = ends-first now.entries (range, state) found in
+    let left : answered_in d.entries ≡ answered_in (with_first_ended now.entries) = ap (λ (x : DirectoryView). answered_in x.entries) e in
+    omega (arith, step.fewer, left)
+
+-- none is left to end
+pub ending-end : (first now d : DirectoryView) (notes notes' : List Note) → Ending first now notes notes' → first_ended now.entries ≡ None → d ≡ record now { entries = with_first_ended now.entries } → (d ≡ record first { entries = map ended first.entries }) × (notes' ≡ notes ++ flat_map noted_end first.entries)
+ending-end first now d notes notes' h none e =
+    let rest = ends-none now.entries none in
+    let entries : with_first_ended now.entries ≡ map ended first.entries = rest.left ∙ sym rest.same ∙ h.same in
+    let built : record now { entries = with_first_ended now.entries } ≡ record first { entries = map ended first.entries } =
+    ap (λ (ys : List Entry). record now { entries = ys }) entries ∙ ap (λ (k : ℕ). record now { slots = k; entries = map ended first.entries }) h.slots ∙ ap (λ (k : ℕ). record first { most = k; entries = map ended first.entries }) h.most in
+    (e ∙ built, sym (append-nil notes') ∙ ap (λ (ns : List Note). notes' ++ ns) (sym rest.noted) ∙ h.noted)
+
+-- ---- a page that was fetched
+
+both-true : (a b : Bool) → a && b ≡ true → (a ≡ true) × (b ≡ true)
+both-true true b e = (refl, e)
+both-true false b e = absurd (false≢true e)
+
+is_of-same : (blade : ℕ) (page : PageView) (r : Request) → is_of blade page r ≡ true → (blade ≡ r.blade) × (page ≡ r.page)
+is_of-same blade page r t =
+    let first = both-true (blade == r.blade) (page.domain == r.page.domain && page.number == r.page.number) t in
+    let second = both-true (page.domain == r.page.domain) (page.number == r.page.number) first.1 in
+    let domain : page.domain ≡ r.page.domain = eqb-true page.domain r.page.domain second.0 in
+    let number : page.number ≡ r.page.number = eqb-true page.number r.page.number second.1 in
+    let pages : page ≡ r.page = ap (λ (k : ℕ). record page { domain = k }) domain ∙ ap (λ (k : ℕ). record r.page { number = k }) number in
+    (eqb-true blade r.blade first.0, pages)
+
+is_of-alike : (blade : ℕ) (page : PageView) (r q : Request) → is_of blade page r ≡ true → is_of r.blade r.page q ≡ is_of blade page q
+is_of-alike blade page r q t =
+    let same = is_of-same blade page r t in
+    ap (λ (b : ℕ). is_of b r.page q) (sym same.0) ∙ ap (λ (p : PageView). is_of blade p q) (sym same.1)
+
+abbrev IsFetched : ℕ → PageView → Request → Type 0
+IsFetched blade page r = (is_of blade page r ≡ true) × (r.fetching ≡ true)
+
+all-at-place : (P : Request → Type 0) (rs : List Request) (k : ℕ) (x : Request) → AllByRecursion P rs → k < length rs → P (slice_index_or rs k x)
+all-at-place P [] k x h lt = absurd (omega arith)
+all-at-place P (r ∷ rs) zero x h lt = h.0
+all-at-place P (r ∷ rs) (suc k) x h lt = all-at-place P rs k x h.1 (omega arith)
+
+found-fetched : (blade : ℕ) (page : PageView) (rs : List Request) (r : Request) → AreApart rs → Any (IsFetched blade page) rs → find (is_of blade page) rs ≡ Some r → r.fetching ≡ true
+found-fetched blade page [] r a (k, x, lt, at, p) e = absurd (omega arith)
+found-fetched blade page (q ∷ rs) r a (k, x, lt, at, p) e =
+    elim (cases_Bool (is_of blade page q)) [
+      | inl t ↦
+          let here : find (is_of blade page) (q ∷ rs) ≡ Some q = ap (λ (b : Bool). cond b (Some q) (find (is_of blade page) rs)) t in
+          let same : q ≡ r = some-is q r (sym here ∙ e) in
+          ap (λ (y : Request). y.fetching) (sym same) ∙ first-fetched blade page q rs a t k x lt at p
+      | inr f ↦
+          let later : find (is_of blade page) (q ∷ rs) ≡ find (is_of blade page) rs = ap (λ (b : Bool). cond b (Some q) (find (is_of blade page) rs)) f in
+          found-fetched blade page rs r a.1 (later-fetched blade page q rs f k x lt at p) (sym later ∙ e)
+    ]
+  where
+    first-fetched : (blade : ℕ) (page : PageView) (q : Request) (rs : List Request) → AreApart (q ∷ rs) → is_of blade page q ≡ true → (k : ℕ) (x : Request) → k < length (q ∷ rs) → slice_index_or (q ∷ rs) k x ≡ x → IsFetched blade page x → q.fetching ≡ true
+    first-fetched blade page q rs a t zero x lt at p = ap (λ (y : Request). y.fetching) at ∙ p.1
+    first-fetched blade page q rs a t (suc k) x lt at p =
+        let apart : is_of q.blade q.page x ≡ false = subst (λ (y : Request). is_of q.blade q.page y ≡ false) at (all-at-place (λ y. is_of q.blade q.page y ≡ false) rs k x a.0 (omega arith)) in
+        absurd (false≢true (sym apart ∙ is_of-alike blade page q x t ∙ p.0))
+
+    later-fetched : (blade : ℕ) (page : PageView) (q : Request) (rs : List Request) → is_of blade page q ≡ false → (k : ℕ) (x : Request) → k < length (q ∷ rs) → slice_index_or (q ∷ rs) k x ≡ x → IsFetched blade page x → Any (IsFetched blade page) rs
+    later-fetched blade page q rs f zero x lt at p = absurd (false≢true (sym f ∙ ap (is_of blade page) at ∙ p.0))
+    later-fetched blade page q rs f (suc k) x lt at p = (k, x, omega arith, at, p)
+
+pub fetched-found : (blade : ℕ) (page : PageView) (rs : List Request) → Any (IsFetched blade page) rs → find (is_of blade page) rs ≡ None → ⊥
+fetched-found blade page [] (k, x, lt, at, p) e = absurd (omega arith)
+fetched-found blade page (q ∷ rs) (k, x, lt, at, p) e =
+    elim (cases_Bool (is_of blade page q)) [
+      | inl t ↦
+          let here : Some q ≡ None = sym (ap (λ (b : Bool). cond b (Some q) (find (is_of blade page) rs)) t) ∙ e in
+          absurd (cc)
+      | inr f ↦
+          let later : find (is_of blade page) (q ∷ rs) ≡ find (is_of blade page) rs = ap (λ (b : Bool). cond b (Some q) (find (is_of blade page) rs)) f in
+          fetched-found blade page rs (behind blade page q rs f k x lt at p) (sym later ∙ e)
+    ]
+  where
+    behind : (blade : ℕ) (page : PageView) (q : Request) (rs : List Request) → is_of blade page q ≡ false → (k : ℕ) (x : Request) → k < length (q ∷ rs) → slice_index_or (q ∷ rs) k x ≡ x → IsFetched blade page x → Any (IsFetched blade page) rs
+    behind blade page q rs f zero x lt at p = absurd (false≢true (sym f ∙ ap (is_of blade page) at ∙ p.0))
+    behind blade page q rs f (suc k) x lt at p = (k, x, omega arith, at, p)
+
+found-is : (blade : ℕ) (page : PageView) (rs : List Request) (r : Request) → find (is_of blade page) rs ≡ Some r → is_of blade page r ≡ true
+found-is blade page [] r e = absurd (cc)
+found-is blade page (q ∷ rs) r e =
+    elim (cases_Bool (is_of blade page q)) [
+      | inl t ↦
+          let here : find (is_of blade page) (q ∷ rs) ≡ Some q = ap (λ (b : Bool). cond b (Some q) (find (is_of blade page) rs)) t in
+          ap (is_of blade page) (sym (some-is q r (sym here ∙ e))) ∙ t
+      | inr f ↦
+          let later : find (is_of blade page) (q ∷ rs) ≡ find (is_of blade page) rs = ap (λ (b : Bool). cond b (Some q) (find (is_of blade page) rs)) f in
+          found-is blade page rs r (sym later ∙ e)
+    ]
+
+found-all : (P : Request → Type 0) (blade : ℕ) (page : PageView) (rs : List Request) (r : Request) → AllByRecursion P rs → find (is_of blade page) rs ≡ Some r → P r
+found-all P blade page [] r h e = absurd (cc)
+found-all P blade page (q ∷ rs) r h e =
+    elim (cases_Bool (is_of blade page q)) [
+      | inl t ↦
+          let here : find (is_of blade page) (q ∷ rs) ≡ Some q = ap (λ (b : Bool). cond b (Some q) (find (is_of blade page) rs)) t in
+          subst P (some-is q r (sym here ∙ e)) h.0
+      | inr f ↦
+          let later : find (is_of blade page) (q ∷ rs) ≡ find (is_of blade page) rs = ap (λ (b : Bool). cond b (Some q) (find (is_of blade page) rs)) f in
+          found-all P blade page rs r h.1 (sym later ∙ e)
+    ]
+
+-- what the permissions allow may be filled
+can-fill : (write : Bool) (perm : Perm) → allows write perm ≡ true → CanFill perm write
+can-fill write No e = absurd (false≢true e)
+can-fill false R e = (λ q. absurd (cc), λ w. absurd (false≢true w))
+can-fill true R e = absurd (false≢true e)
+can-fill write Rw e = (λ q. absurd (cc), λ w. refl)
+
+pub fill-comes : (s s' : SwitchView) (o o' : List (LinkName × Msg)) (blade : ℕ) (page : PageView) (image : PageImageView) (r : Request) (rs : List Request) → IsSwitch s → AreApart s.requests → Any (IsFetched blade page) s.requests → find (is_of blade page) s.requests ≡ Some r → rs ≡ filter (λ q. not (is_of blade page q)) s.requests → s' ≡ with_requests s rs → o' ≡ o ++ to_blade r.blade (Fill r.page (permission_at s.protect r.page) r.write image) ∷ [] → Comes (start_at s o []) (filled (Some blade) page image s) s' o' []
+fill-comes s s' o o' blade page image r rs h apart fetched found left e f =
+    let n = length s.plan.frames in
+    let fit : IsFitRequest n s.protect r = found-all (IsFitRequest n s.protect) blade page s.requests r h.requests found in
+    let same = is_of-same blade page r (found-is blade page s.requests r found) in
+    let gone : rs ≡ without_request r s.requests =
+    left ∙ ap (λ (b : ℕ). filter (λ q. not (is_of b page q)) s.requests) same.0 ∙ ap (λ (p : PageView). filter (λ q. not (is_of r.blade p q)) s.requests) same.1 in
+    let allowed : allows r.write (permission_at s.protect r.page) ≡ true = fit.allowed (found-fetched blade page s.requests r apart fetched found) in
+    let one : Comes (start_at s o []) (filling (Some r) image s) s' o' [] = record {
+      after = e ∙ ap (λ (q : List Request). with_requests s q) gone;
+      sent = f;
+      noted = refl;
+      plan = ap (λ (v : SwitchView). v.plan) e;
+      sendable = (record { link = fit.blade; fields = can-fill r.write (permission_at s.protect r.page) allowed }, tt);
+    } in
+    subst (λ (x : Option Request). Comes (start_at s o []) (filling x image s) s' o' []) (sym found) one
+
+-- a page that comes back goes to a memory blade of the rack
+written : (plan : RackPlan) (place : Option (ℕ × ℕ)) (image : PageImageView) → IfSome place (λ p. p.0 < length plan.memories) → AllByRecursion (IsSendable plan) (writing place image)
+written plan None image h = tt
+written plan (Some place) image h = (record { link = h; fields = tt }, tt)
+
+pub written-sendable : (s : SwitchView) (page : PageView) (image : PageImageView) → IsSwitch s → AllByRecursion (IsSendable s.plan) (writing (place_in s page) image)
+written-sendable s page image h = written s.plan (place_in s page) image (place-in-rack s page h)
+
+-- ---- nothing is left to do
+
+pub none-length : (rs : List Request) → length rs ≡ 0 → rs ≡ []
+none-length [] e = refl
+none-length (r ∷ rs) e = absurd (omega arith)
+
+-- ---- a message is handled, and then the switch serves
+
+pub back-comes : (result : Result (Unit {0}) Stop) (s : SwitchView) (o o' : List (LinkName × Msg)) (n : List Note) (page : PageView) (image : PageImageView) → OnOk result (IsSwitch s) → OnOk result (o' ≡ o ++ (went_back page image s).sent) → OnOk result (Comes (start_at s o n) (went_back page image s) s o' n)
+back-comes (Ok u) s o o' n page image h e = record { after = refl; sent = e; noted = sym (append-nil n); plan = refl; sendable = written-sendable s page image h }
+back-comes (Err x) s o o' n page image h e = h
+
+pub received-then : (result : Result (Unit {0}) Stop) (link : LinkName) (message : Msg) (start : Start) (s s' : SwitchView) (o o' : List (LinkName × Msg)) (n n' : List Note) → Comes start (handled_from link.kind link.number message start.switch) s o n → OnOk result ((begin : Start) → (first : Effect) → Comes begin first s o n → (last : Effect) × Serves first last × Comes begin last s' o' n') → Begins start.out o' → Begins start.notes n' → Received result link message start s' o' n'
+received-then (Ok u) link message start s s' o o' n n' h serves b c =
+    let done = serves start (handled_from link.kind link.number message start.switch) h in
+    (done.0, done.1, done.2)
+received-then (Err x) link message start s s' o o' n n' h serves b c = (b, c)
+
+-- ---- numbers
+
+-- a spent switch has begun at most as many transitions as there are slots
+pub spent-count : (old middle new : SwitchView) → middle.last ≡ old.last → middle.directory.slots ≡ old.directory.slots → Stays middle new → IsSpent new → (new.last ≡ 4294967295) × (4294967295 ≤ old.last + old.directory.slots)
+spent-count old middle new e f stays spent =
+    (spent.last, omega (arith, stays.numbers, stays.slots, spent.last, spent.fits, under-le-length new.directory.entries, e, f))

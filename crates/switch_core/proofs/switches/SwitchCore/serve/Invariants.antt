@@ -1,0 +1,14 @@
+use Rattle.std.proofs.Common.{◌+◌, cond}
+use Rattle.switch_core.specs.Sending.{Start, Comes, Keeps, start_at}
+use Rattle.switch_core.specs.Standing.{left_to_do}
+use Rattle.switch_core.specs.Switch.{Effect}
+use Rattle.switch_core.proofs.Rounds.{HasServed}
+use Rattle.switch_core.proofs.switches.SwitchCore.serve.Given as goal
+
+abbrev pub invariant-loop-changed : goal.invariant-loop-changed
+invariant-loop-changed l =
+    ((start : Start) → (first : Effect) → Comes start first l.fn.self l.fn.out.items l.fn.log.notes → HasServed start first l.changed l.self l.out.items l.log.notes)
+    × Keeps (start_at l.fn.self l.fn.out.items l.fn.log.notes) l.self l.out.items l.log.notes
+
+abbrev pub decreases-loop-changed : goal.decreases-loop-changed
+decreases-loop-changed l = left_to_do l.self + cond l.changed 1 0

@@ -1,0 +1,56 @@
+use Rattle.std.proofs.Common.{◌≡◌, ◌<◌, Some, None, true, false, length, ap, sym, subst, ◌∙◌}
+use Rattle.std.specs.List.{slice_get}
+use Rattle.std.proofs.lemmas.List.{append-nil}
+use Rattle.std.proofs.lemmas.Result.{on_ok_weaker}
+use Rattle.protect_table.specs.Protect.{permission_at}
+use Rattle.switch_core.specs.Invariant.{IsFitRequest}
+use Rattle.switch_core.specs.Standing.{InPass}
+use Rattle.switch_core.specs.Switch.{SwitchView}
+use Rattle.switch_core.specs.Treating.{allows, entry_for, treated}
+use Rattle.switch_core.specs.declared.stands.Stand.{Stand}
+use Rattle.switch_core.proofs.Going.{goes-denied, goes-entry}
+use Rattle.switch_core.proofs.Lists.{all-at}
+use Rattle.switch_core.proofs.switches.SwitchCore.treat.Goals as goal
+
+pub returns-then-not-allows-clause-goes_on : goal.returns-then-not-allows-clause-goes_on
+returns-then-not-allows-clause-goes_on c = λ start pass h.
+    let s : SwitchView = c.args.self.now in
+    let denied-there : allows c.args.r.now.write (permission_at s.protect c.args.r.now.page) ≡ false =
+    ap (λ (v : SwitchView). allows c.args.r.now.write (permission_at v.protect c.args.r.now.page)) (sym c.self.view_is) ∙ ap (allows c.args.r.now.write) (sym c.perm.ensures) ∙ sym c.allows.ensures ∙ c.if-not-allows.true in
+    subst (λ (x : Stand). InPass start (treated c.args.r.now pass) c.deny.new.self x c.deny.new.out.items c.args.log.now.notes) (sym c.change.ensures)
+    (goes-denied start pass s c.args.stand.now c.args.out.now.items c.args.log.now.notes h c.deny.new.self c.deny.new.out.items c.args.log.now.notes c.args.r.now c.if-r.false denied-there c.in_ok-deny.ensures.was c.requires.place
+    c.in_ok-deny.ensures.switch c.in_ok-deny.ensures.sent (sym (append-nil c.args.log.now.notes)))
+
+pub treat_found-requires-clause-blade : goal.treat_found-requires-clause-blade
+treat_found-requires-clause-blade c =
+    let n = length c.self.inside.plan.frames in
+    let place : slice_get c.self.inside.requests c.args.stand.now.at ≡ Some c.args.r.now = subst (λ (v : SwitchView). slice_get v.requests c.args.stand.now.at ≡ Some c.args.r.now) (sym c.self.view_is) c.requires.place in
+    subst (λ (v : SwitchView). c.args.r.now.blade < length v.plan.frames) c.self.view_is
+    (all-at (IsFitRequest n c.self.inside.protect) c.self.inside.requests c.args.stand.now.at c.args.r.now c.self.invariant.requests place).blade
+
+pub treat_missing-requires-clause-blade : goal.treat_missing-requires-clause-blade
+treat_missing-requires-clause-blade c =
+    let n = length c.self.inside.plan.frames in
+    let place : slice_get c.self.inside.requests c.args.stand.now.at ≡ Some c.args.r.now = subst (λ (v : SwitchView). slice_get v.requests c.args.stand.now.at ≡ Some c.args.r.now) (sym c.self.view_is) c.requires.place in
+    subst (λ (v : SwitchView). c.args.r.now.blade < length v.plan.frames) c.self.view_is
+    (all-at (IsFitRequest n c.self.inside.protect) c.self.inside.requests c.args.stand.now.at c.args.r.now c.self.invariant.requests place).blade
+
+pub returns-in-Some-clause-goes_on : goal.returns-in-Some-clause-goes_on
+returns-in-Some-clause-goes_on c =
+    let s : SwitchView = c.args.self.now in
+    let allowed : allows c.args.r.now.write (permission_at s.protect c.args.r.now.page) ≡ true =
+    ap (λ (v : SwitchView). allows c.args.r.now.write (permission_at v.protect c.args.r.now.page)) (sym c.self.view_is) ∙ ap (allows c.args.r.now.write) (sym c.perm.ensures) ∙ sym c.allows.ensures ∙ c.if-not-allows.false in
+    let entry : entry_for c.args.r.now.page s.directory.entries ≡ Some c.in-Some.i = ap (λ (v : SwitchView). entry_for c.args.r.now.page v.directory.entries) (sym c.self.view_is) ∙ sym c.in-Some.ensures.first in
+    on_ok_weaker c.treat_found.result
+    (λ goes start pass h. goes-entry start pass s c.args.stand.now c.args.out.now.items c.args.log.now.notes h c.treat_found.new.self c.treat_found.new.stand c.treat_found.new.out.items c.treat_found.new.log.notes c.args.r.now (Some c.in-Some.i) c.if-r.false allowed entry (goes start pass h))
+    c.treat_found.ensures.goes_on
+
+pub returns-in-None-clause-goes_on : goal.returns-in-None-clause-goes_on
+returns-in-None-clause-goes_on c =
+    let s : SwitchView = c.args.self.now in
+    let allowed : allows c.args.r.now.write (permission_at s.protect c.args.r.now.page) ≡ true =
+    ap (λ (v : SwitchView). allows c.args.r.now.write (permission_at v.protect c.args.r.now.page)) (sym c.self.view_is) ∙ ap (allows c.args.r.now.write) (sym c.perm.ensures) ∙ sym c.allows.ensures ∙ c.if-not-allows.false in
+    let entry : entry_for c.args.r.now.page s.directory.entries ≡ None = ap (λ (v : SwitchView). entry_for c.args.r.now.page v.directory.entries) (sym c.self.view_is) ∙ sym c.in-None.ensures.first in
+    on_ok_weaker c.treat_missing.result
+    (λ goes start pass h. goes-entry start pass s c.args.stand.now c.args.out.now.items c.args.log.now.notes h c.treat_missing.new.self c.treat_missing.new.stand c.treat_missing.new.out.items c.treat_missing.new.log.notes c.args.r.now None c.if-r.false allowed entry (goes start pass h))
+    c.treat_missing.ensures.goes_on

@@ -1,0 +1,10 @@
+//! The switch of the rack: it translates and protects pages, and keeps the blades' caches coherent.
+#![tactic(auto)]
+
+mod endings;
+mod messages;
+mod stands;
+mod states;
+mod switches;
+
+pub use switches::SwitchCore;

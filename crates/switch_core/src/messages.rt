@@ -1,0 +1,115 @@
+ghost use Rattle.std.specs.Prelude.{◌≡◌, ◌<◌, [], ◌∷◌, ◌++◌, OnOk, OnErr};
+ghost use Rattle.switch_core.specs.Handling.{writing};
+ghost use Rattle.switch_core.specs.Sending.{Begins};
+ghost use Rattle.switch_core.specs.Switch.{to_blade, to_memory};
+ghost use Rattle.switch_core.specs.Treating.{invalidations, noted_change, reading};
+
+use crate::states::is_same;
+use invalidate_multicast::targets;
+use mind_base::{LinkKind, LinkName, Log, NoMemory, Note, Page, Range, State};
+use page_image::PageImage;
+use request_list::Request;
+use std::alloc::Global;
+use wire_msg::Msg;
+
+/// Puts a message to a compute blade at the end.
+pub fn tell_blade(out: &mut Vec<(LinkName, Msg)>, blade: u8, msg: Msg) -> Result<(), NoMemory>
+    ensures ok { OnOk result (out.new.items ≡ out.old.items ++ to_blade blade msg ∷ []) }
+    ensures err { OnErr result (out.new.items ≡ out.old.items) }
+{
+    let link = LinkName {
+        kind: LinkKind::Down,
+        number: blade,
+    };
+    out.push((link, msg))?;
+    Ok(())
+}
+
+/// Puts a message to a memory blade at the end.
+pub fn tell_memory(out: &mut Vec<(LinkName, Msg)>, memory: u8, msg: Msg) -> Result<(), NoMemory>
+    ensures ok { OnOk result (out.new.items ≡ out.old.items ++ to_memory memory msg ∷ []) }
+    ensures err { OnErr result (out.new.items ≡ out.old.items) }
+{
+    let link = LinkName {
+        kind: LinkKind::To,
+        number: memory,
+    };
+    out.push((link, msg))?;
+    Ok(())
+}
+
+/// Tells each blade of the set, by rising number, to give up the pages of a block.
+pub fn tell_all(
+    alloc: Global,
+    out: &mut Vec<(LinkName, Msg)>,
+    number: u32,
+    range: &Range,
+    asked: &Option<Page>,
+    blades: u8,
+) -> Result<(), NoMemory>
+    ensures ok { OnOk result (out.new.items ≡ out.old.items ++ invalidations number range.now asked.now blades) }
+    ensures begins { Begins out.old.items out.new.items }
+{
+    let casts = targets(alloc, blades)?;
+    for cast in &casts {
+        let msg = Msg::Inv {
+            number,
+            range: *range,
+            asked: *asked,
+        };
+        tell_blade(out, cast.blade, msg)?;
+    }
+    Ok(())
+}
+
+/// Asks the memory blade where the page lies for it.
+pub fn read_from(
+    out: &mut Vec<(LinkName, Msg)>,
+    r: &Request,
+    place: Option<(u8, u32)>,
+) -> Result<(), NoMemory>
+    ensures ok { OnOk result (out.new.items ≡ out.old.items ++ reading r.now place) }
+    ensures err { OnErr result (out.new.items ≡ out.old.items) }
+{
+    let Some((memory, phys)) = place else {
+        return Ok(());
+    };
+    let msg = Msg::Read {
+        phys,
+        blade: Some(r.blade),
+        page: r.page,
+    };
+    tell_memory(out, memory, msg)?;
+    Ok(())
+}
+
+/// Sends the memory blade where the page lies its image.
+pub fn write_to(
+    out: &mut Vec<(LinkName, Msg)>,
+    place: Option<(u8, u32)>,
+    image: PageImage,
+) -> Result<(), NoMemory>
+    ensures ok { OnOk result (out.new.items ≡ out.old.items ++ writing place image) }
+    ensures err { OnErr result (out.new.items ≡ out.old.items) }
+{
+    let Some((memory, phys)) = place else {
+        return Ok(());
+    };
+    tell_memory(out, memory, Msg::Write { phys, image })?;
+    Ok(())
+}
+
+/// Notes the state of a block, where it has changed.
+pub fn note_change(log: &mut Log, range: &Range, old: State, new: State) -> Result<(), NoMemory>
+    ensures ok { OnOk result (log.new.notes ≡ log.old.notes ++ noted_change range.now old new) }
+    ensures err { OnErr result (log.new.notes ≡ log.old.notes) }
+{
+    if is_same(old, new) {
+        return Ok(());
+    }
+    log.add(Note::Region {
+        range: *range,
+        state: new,
+    })?;
+    Ok(())
+}

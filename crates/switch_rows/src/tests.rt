@@ -1,0 +1,167 @@
+//! One request to a new switch of two compute blades. Pages 1 and 2 of domain 0 are mapped, the first to be
+//! written, the second to be read; an entry has two pages.
+
+ghost use Rattle.std.specs.Prelude.{◌<◌, length};
+ghost use Rattle.mind_base.specs.Fit.{IsFit};
+
+use mind_base::{LinkKind, LinkName, Log, Note, Page, RackPlan, Range, State, Stop};
+use rack_file::rack_of;
+use std::alloc::Global;
+use std::test::Fail;
+use switch_core::SwitchCore;
+use wire_msg::Msg;
+
+const RACK: &str =
+    "format = 1\nslots = 4\nprotect = 8\noutliers = 2\nregion = 1\nmost = 9\nthreshold = 0\nblade = [{ frames = 2 }, { frames = 2 }]\nmemory = [{ spare = 0, homes = [{ domain = 0, page = 16, pages = 4 }] }, { spare = 0, homes = [{ domain = 0, page = 0, pages = 16 }] }]\nimage = [{ name = \"a.bin\", at = 0 }]\nthread = [{ blade = 0, domain = 0, image = 0, queue = 2 }]\nmap = [{ domain = 0, page = 1, pages = 1, perm = \"rw\" }, { domain = 0, page = 2, pages = 1, perm = \"r\" }]\n";
+
+/// A request of a blade for a page of domain 0, and what the switch does: whether it reads the page for the
+/// blade, at this physical number of memory blade 1, and the state that the page's entry has then.
+#[derive(Clone, Copy)]
+struct Row {
+    blade: u8,
+    page: u32,
+    write: bool,
+    read: Option<u32>,
+    base: u32,
+    state: State,
+}
+
+static ROWS: [Row; 6] = [
+    // a page to read, and one to write: the blade is named
+    Row {
+        blade: 0,
+        page: 1,
+        write: false,
+        read: Some(1),
+        base: 0,
+        state: State::S { sharers: 1 },
+    },
+    Row {
+        blade: 1,
+        page: 1,
+        write: false,
+        read: Some(1),
+        base: 0,
+        state: State::S { sharers: 2 },
+    },
+    Row {
+        blade: 1,
+        page: 1,
+        write: true,
+        read: Some(1),
+        base: 0,
+        state: State::M { owner: 1 },
+    },
+    Row {
+        blade: 0,
+        page: 2,
+        write: false,
+        read: Some(2),
+        base: 2,
+        state: State::S { sharers: 1 },
+    },
+    // a write to a page that may be read, and a read of one that is not mapped, are denied
+    Row {
+        blade: 0,
+        page: 2,
+        write: true,
+        read: None,
+        base: 0,
+        state: State::I,
+    },
+    Row {
+        blade: 1,
+        page: 3,
+        write: false,
+        read: None,
+        base: 0,
+        state: State::I,
+    },
+];
+
+fn page_of(number: u32) -> Page {
+    Page {
+        domain: 0,
+        number: number % 1024,
+    }
+}
+
+/// Whether the one message is the reading of the page for the blade, or the denial of it.
+fn is_answer(row: &Row, link: LinkName, msg: &Msg) -> bool {
+    match msg {
+        Msg::Read { phys, blade, page } => {
+            link.kind == LinkKind::To
+                && link.number == 1
+                && row.read == Some(*phys)
+                && *blade == Some(row.blade)
+                && *page == page_of(row.page)
+        }
+        Msg::Deny { page } => {
+            link.kind == LinkKind::Down
+                && link.number == row.blade
+                && row.read.is_none()
+                && *page == page_of(row.page)
+        }
+        _ => false,
+    }
+}
+
+/// Whether the notes are those of a new entry and its state, or none where the request is denied.
+fn is_noted(row: &Row, log: &Log) -> bool {
+    if row.read.is_none() {
+        return log.len() == 0;
+    }
+    let range = Range {
+        domain: 0,
+        base: row.base % 1024 / 2 * 2,
+        log: 1,
+    };
+    let entered = Note::Region {
+        range,
+        state: State::I,
+    };
+    let named = Note::Region {
+        range,
+        state: row.state,
+    };
+    log.len() == 2 && log.get(0) == entered && log.get(1) == named
+}
+
+/// Whether a new switch does what the row says.
+fn holds(alloc: Global, plan: &RackPlan, row: &Row) -> Result<bool, Stop>
+    requires fit { IsFit plan.now }
+    requires blade { row.now.blade < length plan.now.frames }
+{
+    let mut switch = SwitchCore::new(alloc, plan)?;
+    let mut out = Vec::new(alloc);
+    let mut log = Log::new(alloc);
+    let link = LinkName {
+        kind: LinkKind::Up,
+        number: row.blade,
+    };
+    let msg = Msg::Get {
+        page: page_of(row.page),
+        write: row.write,
+    };
+    let was_quiet = switch.quiet();
+    switch.receive(link, msg, &mut out, &mut log)?;
+    let answered = match out.as_slice() {
+        [(link, msg)] => is_answer(row, *link, msg),
+        _ => false,
+    };
+    Ok(was_quiet && answered && is_noted(row, &log) && switch.quiet() == row.read.is_none())
+}
+
+#[test]
+fn a_new_switch_reads_a_page_or_denies_it(rt: HostRuntime) -> Result<(), Fail> {
+    let Ok(plan) = rack_of(rt.alloc(), RACK.as_bytes()) else {
+        return Err(Fail::from("no plan"));
+    };
+    for row in &ROWS {
+        if usize::from(row.blade) >= plan.frames.len() {
+            return Err(Fail::from("no such blade"));
+        }
+        assert!(rt; holds(rt.alloc(), &plan, row)?);
+    }
+    Ok(())
+}
