@@ -1,0 +1,98 @@
+-- Entries that change so that each blade may do what it could, and no transition changes.
+use Rattle.std.proofs.Common.{◌≡◌, refl, sym, ℕ, true, false, List, Option, Some, None, IfSome, subst, ap, ◌∙◌}
+use Rattle.std.specs.Prelude.{if◌then◌else◌}
+use Rattle.mind_base.specs.Page.{PageView}
+use Rattle.mind_base.specs.Range.{RangeView}
+use Rattle.region_directory.specs.Block.{in_range}
+use Rattle.region_directory.specs.declared.entries.Busy.{Busy}
+use Rattle.wire_msg.specs.declared.msgs.Msg.{Msg}
+use Rattle.wire_msg.specs.declared.msgs.Msg.TheVariants.{Fill, Back, Inv, Lower, Ack}
+use Rattle.coherence.specs.World.{Region, World, put_range}
+use Rattle.coherence.specs.Facts.{IsCoherent, IsUp, IsDown, AreBlocks, WaitsFor, transition, may, may_write}
+use Rattle.coherence.proofs.Changes.{by-test}
+use Rattle.coherence.proofs.Queues.{ups-kept, downs-same, none-never}
+
+-- who may hold a page, or write it, still may; transitions are as they were, and so is what has one
+pub record Widens (old new : PageView → Option Region) : Type 0 where
+  pub held : (p : PageView) (b : ℕ) → may (old p) b ≡ true → may (new p) b ≡ true
+  pub writer : (p : PageView) (b : ℕ) → may_write (old p) b ≡ true → may_write (new p) b ≡ true
+  pub transition : (p : PageView) (number : ℕ) → transition number (new p) ≡ transition number (old p)
+  pub idle : (p : PageView) → IfSome (old p) (λ r. r.busy ≡ None) → IfSome (new p) (λ r. r.busy ≡ None)
+  pub busy : (p : PageView) (r : Region) (busy : Busy) → new p ≡ Some r → r.busy ≡ Some busy → old p ≡ Some r
+
+abbrev pub with_regions : (PageView → Option Region) → World → World
+with_regions new w = record w { regions = new }
+
+waits_on : (w : World) (new : PageView → Option Region) → Widens w.regions new → (number blade : ℕ) → WaitsFor w.regions number blade → WaitsFor new number blade
+waits_on w new widens number blade (p, busy, is, waits) = (p, busy, widens.transition p number ∙ is, waits)
+
+ups_widened : (w : World) (new : PageView → Option Region) → Widens w.regions new → (n : ℕ) (m : Msg) (later : List Msg) → IsUp w n m later → IsUp (with_regions new w) n m later
+ups_widened w new widens n (Back p image) later up =
+    record { writer = widens.writer p n up.writer; newest = up.newest; placed = up.placed; lowered = up.lowered; unfilled = up.unfilled; unwanted = up.unwanted }
+ups_widened w new widens n (Ack number count) later up =
+    (waits_on w new widens number n up.0, λ p busy is. up.1 p busy (sym (widens.transition p number) ∙ is))
+ups_widened w new widens n m later up = up
+
+downs_widened : (w : World) (new : PageView → Option Region) → Widens w.regions new → (n : ℕ) (m : Msg) (later : List Msg) → IsDown w n m later → IsDown (with_regions new w) n m later
+downs_widened w new widens n (Fill p perm writable image) later down = record {
+  held = widens.held p n down.held;
+  writer = λ is. widens.writer p n (down.writer is);
+  newest = down.newest;
+  perm = down.perm;
+  readable = down.readable;
+  asked = down.asked;
+}
+downs_widened w new widens n (Inv number range asked) later down =
+    (waits_on w new widens number n down.0, λ p busy is. let call = down.1 p busy (sym (widens.transition p number) ∙ is) in record { block = call.block; fill = call.fill })
+downs_widened w new widens n (Lower number range asked) later down =
+    (waits_on w new widens number n down.0, λ p busy is. let call = down.1 p busy (sym (widens.transition p number) ∙ is) in (record { block = call.0.block; fill = call.0.fill }, call.1))
+downs_widened w new widens n m later down = down
+
+pub widened : (w : World) (new : PageView → Option Region) → Widens w.regions new → AreBlocks (with_regions new w) → IsCoherent w → IsCoherent (with_regions new w)
+widened w new widens blocks safe = let after = with_regions new w in record {
+  frames = λ b p frame is. let h = safe.frames b p frame is in record {
+    held = widens.held p b h.held;
+    writer = λ t. widens.writer p b (h.writer t);
+    alone = h.alone;
+    dirty = h.dirty;
+    newest = h.newest;
+    perm = h.perm;
+    readable = h.readable;
+  };
+  ups = λ b. ups-kept w after b (λ m. false) (λ m later e. ups_widened w new widens b m later) (w.ups b) (none-never (w.ups b)) (safe.ups b);
+  downs = λ b. downs-same w after b (λ m. false) (λ m later e. downs_widened w new widens b m later) (w.downs b) (none-never (w.downs b)) (safe.downs b);
+  answered = safe.answered;
+  wanted = safe.wanted;
+  fetched = safe.fetched;
+  called = λ b number p busy is. safe.called b number p busy (sym (widens.transition p number) ∙ is);
+  fetches = λ b p v is fetching. let f = safe.fetches b p v is fetching in
+      record { held = widens.held p b f.held; writer = λ t. widens.writer p b (f.writer t); idle = widens.idle p f.idle; allowed = f.allowed };
+  numbered = λ p r busy is at. safe.numbered p r busy (widens.busy p r busy is at) at;
+  blocks = blocks;
+  targets = λ p r busy is at. safe.targets p r busy (widens.busy p r busy is at) at;
+  tos = safe.tos;
+  written = safe.written;
+  froms = safe.froms;
+  placed = record { apart = safe.placed.apart; placed = safe.placed.placed };
+}
+
+-- ---- one entry changes
+
+-- the entries are blocks still, where all pages of the block had what none outside had
+pub blocks_put : (w : World) (range : RangeView) (entry : Option Region) → ((r : Region) → entry ≡ Some r → r.range ≡ range)
+    → ((p q : PageView) (r : Region) → w.regions p ≡ Some r → in_range r.range q ≡ true → in_range range q ≡ true → in_range range p ≡ true)
+    → AreBlocks w → AreBlocks (with_regions (put_range range entry w.regions) w)
+blocks_put w range entry ranged closed blocks p r is =
+    by-test (λ t. in_range range p ≡ t → (if t then entry else w.regions p) ≡ Some r
+    → (in_range r.range p ≡ true) × ((other : PageView) → in_range r.range other ≡ true → put_range range entry w.regions other ≡ Some r)) (in_range range p)
+    (λ _ inside e. let same = ranged r e in (
+      subst (λ x. in_range x p ≡ true) (sym same) inside,
+      λ other within. let t : in_range range other ≡ true = subst (λ x. in_range x other ≡ true) same within in
+          ap (λ b. if b then entry else w.regions other) t ∙ e,
+    ))
+    (λ _ outside e. let block = blocks p r e in (
+      block.0,
+      λ other within. by-test (λ b. in_range range other ≡ b → (if b then entry else w.regions other) ≡ Some r) (in_range range other)
+          (λ _ t. absurd (cc (closed p other r e within t, outside))) (λ _ _. block.1 other within) refl,
+    ))
+    refl is

@@ -1,0 +1,5 @@
+pub mod Counts
+pub mod Facts
+pub mod Moves
+pub mod Runs
+pub mod World

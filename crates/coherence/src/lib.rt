@@ -1,0 +1,7 @@
+//! Why the caches of the rack agree: what is true of blades, switch, memory blades and the messages under
+//! way between them at every moment, and that each thing that one of them does keeps it true.
+#![tactic(auto)]
+
+mod laws;
+
+pub use laws::{every_move_keeps_coherence, one_writer};
