@@ -1,0 +1,206 @@
+-- What a blade does when it is to give up pages or may write them no longer.
+use Rattle.std.proofs.Common.{◌≡◌, ℕ, Bool, true, false, cond, ◌||◌, ap, sym, refl, subst, List, [], ◌∷◌, map, filter, reverse, Option, Some, None, is_some, ◌∙◌}
+use Rattle.std.specs.Prelude.{if◌then◌else◌}
+use Rattle.std.specs.List.{list_any}
+use Rattle.std.proofs.lemmas.Bool.{and_from}
+use Rattle.std.proofs.lemmas.List.{reverse-append}
+use Rattle.std.proofs.lemmas.List.Folds.{list_any-append}
+use Rattle.mind_base.specs.Page.{PageView}
+use Rattle.mind_base.specs.Range.{RangeView}
+use Rattle.mind_base.specs.declared.commands.Perm.{Perm}
+use Rattle.mind_base.specs.declared.images.Image.{Image}
+use Rattle.page_cache.specs.PageCache.{IsPageCache, same_page, frame_of, without, with_change, lowered_frame, newest_first, oldest_first, stands_in, stands_writable_in}
+use Rattle.page_cache.specs.declared.frames.Frame.{Frame}
+use Rattle.page_cache.proofs.Laws.{same_page-true}
+use Rattle.wire_msg.specs.declared.msgs.Msg.{Msg}
+use Rattle.wire_msg.specs.declared.msgs.Msg.TheVariants.{Inv, Lower}
+use Rattle.compute_blade.specs.Blade.{BladeView, Effect, with_entries, and_then}
+use Rattle.compute_blade.specs.Messages.{after_message}
+use Rattle.compute_blade.specs.Pages.{given_up, giving_up, lowered, lowering, each_in, held_in, writable_in, span_of, spared}
+use Rattle.coherence.specs.Facts.{is_writable}
+use Rattle.coherence.specs.Moves.{took}
+use Rattle.coherence.specs.World.{World}
+use Rattle.rack_core.specs.BladeMoves.{with_seen_blade, HasBlade, LeadsTo, IsSoundBlade, DoesMoves}
+use Rattle.rack_core.proofs.BladeWorlds.{stays, has_blade, leads_on, leads_taking}
+use Rattle.rack_core.proofs.BladeActs.{gives, lowers, answers_inv, answers_lower}
+use Rattle.rack_core.proofs.Lookups.{Entries, found-without, found-with_change, cache-without, cache-with_change}
+
+-- ---- one page after another
+
+-- only the pages of a blade change, and by moves; of these pages none passes a test of frames any more
+pub record ChangesPages (on : Option Frame → Bool) (blade : BladeView) (pages : List PageView) (e : Effect) : Type 0 where
+  pub only : e.blade ≡ with_entries blade e.blade.cache.entries
+  pub shape : IsPageCache e.blade.cache
+  pub gone : (page : PageView) → on (frame_of page e.blade.cache.entries) ≡ (if list_any (same_page page) pages then false else on (frame_of page blade.cache.entries))
+  pub leads : (c : ℕ) (w : World) → HasBlade c blade w → LeadsTo w w c e.blade e.sent w.flat
+
+changes_none : (on : Option Frame → Bool) (blade : BladeView) → IsPageCache blade.cache → ChangesPages on blade [] (record { blade = blade; sent = []; noted = [] })
+changes_none on blade is = record { only = refl; shape = is; gone = λ page. refl; leads = λ c w h. stays c blade w h }
+
+changes_more : (on : Option Frame → Bool) (blade : BladeView) (page : PageView) (pages : List PageView) (first : Effect) (next : BladeView → Effect)
+    → ChangesPages on blade (page ∷ []) first → ChangesPages on first.blade pages (next first.blade) → ChangesPages on blade (page ∷ pages) (and_then first next)
+changes_more on blade page pages first next one more = record {
+  only = more.only ∙ ap (λ b. with_entries b (next first.blade).blade.cache.entries) one.only;
+  shape = more.shape;
+  gone = λ q. more.gone q ∙ ap (λ b. if list_any (same_page q) pages then false else b) (one.gone q) ∙ by (same_page q page) (list_any (same_page q) pages) (on (frame_of q blade.cache.entries));
+  leads = λ c w h. let one = one.leads c w h in leads_on w w c first.blade (next first.blade).blade first.sent (next first.blade).sent w.flat w.flat one
+      (more.leads c (with_seen_blade c first.blade first.sent w.flat w) (has_blade c first.blade first.sent w.flat w));
+} where
+  by : (a b x : Bool) → (if b then false else (if a || false then false else x)) ≡ (if a || b then false else x)
+  by true true x = refl
+  by true false x = refl
+  by false true x = refl
+  by false false x = refl
+
+each : (on : Option Frame → Bool) (change : PageView → BladeView → Effect)
+    → ((page : PageView) (blade : BladeView) → IsPageCache blade.cache → ChangesPages on blade (page ∷ []) (change page blade))
+    → (pages : List PageView) (blade : BladeView) → IsPageCache blade.cache → ChangesPages on blade pages (each_in change pages blade)
+each on change one [] blade is = changes_none on blade is
+each on change one (page ∷ pages) blade is =
+    let first = one page blade is in
+    changes_more on blade page pages (change page blade) (each_in change pages) first (each on change one pages (change page blade).blade first.shape)
+
+-- a test of a page that is changed
+here_or_away : (on : Option Frame → Bool) (page : PageView) (x : Option Frame) (entries new : Entries) → on x ≡ false
+    → ((q : PageView) → frame_of q new ≡ (if same_page q page then x else frame_of q entries))
+    → (q : PageView) → on (frame_of q new) ≡ (if list_any (same_page q) (page ∷ []) then false else on (frame_of q entries))
+here_or_away on page x entries new off found q = ap on (found q) ∙ by (same_page q page) where
+  by : (b : Bool) → on (if b then x else frame_of q entries) ≡ (if b || false then false else on (frame_of q entries))
+  by true = off
+  by false = refl
+
+-- a page that is not held passes no test that fails without a frame
+absent : (on : Option Frame → Bool) (page : PageView) (entries : Entries) → on None ≡ false → frame_of page entries ≡ None
+    → (q : PageView) → on (frame_of q entries) ≡ (if list_any (same_page q) (page ∷ []) then false else on (frame_of q entries))
+absent on page entries off none q = by (same_page q page) refl where
+  by : (b : Bool) → same_page q page ≡ b → on (frame_of q entries) ≡ (if b || false then false else on (frame_of q entries))
+  by true e = ap (λ p. on (frame_of p entries)) (same_page-true q page e) ∙ ap on none ∙ off
+  by false e = refl
+
+pub given_up-changes : (page : PageView) (blade : BladeView) → IsPageCache blade.cache → ChangesPages is_some blade (page ∷ []) (given_up page blade)
+given_up-changes page blade is = by (frame_of page blade.cache.entries) refl where
+  by : (f : Option Frame) → frame_of page blade.cache.entries ≡ f → ChangesPages is_some blade (page ∷ []) (giving_up page f blade)
+  by None e = record { only = refl; shape = is; gone = absent is_some page blade.cache.entries refl e; leads = λ c w h. stays c blade w h }
+  by (Some frame) e = record {
+    only = refl;
+    shape = cache-without page blade.cache is;
+    gone = here_or_away is_some page None blade.cache.entries (without page blade.cache.entries) refl (found-without page blade.cache.entries is.distinct);
+    leads = λ c w h. gives c blade w page frame h is e;
+  }
+
+pub lowered-changes : (page : PageView) (blade : BladeView) → IsPageCache blade.cache → ChangesPages is_writable blade (page ∷ []) (lowered page blade)
+lowered-changes page blade is = by (frame_of page blade.cache.entries) refl where
+  by : (f : Option Frame) → frame_of page blade.cache.entries ≡ f → ChangesPages is_writable blade (page ∷ []) (lowering page f blade)
+  by None e = record { only = refl; shape = is; gone = absent is_writable page blade.cache.entries refl e; leads = λ c w h. stays c blade w h }
+  by (Some frame) e = record {
+    only = refl;
+    shape = cache-with_change lowered_frame page blade.cache is;
+    gone = here_or_away is_writable page (Some (lowered_frame frame)) blade.cache.entries (with_change lowered_frame page blade.cache.entries) refl (found-with_change lowered_frame page frame blade.cache.entries e);
+    leads = λ c w h. lowers c blade w page frame h e;
+  }
+
+-- ---- the pages of a block
+
+-- a page that is held and passes a test is listed
+listed : (test : PageView × Frame → Bool) (page : PageView) (frame : Frame) (entries : Entries) → frame_of page entries ≡ Some frame → test (page, frame) ≡ true
+    → list_any (same_page page) (newest_first test entries) ≡ true
+listed test page frame [] held passes = let never : ⊥ = cc in absurd never
+listed test page frame (entry ∷ entries) held passes = by (λ h. listed test page frame entries h passes) (same_page page entry.0) refl (test entry) refl held where
+  by : (frame_of page entries ≡ Some frame → list_any (same_page page) (newest_first test entries) ≡ true) → (b : Bool) → same_page page entry.0 ≡ b → (c : Bool) → test entry ≡ c
+      → cond b (Some entry.1) (frame_of page entries) ≡ Some frame → list_any (same_page page) (map (λ e. e.0) (cond c (entry ∷ filter test entries) (filter test entries))) ≡ true
+  by rest true e true f h = ap (λ b. b || list_any (same_page page) (newest_first test entries)) e
+  by rest true e false f h =
+      let same : entry.1 ≡ frame = cc in
+      let key : entry.0 ≡ page = sym (same_page-true page entry.0 e) in
+      let never : true ≡ false = sym passes ∙ ap test (λ i. (sym key i, sym same i)) ∙ f in
+      absurd (cc)
+  by rest false e true f h = ap (λ b. b || list_any (same_page page) (newest_first test entries)) e ∙ rest h
+  by rest false e false f h = rest h
+
+reversed : (page : PageView) (pages : List PageView) → list_any (same_page page) (reverse pages) ≡ list_any (same_page page) pages
+reversed page [] = refl
+reversed page (first ∷ pages) =
+    ap (list_any (same_page page)) (reverse-append (first ∷ []) pages) ∙ list_any-append (same_page page) (reverse pages) (first ∷ [])
+    ∙ ap (λ b. b || (same_page page first || false)) (reversed page pages) ∙ by (list_any (same_page page) pages) (same_page page first)
+  where
+    by : (a b : Bool) → (a || (b || false)) ≡ (b || a)
+    by true true = refl
+    by true false = refl
+    by false true = refl
+    by false false = refl
+
+-- ---- the calls
+
+-- a blade whose pages alone changed is sound
+pub sound_entries : (images : List Image) (perms : PageView → Perm) (blade new : BladeView) → IsSoundBlade images perms blade → new ≡ with_entries blade new.cache.entries → IsPageCache new.cache → IsSoundBlade images perms new
+sound_entries images perms blade new sound only shape = subst (IsSoundBlade images perms) (sym only)
+    (record { cache = subst (λ b. IsPageCache b.cache) only shape; apart = sound.apart; requests = sound.requests; waiting = sound.waiting; stores = sound.stores })
+
+pub evict : (images : List Image) (w : World) (c : ℕ) (blade : BladeView) (page : PageView) → HasBlade c blade w → IsSoundBlade images w.perms blade
+    → DoesMoves images w w c (given_up page blade)
+evict images w c blade page h sound =
+    let changes = given_up-changes page blade sound.cache in
+    record { flat = w.flat; leads = changes.leads c w h; kept = λ page e. refl; sound = sound_entries images w.perms blade (given_up page blade).blade sound changes.only changes.shape }
+
+-- pages are changed, and the switch is answered
+acknowledges : (images : List Image) (w : World) (c : ℕ) (blade : BladeView) (on : Option Frame → Bool) (change : PageView → BladeView → Effect) (pages : List PageView) (behind : List Msg) (answer : List Msg)
+    → HasBlade c blade w → IsSoundBlade images w.perms blade
+    → ChangesPages on blade pages (each_in change pages blade)
+    → ((v : World) → HasBlade c (each_in change pages blade).blade v → v.downs ≡ w.downs → LeadsTo v (took c behind v) c (each_in change pages blade).blade answer v.flat)
+    → DoesMoves images w (took c behind w) c (and_then (each_in change pages blade) (λ after. record { blade = after; sent = answer; noted = [] }))
+acknowledges images w c blade on change pages behind answer h sound changes answers =
+    let first = changes.leads c w h in
+    let after = (each_in change pages blade).blade in
+    let sent = (each_in change pages blade).sent in
+    record {
+      flat = w.flat;
+      kept = λ page e. refl;
+      leads = leads_taking w c behind after after sent answer w.flat w.flat first
+          (answers (with_seen_blade c after sent w.flat w) (has_blade c after sent w.flat w) refl);
+      sound = sound_entries images w.perms blade after sound changes.only changes.shape;
+    }
+
+-- none of a block is held when those that were are given up
+block_gone : (on : Option Frame → Bool) (test : PageView × Frame → Bool) (page : PageView) (entries new : Entries)
+    → ((frame : Frame) → on (Some frame) ≡ true → test (page, frame) ≡ true) → on None ≡ false
+    → on (frame_of page new) ≡ (if list_any (same_page page) (oldest_first test entries) then false else on (frame_of page entries))
+    → on (frame_of page new) ≡ false
+block_gone on test page entries new passes none gone = gone ∙ by (frame_of page entries) refl where
+  by : (f : Option Frame) → frame_of page entries ≡ f → (if list_any (same_page page) (oldest_first test entries) then false else on f) ≡ false
+  by None e = which (list_any (same_page page) (oldest_first test entries)) where
+    which : (b : Bool) → (if b then false else on None) ≡ false
+    which true = refl
+    which false = none
+  by (Some frame) e = which (on (Some frame)) refl where
+    which : (b : Bool) → on (Some frame) ≡ b → (if list_any (same_page page) (oldest_first test entries) then false else b) ≡ false
+    which true o = ap (λ b. if b then false else true) (reversed page (newest_first test entries) ∙ listed test page frame entries e (passes frame o))
+    which false o = either (list_any (same_page page) (oldest_first test entries)) where
+      either : (b : Bool) → (if b then false else false) ≡ false
+      either true = refl
+      either false = refl
+
+not_some : (f : Option Frame) → is_some f ≡ false → f ≡ None
+not_some None e = refl
+not_some (Some frame) e = let never : ⊥ = cc in absurd never
+
+pub invalidate : (images : List Image) (w : World) (c : ℕ) (blade : BladeView) (number : ℕ) (range : RangeView) (asked : Option PageView) (behind : List Msg)
+    → HasBlade c blade w → IsSoundBlade images w.perms blade → w.downs c ≡ Inv number range asked ∷ behind
+    → DoesMoves images w (took c behind w) c (after_message images (Inv number range asked) blade)
+invalidate images w c blade number range asked behind h sound head =
+    let pages = held_in range blade in
+    let changes = each is_some given_up given_up-changes pages blade sound.cache in
+    let after = (each_in given_up pages blade).blade in
+    acknowledges images w c blade is_some given_up pages behind _ h sound changes
+    (λ v has downs. answers_inv c after v number range asked (spared asked pages) behind has (ap (λ f. f c) downs ∙ head)
+    (λ page inside. not_some (frame_of page after.cache.entries) (block_gone is_some (stands_in (span_of range)) page blade.cache.entries after.cache.entries (λ frame o. inside) refl (changes.gone page))))
+
+pub lower : (images : List Image) (w : World) (c : ℕ) (blade : BladeView) (number : ℕ) (range : RangeView) (asked : PageView) (behind : List Msg)
+    → HasBlade c blade w → IsSoundBlade images w.perms blade → w.downs c ≡ Lower number range asked ∷ behind
+    → DoesMoves images w (took c behind w) c (after_message images (Lower number range asked) blade)
+lower images w c blade number range asked behind h sound head =
+    let pages = writable_in range blade in
+    let changes = each is_writable lowered lowered-changes pages blade sound.cache in
+    let after = (each_in lowered pages blade).blade in
+    acknowledges images w c blade is_writable lowered pages behind _ h sound changes
+    (λ v has downs. answers_lower c after v number range asked (spared (Some asked) pages) behind has (ap (λ f. f c) downs ∙ head)
+    (λ page inside. block_gone is_writable (stands_writable_in (span_of range)) page blade.cache.entries after.cache.entries (λ frame o. and_from _ _ inside o) refl (changes.gone page)))

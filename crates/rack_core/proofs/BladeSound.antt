@@ -1,0 +1,237 @@
+-- A blade stays sound when a hart goes on, when a request is added, and when one ends.
+use Rattle.std.proofs.Common.{◌≡◌, ℕ, ◌==◌, Bool, true, false, cond, not, ap, sym, refl, subst, List, [], ◌∷◌, ◌++◌, slice_get, slice_set, Option, Some, None, ◌∙◌}
+use Rattle.std.specs.Prelude.{option_and_then}
+use Rattle.std.specs.List.{AllByRecursion}
+use Rattle.std.proofs.lemmas.Bool.{eqb-true}
+use Rattle.std.proofs.lemmas.Option.{same_Some}
+use Rattle.mind_base.specs.Page.{PageView}
+use Rattle.mind_base.specs.Pending.{PendingView}
+use Rattle.mind_base.specs.declared.commands.Perm.{Perm}
+use Rattle.mind_base.specs.declared.ends.End.{End}
+use Rattle.mind_base.specs.declared.ends.End.TheVariants.{Running}
+use Rattle.mind_base.specs.declared.images.Image.{Image}
+use Rattle.mind_base.specs.declared.plans.ThreadPlan.{ThreadPlan}
+use Rattle.hart_effect.specs.Deed.{found}
+use Rattle.hart_effect.specs.Place.{place_of, page_at}
+use Rattle.page_cache.specs.PageCache.{same_page}
+use Rattle.page_cache.proofs.Laws.{same_page-true, same_page-refl}
+use Rattle.compute_blade.specs.Blade.{HartView, request_for, answered}
+use Rattle.compute_blade.specs.Messages.{awake}
+use Rattle.compute_blade.specs.Steps.{need_in}
+use Rattle.compute_blade.specs.declared.kept.Asked.{Asked}
+use Rattle.compute_blade.specs.declared.kept.Waits.{Waits}
+use Rattle.compute_blade.specs.declared.kept.Waits.TheVariants.{Step, Drain}
+use Rattle.rack_core.specs.BladeMoves.{hart_in, IsStepRequest, IsDrainRequest, IsRequestBy, IsRequest, MayWriteAll, AreStoresAllowed}
+use Rattle.rack_core.proofs.Lookups.{slice_get-set, slice_get-set_other}
+
+abbrev pub Harts : Type 0
+Harts = List (Option HartView)
+
+-- ---- harts
+
+in_place : (found : Option (Option HartView)) (hart : HartView) → option_and_then (λ hart. hart) found ≡ Some hart → found ≡ Some (Some hart)
+in_place None hart h = let never : ⊥ = cc in absurd never
+in_place (Some None) hart h = let never : ⊥ = cc in absurd never
+in_place (Some (Some other)) hart h = let same : other ≡ hart = cc in ap (λ x. Some (Some x)) same
+
+pub hart_in-set : (harts : Harts) (h : ℕ) (hart new : HartView) → hart_in harts h ≡ Some hart → hart_in (slice_set harts h (Some new)) h ≡ Some new
+hart_in-set harts h hart new e = ap (option_and_then (λ hart. hart)) (slice_get-set harts h (Some hart) (Some new) (in_place (slice_get harts h) hart e))
+
+pub hart_in-other : (harts : Harts) (h : ℕ) (new : HartView) (other : ℕ) → (other == h) ≡ false → hart_in (slice_set harts h (Some new)) other ≡ hart_in harts other
+hart_in-other harts h new other e = ap (option_and_then (λ hart. hart)) (slice_get-set_other harts h (Some new) other e)
+
+-- ---- a hart goes on
+
+-- the oldest store of a queue
+abbrev pub HasOldest : PendingView → List PendingView → Type 0
+HasOldest oldest stores = (newer : List PendingView) × (stores ≡ oldest ∷ newer)
+
+-- a hart whose step waits stands where it stood, and one whose drain waits has the same oldest store
+pub record Continues (old new : HartView) : Type 0 where
+  pub steps : old.stepping ≡ true → (new.stepping ≡ true) × (new.end ≡ old.end) × (new.regs ≡ old.regs)
+  pub drains : old.draining ≡ true → (new.draining ≡ true) × ((oldest : PendingView) → HasOldest oldest old.queue.stores → HasOldest oldest new.queue.stores)
+
+-- a request whose hart is another one
+request-other : (images : List Image) (threads : List ThreadPlan) (harts : Harts) (h : ℕ) (new : HartView) (asked : Asked) → (asked.hart == h) ≡ false
+    → (waits : Waits) → IsRequestBy waits images threads harts asked → IsRequestBy waits images threads (slice_set harts h (Some new)) asked
+request-other images threads harts h new asked away Step r = record {
+  plan = r.plan;
+  hart = r.hart;
+  image = r.image;
+  pc = r.pc;
+  thread = r.thread;
+  own = hart_in-other harts h new asked.hart away ∙ r.own;
+  waits = r.waits;
+  runs = r.runs;
+  code = r.code;
+  needs = r.needs;
+}
+request-other images threads harts h new asked away Drain r = record {
+  plan = r.plan;
+  hart = r.hart;
+  oldest = r.oldest;
+  newer = r.newer;
+  thread = r.thread;
+  own = hart_in-other harts h new asked.hart away ∙ r.own;
+  waits = r.waits;
+  queue = r.queue;
+  page = r.page;
+  write = r.write;
+}
+
+-- a request of the hart itself
+step-same : (images : List Image) (threads : List ThreadPlan) (harts : Harts) (old new : HartView) (asked : Asked) → hart_in harts asked.hart ≡ Some old
+    → (old.stepping ≡ true → (new.stepping ≡ true) × (new.end ≡ old.end) × (new.regs ≡ old.regs))
+    → IsStepRequest images threads harts asked → IsStepRequest images threads (slice_set harts asked.hart (Some new)) asked
+step-same images threads harts old new asked own steps r =
+    let is : r.hart ≡ old = same_Some _ _ (sym r.own ∙ own) in
+    let now = steps (ap (λ hart. hart.stepping) (sym is) ∙ r.waits) in
+    record {
+      plan = r.plan;
+      hart = new;
+      image = r.image;
+      pc = r.pc;
+      thread = r.thread;
+      own = hart_in-set harts asked.hart old new own;
+      waits = now.0;
+      runs = now.1 ∙ ap (λ hart. hart.end) (sym is) ∙ r.runs;
+      code = r.code;
+      needs = ap (λ regs. need_in (found r.image regs r.pc) r.plan.domain) (now.2 ∙ ap (λ hart. hart.regs) (sym is)) ∙ r.needs;
+    }
+
+drain-same : (threads : List ThreadPlan) (harts : Harts) (old new : HartView) (asked : Asked) → hart_in harts asked.hart ≡ Some old
+    → (old.draining ≡ true → (new.draining ≡ true) × ((oldest : PendingView) → HasOldest oldest old.queue.stores → HasOldest oldest new.queue.stores))
+    → IsDrainRequest threads harts asked → IsDrainRequest threads (slice_set harts asked.hart (Some new)) asked
+drain-same threads harts old new asked own drains r =
+    let is : r.hart ≡ old = same_Some _ _ (sym r.own ∙ own) in
+    let now = drains (ap (λ hart. hart.draining) (sym is) ∙ r.waits) in
+    let oldest = now.1 r.oldest (r.newer, ap (λ hart. hart.queue.stores) (sym is) ∙ r.queue) in
+    record {
+      plan = r.plan;
+      hart = new;
+      oldest = r.oldest;
+      newer = oldest.0;
+      thread = r.thread;
+      own = hart_in-set harts asked.hart old new own;
+      waits = now.0;
+      queue = oldest.1;
+      page = r.page;
+      write = r.write;
+    }
+
+request-same : (images : List Image) (threads : List ThreadPlan) (harts : Harts) (old new : HartView) (asked : Asked) → hart_in harts asked.hart ≡ Some old → Continues old new
+    → (waits : Waits) → IsRequestBy waits images threads harts asked → IsRequestBy waits images threads (slice_set harts asked.hart (Some new)) asked
+request-same images threads harts old new asked own goes Step r = step-same images threads harts old new asked own goes.steps r
+request-same images threads harts old new asked own goes Drain r = drain-same threads harts old new asked own goes.drains r
+
+-- by whether a request is of the hart
+of_hart : (images : List Image) (threads : List ThreadPlan) (harts : Harts) (h : ℕ) (new : HartView) (asked : Asked)
+    → (asked.hart ≡ h → IsRequest images threads (slice_set harts asked.hart (Some new)) asked)
+    → IsRequest images threads harts asked → IsRequest images threads (slice_set harts h (Some new)) asked
+of_hart images threads harts h new asked here r = by (asked.hart == h) refl where
+  by : (b : Bool) → (asked.hart == h) ≡ b → IsRequest images threads (slice_set harts h (Some new)) asked
+  by true e = let is = eqb-true asked.hart h e in subst (λ n. IsRequest images threads (slice_set harts n (Some new)) asked) is (here is)
+  by false e = request-other images threads harts h new asked e asked.waits r
+
+pub goes_on : (images : List Image) (threads : List ThreadPlan) (harts : Harts) (h : ℕ) (old new : HartView) → hart_in harts h ≡ Some old → Continues old new
+    → (requests : List Asked) → AllByRecursion (IsRequest images threads harts) requests → AllByRecursion (IsRequest images threads (slice_set harts h (Some new))) requests
+goes_on images threads harts h old new own goes [] all = tt
+goes_on images threads harts h old new own goes (asked ∷ requests) all = (
+  of_hart images threads harts h new asked
+      (λ is. request-same images threads harts old new asked (ap (hart_in harts) is ∙ own) goes asked.waits all.0) all.0,
+  goes_on images threads harts h old new own goes requests all.1,
+)
+
+-- ---- a request is added
+
+pub all-more : (P : Asked → Type 0) (requests : List Asked) (asked : Asked) → AllByRecursion P requests → P asked → AllByRecursion P (requests ++ asked ∷ [])
+all-more P [] asked all more = (more, tt)
+all-more P (first ∷ requests) asked all more = (all.0, all-more P requests asked all.1 more)
+
+-- ---- a request ends
+
+-- what is true of each request is true of the one that is found
+pub of_found : (P : Asked → Type 0) (page : PageView) (requests : List Asked) (asked : Asked) → AllByRecursion P requests → request_for page requests ≡ Some asked
+    → P asked × (asked.page ≡ page)
+of_found P page [] asked all e = let never : ⊥ = cc in absurd never
+of_found P page (first ∷ requests) asked all e = by (of_found P page requests asked all.1) (same_page page first.page) refl e where
+  by : (request_for page requests ≡ Some asked → P asked × (asked.page ≡ page)) → (b : Bool) → same_page page first.page ≡ b
+      → cond b (Some first) (request_for page requests) ≡ Some asked → P asked × (asked.page ≡ page)
+  by rest true s e = let is : first ≡ asked = same_Some _ _ e in
+      (subst P is all.0, ap (λ a. a.page) (sym is) ∙ sym (same_page-true page first.page s))
+  by rest false s e = rest e
+
+-- what is true of each request of another page is true of those that are left
+pub of_others : (P Q : Asked → Type 0) (page : PageView) → ((asked : Asked) → same_page page asked.page ≡ false → P asked → Q asked)
+    → (requests : List Asked) → AllByRecursion P requests → AllByRecursion Q (answered page requests)
+of_others P Q page step [] all = tt
+of_others P Q page step (asked ∷ requests) all = by (of_others P Q page step requests all.1) (same_page page asked.page) refl where
+  by : AllByRecursion Q (answered page requests) → (b : Bool) → same_page page asked.page ≡ b → AllByRecursion Q (cond (not b) (asked ∷ answered page requests) (answered page requests))
+  by rest true e = rest
+  by rest false e = (step asked e all.0, rest)
+
+never_same : (page other : PageView) → other ≡ page → same_page page other ≡ false → ⊥
+never_same page other is e = let no : true ≡ false = sym (ap (same_page page) is ∙ same_page-refl page) ∙ e in cc
+
+same_need : (images : List Image) (threads : List ThreadPlan) (harts : Harts) (one two : Asked) → two.hart ≡ one.hart
+    → IsStepRequest images threads harts one → IsStepRequest images threads harts two → two.page ≡ one.page
+same_need images threads harts one two same a b =
+    let plan : b.plan ≡ a.plan = same_Some _ _ (sym b.thread ∙ ap (slice_get threads) same ∙ a.thread) in
+    let hart : b.hart ≡ a.hart = same_Some _ _ (sym b.own ∙ ap (hart_in harts) same ∙ a.own) in
+    let image : b.image ≡ a.image = same_Some _ _ (sym b.code ∙ ap (λ (p : ThreadPlan). slice_get images p.image) plan ∙ a.code) in
+    let pc : b.pc ≡ a.pc = same_Running b.pc a.pc (sym b.runs ∙ ap (λ (x : HartView). x.end) hart ∙ a.runs) in
+    let need = sym b.needs ∙ (λ i. need_in (found (image i) (hart i).regs (pc i)) (plan i).domain) ∙ a.needs in
+    ap (λ n. n.page) (same_Some _ _ need)
+  where
+    same_Running : (a b : ℕ) → (let e : End = Running a in e) ≡ Running b → a ≡ b
+    same_Running a b e = cc
+
+same_store : (threads : List ThreadPlan) (harts : Harts) (one two : Asked) → two.hart ≡ one.hart
+    → IsDrainRequest threads harts one → IsDrainRequest threads harts two → two.page ≡ one.page
+same_store threads harts one two same a b =
+    let plan : b.plan ≡ a.plan = same_Some _ _ (sym b.thread ∙ ap (slice_get threads) same ∙ a.thread) in
+    let hart : b.hart ≡ a.hart = same_Some _ _ (sym b.own ∙ ap (hart_in harts) same ∙ a.own) in
+    let queue : b.oldest ∷ b.newer ≡ a.oldest ∷ a.newer = sym b.queue ∙ ap (λ (x : HartView). x.queue.stores) hart ∙ a.queue in
+    let oldest : b.oldest ≡ a.oldest = cc in
+    sym b.page ∙ (λ i. page_at (place_of (plan i).domain (oldest i).address)) ∙ a.page
+
+-- the hart of a request that ends is awake, and what it waits for besides is still out
+still : (images : List Image) (threads : List ThreadPlan) (harts : Harts) (asked : Asked) (hart : HartView) → hart_in harts asked.hart ≡ Some hart
+    → (waits : Waits) → IsRequestBy waits images threads harts asked → (other : Asked) → other.hart ≡ asked.hart → same_page asked.page other.page ≡ false
+    → (kind : Waits) → IsRequestBy kind images threads harts other
+    → IsRequestBy kind images threads (slice_set harts other.hart (Some (awake waits hart))) other
+still images threads harts asked hart own Step r other same apart Step s =
+    absurd (never_same asked.page other.page (same_need images threads harts asked other same r s) apart)
+still images threads harts asked hart own Step r other same apart Drain s =
+    drain-same threads harts hart (awake Step hart) other (ap (hart_in harts) same ∙ own) (λ e. (e, λ oldest q. q)) s
+still images threads harts asked hart own Drain r other same apart Step s =
+    step-same images threads harts hart (awake Drain hart) other (ap (hart_in harts) same ∙ own) (λ e. (e, refl, refl)) s
+still images threads harts asked hart own Drain r other same apart Drain s =
+    absurd (never_same asked.page other.page (same_store threads harts asked other same r s) apart)
+
+pub awakes : (images : List Image) (threads : List ThreadPlan) (harts : Harts) (asked : Asked) (hart : HartView) → hart_in harts asked.hart ≡ Some hart
+    → IsRequest images threads harts asked → (requests : List Asked) → AllByRecursion (IsRequest images threads harts) requests
+    → AllByRecursion (IsRequest images threads (slice_set harts asked.hart (Some (awake asked.waits hart)))) (answered asked.page requests)
+awakes images threads harts asked hart own r requests all =
+    of_others (IsRequest images threads harts) (IsRequest images threads (slice_set harts asked.hart (Some (awake asked.waits hart)))) asked.page
+    (λ other apart s. of_hart images threads harts asked.hart (awake asked.waits hart) other
+    (λ is. still images threads harts asked hart own asked.waits r other is apart other.waits s) s) requests all
+
+-- ---- stores that wait
+
+-- the stores of a hart that goes on are allowed, where they are
+pub allowed-hart : (perms : PageView → Perm) (threads : List ThreadPlan) (harts : Harts) (h : ℕ) (old new : HartView) → hart_in harts h ≡ Some old → AreStoresAllowed perms threads harts
+    → ((plan : ThreadPlan) → slice_get threads h ≡ Some plan → MayWriteAll perms plan.domain old.queue.stores → MayWriteAll perms plan.domain new.queue.stores)
+    → AreStoresAllowed perms threads (slice_set harts h (Some new))
+allowed-hart perms threads harts h old new own all step n plan hart thread now = by (n == h) refl where
+  by : (b : Bool) → (n == h) ≡ b → MayWriteAll perms plan.domain hart.queue.stores
+  by true e =
+      let is = eqb-true n h e in
+      let its : hart ≡ new = same_Some _ _ (sym now ∙ ap (hart_in (slice_set harts h (Some new))) is ∙ hart_in-set harts h old new own) in
+      let here : slice_get threads h ≡ Some plan = sym (ap (slice_get threads) is) ∙ thread in
+      subst (λ x. MayWriteAll perms plan.domain x.queue.stores) (sym its) (step plan here (all h plan old here own))
+  by false e = all n plan hart thread (sym (hart_in-other harts h new n e) ∙ now)
+
+pub allowed-more : (perms : PageView → Perm) (domain : ℕ) (stores more : List PendingView) → MayWriteAll perms domain stores → MayWriteAll perms domain more → MayWriteAll perms domain (stores ++ more)
+allowed-more perms domain [] more all rest = rest
+allowed-more perms domain (store ∷ stores) more all rest = (all.0, allowed-more perms domain stores more all.1 rest)

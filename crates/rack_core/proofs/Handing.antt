@@ -1,0 +1,202 @@
+-- A message that a link gave is handed to the node at its end, whichever node that is.
+use Rattle.std.proofs.Common.{◌≡◌, ℕ, ◌<◌, List, ◌∷◌, ◌++◌, length, slice_get, slice_set, Option, Some, ap, sym, refl, subst, ◌==◌, Bool, true, false, if◌then◌else◌, ◌∙◌}
+use Rattle.std.proofs.lemmas.Bool.{eqb-true, eq-eqb}
+use Rattle.std.proofs.lemmas.List.{length-set}
+use Rattle.std.proofs.lemmas.Option.{same_Some}
+use Rattle.std.specs.List.{AllByRecursion}
+use Rattle.mind_base.specs.Page.{PageView}
+use Rattle.mind_base.specs.declared.images.Image.{Image}
+use Rattle.mind_base.specs.declared.links.LinkKind.{LinkKind}
+use Rattle.mind_base.specs.declared.links.LinkKind.TheVariants.{Up, Down, To, From}
+use Rattle.mind_base.specs.declared.notes.Note.{Note}
+use Rattle.page_image.specs.PageImage.{PageImageView}
+use Rattle.protect_table.specs.Protect.{permission_at}
+use Rattle.wire_msg.specs.declared.msgs.Msg.{Msg}
+use Rattle.wire_msg.specs.declared.msgs.Msg.TheVariants.{Get, Fill, Deny, Back, Inv, Lower, Ack, Close, Closed, Reopen, Read, Image as image_message, Write, Zero}
+use Rattle.compute_blade.specs.Blade.{BladeView, Effect}
+use Rattle.compute_blade.specs.Messages.{after_message}
+use Rattle.memory_blade.specs.MemoryBlade as memory
+use Rattle.switch_core.specs.Switch.{SwitchView, place_in}
+use Rattle.coherence.specs.Facts.{IsCoherent, AreUps}
+use Rattle.coherence.specs.World.{World, put}
+use Rattle.coherence.proofs.Whole.{run_keeps}
+use Rattle.rack_core.specs.BladeMoves.{AreBladesSound, IsSoundBlade}
+use Rattle.rack_core.specs.Events.{BladeDoes, HandsTo}
+use Rattle.rack_core.specs.Rack.{RackView}
+use Rattle.rack_core.specs.Safe.{IsSound}
+use Rattle.rack_core.specs.Seen.{pending_on, seen}
+use Rattle.rack_core.specs.SwitchMoves.{AreAsked, AsksAt, LieBelow, LiesWhere, HasPlaces, with_front}
+use Rattle.rack_core.proofs.BladeHanded.{did, blade_handed}
+use Rattle.rack_core.proofs.BladeSeen.{pending-away}
+use Rattle.rack_core.proofs.Lookups.{slice_get-set, slice_get-set_other}
+use Rattle.rack_core.proofs.MemoryHanded.{memory_handed, asked_for, memory_keeps}
+use Rattle.rack_core.proofs.SwitchHanded.{Handed, switch_handed_up, switch_handed_from}
+
+-- what is handed to a memory blade asks for a page that lies there
+abbrev pub AsksOn : LinkKind → (PageView → Option (ℕ × ℕ)) → ℕ → Msg → Type 0
+AsksOn To places number message = AsksAt places number message
+AsksOn kind places number message = Unit {0}
+
+-- what comes of it: the rack is coherent with the rest still to be handed over, and sound, and pages lie
+-- where they lay
+pub record After (images : List Image) (kind : LinkKind) (number : ℕ) (rest : List Msg) (old new : RackView) : Type 0 where
+  pub flat : PageView → PageImageView
+  pub coherent : IsCoherent (with_front kind number rest (seen new flat))
+  pub sound : IsSound images new
+  pub places : place_in new.switch ≡ place_in old.switch
+
+-- ---- a compute blade
+
+-- what a blade does leaves the switch and the memory blades, and nothing more goes to memory blades
+pub record Leaves (old new : RackView) : Type 0 where
+  pub switch : new.switch ≡ old.switch
+  pub memories : new.memories ≡ old.memories
+  pub tos : (memory : ℕ) → pending_on new.net To memory ≡ pending_on old.net To memory
+
+pub blade_leaves : (c : ℕ) (act : BladeView → Option Effect) (old new : RackView) (noted : List Note) → BladeDoes c act old new noted → Leaves old new
+blade_leaves c act old new noted does =
+    let d = did c act old new noted does in
+    let acts = d.acts in
+    record {
+      switch = ap (λ (r : RackView). r.switch) acts.after;
+      memories = ap (λ (r : RackView). r.memories) acts.after;
+      tos = λ m. ap (λ (r : RackView). pending_on r.net To m) acts.after ∙ pending-away c d.effect.sent old.net acts.net acts.sent To m refl;
+    }
+
+pub still_sound : (images : List Image) (old new : RackView) → Leaves old new → AreBladesSound images new → IsSound images old → IsSound images new
+still_sound images old new leaves blades sound = record {
+  blades = blades;
+  switch = subst (λ (s : SwitchView). Rattle.rack_core.specs.SwitchMoves.IsSoundSwitch s) (sym leaves.switch) sound.switch;
+  asked = λ m. subst (λ (s : SwitchView). AllByRecursion (AsksAt (place_in s) m) (pending_on new.net To m)) (sym leaves.switch)
+      (subst (AllByRecursion (AsksAt (place_in old.switch) m)) (sym (leaves.tos m)) (sound.asked m));
+  room = λ m pages e. subst (λ (s : SwitchView). LieBelow (place_in s) m (length pages)) (sym leaves.switch)
+      (sound.room m pages (ap (λ ms. slice_get ms m) (sym leaves.memories) ∙ e));
+}
+
+handed_down : (images : List Image) (number : ℕ) (message : Msg) (rest : List Msg) (old new : RackView) (flat : PageView → PageImageView) (noted : List Note)
+    → IsCoherent (with_front Down number (message ∷ rest) (seen old flat)) → IsSound images old → HandsTo Down images number message old new noted
+    → After images Down number rest old new
+handed_down images number message rest old new flat noted safe sound hands =
+    let led = blade_handed images old new flat number message rest noted safe sound.blades hands in
+    let leaves = blade_leaves number (λ blade. Some (after_message images message blade)) old new noted hands in
+    record {
+      flat = led.leads.flat;
+      coherent = run_keeps _ _ led.leads.moves safe led.leads.run;
+      sound = still_sound images old new leaves led.leads.sound sound;
+      places = ap place_in leaves.switch;
+    }
+
+-- ---- the switch
+
+-- an image that goes back is of a page that lies somewhere
+lies_up : (w : World) (number : ℕ) (message : Msg) (behind : List Msg) → AreUps w number (message ∷ behind) → LiesWhere w message
+lies_up w number (Back page image) behind ups = ups.0.placed
+lies_up w number (Get page write) behind ups = tt
+lies_up w number (Fill page perm writable image) behind ups = tt
+lies_up w number (Deny page) behind ups = tt
+lies_up w number (Inv n range asked) behind ups = tt
+lies_up w number (Lower n range asked) behind ups = tt
+lies_up w number (Ack n count) behind ups = tt
+lies_up w number (Close n span ends) behind ups = tt
+lies_up w number (Closed n) behind ups = tt
+lies_up w number (Reopen n) behind ups = tt
+lies_up w number (Read phys blade page) behind ups = tt
+lies_up w number (image_message blade page image) behind ups = tt
+lies_up w number (Write phys image) behind ups = tt
+lies_up w number (Zero phys pages) behind ups = tt
+
+put-at : {X : Type 0} (k : ℕ) (x : X) (f : ℕ → X) → put k x f k ≡ x
+put-at k x f = ap (λ b. if b then x else f k) (eq-eqb k k refl)
+
+-- what the switch does leaves blades and memory blades
+switch_sound : (images : List Image) (first last : World) (old new : RackView) → IsSound images old → Handed first last new
+    → new.blades ≡ old.blades → new.memories ≡ old.memories → first.perms ≡ permission_at old.switch.protect → first.places ≡ place_in old.switch → IsSound images new
+switch_sound images first last old new sound handed blades memories perms places = record {
+  blades = λ c blade e. subst (λ f. IsSoundBlade images f blade) (sym perms ∙ handed.places.perms) (sound.blades c blade (ap (λ bs. slice_get bs c) (sym blades) ∙ e));
+  switch = handed.sound;
+  asked = handed.asked;
+  room = λ m pages e. subst (λ f. LieBelow f m (length pages)) (sym places ∙ handed.places.places) (sound.room m pages (ap (λ ms. slice_get ms m) (sym memories) ∙ e));
+}
+
+handed_up : (images : List Image) (number : ℕ) (message : Msg) (rest : List Msg) (old new : RackView) (flat : PageView → PageImageView) (noted : List Note)
+    → IsCoherent (with_front Up number (message ∷ rest) (seen old flat)) → IsSound images old → number < 8 → HandsTo Up images number message old new noted
+    → After images Up number rest old new
+handed_up images number message rest old new flat noted safe sound lt hands =
+    let w = with_front Up number (message ∷ rest) (seen old flat) in
+    let head = subst (AreUps w number) (put-at number (message ∷ (rest ++ pending_on old.net Up number)) (pending_on old.net Up)) (safe.ups number) in
+    let handed = switch_handed_up old new flat number message rest noted safe sound.switch sound.asked lt (lies_up w number message _ head) hands in
+    record {
+      flat = flat;
+      coherent = run_keeps _ _ handed.moves.0 safe handed.moves.1;
+      sound = switch_sound images w (with_front Up number rest (seen new flat)) old new sound handed
+          (ap (λ (r : RackView). r.blades) hands.after) (ap (λ (r : RackView). r.memories) hands.after) refl refl;
+      places = sym handed.places.places;
+    }
+
+handed_from : (images : List Image) (number : ℕ) (message : Msg) (rest : List Msg) (old new : RackView) (flat : PageView → PageImageView) (noted : List Note)
+    → IsCoherent (with_front From number (message ∷ rest) (seen old flat)) → IsSound images old → number < 8 → HandsTo From images number message old new noted
+    → After images From number rest old new
+handed_from images number message rest old new flat noted safe sound lt hands =
+    let w = with_front From number (message ∷ rest) (seen old flat) in
+    let handed = switch_handed_from old new flat number message rest noted safe sound.switch sound.asked lt hands in
+    record {
+      flat = flat;
+      coherent = run_keeps _ _ handed.moves.0 safe handed.moves.1;
+      sound = switch_sound images w (with_front From number rest (seen new flat)) old new sound handed
+          (ap (λ (r : RackView). r.blades) hands.after) (ap (λ (r : RackView). r.memories) hands.after) refl refl;
+      places = sym handed.places.places;
+    }
+
+-- ---- a memory blade
+
+-- as many images as there were
+length_after : (places : PageView → Option (ℕ × ℕ)) (number : ℕ) (images : List PageImageView) (message : Msg) → AsksAt places number message
+    → length (memory.after_message images message) ≡ length images
+length_after places number images (Read phys blade page) asks = refl
+length_after places number images (Write phys image) asks = length-set images phys image
+length_after places number images message asks = absurd asks
+
+-- each memory blade has an image for each page that lies there, when one has as many as it had
+room_after : (places : PageView → Option (ℕ × ℕ)) (memories : List (List PageImageView)) (number : ℕ) (images later : List PageImageView) → slice_get memories number ≡ Some images
+    → length later ≡ length images → ((m : ℕ) (pages : List PageImageView) → slice_get memories m ≡ Some pages → LieBelow places m (length pages))
+    → (m : ℕ) (pages : List PageImageView) → slice_get (slice_set memories number later) m ≡ Some pages → LieBelow places m (length pages)
+room_after places memories number images later there same room m pages e = by (m == number) refl where
+  by : (b : Bool) → (m == number) ≡ b → LieBelow places m (length pages)
+  by true is =
+      let here : m ≡ number = eqb-true m number is in
+      let now : later ≡ pages = same_Some _ _ (sym (slice_get-set memories number images later there) ∙ ap (slice_get (slice_set memories number later)) (sym here) ∙ e) in
+      subst (λ n. LieBelow places n (length pages)) (sym here) (subst (LieBelow places number) (sym same ∙ ap length now) (room number images there))
+  by false is = room m pages (sym (slice_get-set_other memories number later m is) ∙ e)
+
+handed_to : (images : List Image) (number : ℕ) (message : Msg) (rest : List Msg) (old new : RackView) (flat : PageView → PageImageView) (noted : List Note)
+    → IsCoherent (with_front To number (message ∷ rest) (seen old flat)) → IsSound images old → AsksAt (place_in old.switch) number message → HandsTo To images number message old new noted
+    → After images To number rest old new
+handed_to images number message rest old new flat noted safe sound asks hands =
+    let fits = asked_for (place_in old.switch) number (length hands.images) message asks (sound.room number hands.images hands.before) in
+    let led = memory_handed old new flat number message rest noted safe hands fits in
+    let switch : new.switch ≡ old.switch = ap (λ (r : RackView). r.switch) hands.after in
+    let rooms : (m : ℕ) (pages : List PageImageView) → slice_get new.memories m ≡ Some pages → LieBelow (place_in old.switch) m (length pages) =
+    λ m pages e. room_after (place_in old.switch) old.memories number hands.images (memory.after_message hands.images message) hands.before
+    (length_after (place_in old.switch) number hands.images message asks) sound.room m pages (ap (λ (r : RackView). slice_get r.memories m) (sym hands.after) ∙ e) in
+    record {
+      flat = flat;
+      coherent = run_keeps _ _ led.0 safe led.1;
+      sound = record {
+        blades = λ c blade e. subst (λ (s : SwitchView). IsSoundBlade images (permission_at s.protect) blade) (sym switch)
+            (sound.blades c blade (ap (λ (r : RackView). slice_get r.blades c) (sym hands.after) ∙ e));
+        switch = subst (λ (s : SwitchView). Rattle.rack_core.specs.SwitchMoves.IsSoundSwitch s) (sym switch) sound.switch;
+        asked = memory_keeps old new number message noted hands sound.asked;
+        room = λ m pages e. subst (λ (s : SwitchView). LieBelow (place_in s) m (length pages)) (sym switch) (rooms m pages e);
+      };
+      places = ap place_in switch;
+    }
+
+-- ---- whichever it is
+
+pub handed_over : (images : List Image) (kind : LinkKind) (number : ℕ) (message : Msg) (rest : List Msg) (old new : RackView) (flat : PageView → PageImageView) (noted : List Note)
+    → IsCoherent (with_front kind number (message ∷ rest) (seen old flat)) → IsSound images old → number < 8 → AsksOn kind (place_in old.switch) number message
+    → HandsTo kind images number message old new noted → After images kind number rest old new
+handed_over images Up number message rest old new flat noted safe sound lt asks hands = handed_up images number message rest old new flat noted safe sound lt hands
+handed_over images Down number message rest old new flat noted safe sound lt asks hands = handed_down images number message rest old new flat noted safe sound hands
+handed_over images To number message rest old new flat noted safe sound lt asks hands = handed_to images number message rest old new flat noted safe sound asks hands
+handed_over images From number message rest old new flat noted safe sound lt asks hands = handed_from images number message rest old new flat noted safe sound lt hands

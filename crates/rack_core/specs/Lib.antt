@@ -1,0 +1,9 @@
+pub mod BladeMoves
+pub mod Events
+pub mod Rack
+pub mod Safe
+pub mod Seen
+pub mod StandRuns
+pub mod Stands
+pub mod Start
+pub mod SwitchMoves

@@ -1,0 +1,70 @@
+ghost use Rattle.std.specs.Prelude.{◌≡◌, ℕ, List, Some, true};
+ghost use Rattle.mind_base.specs.Fit.{IsFit};
+ghost use Rattle.mind_base.specs.Page.{PageView};
+ghost use Rattle.mind_base.specs.declared.events.Event.{Event as event};
+ghost use Rattle.mind_base.specs.declared.images.Image.{Image as image};
+ghost use Rattle.mind_base.specs.declared.notes.Note.{Note as note};
+ghost use Rattle.mind_base.specs.declared.plans.RackPlan.{RackPlan as rack_plan};
+ghost use Rattle.page_cache.specs.declared.frames.Frame.{Frame as frame};
+ghost use Rattle.coherence.specs.Facts.{may, may_write, IsCoherent};
+ghost use Rattle.mind_base.specs.declared.events.Event.TheVariants.{Step, Drain};
+ghost use Rattle.page_image.specs.PageImage.{PageImageView};
+ghost use Rattle.rack_core.specs.Events.{Leads};
+ghost use Rattle.rack_core.specs.Rack.{RackView};
+ghost use Rattle.rack_core.specs.Safe.{IsSafe, IsOfRack, Reaches, AreOfRack};
+ghost use Rattle.rack_core.specs.Seen.{frame_at, region_at, seen};
+ghost use Rattle.rack_core.specs.StandRuns.{GoesWith, GoesOn};
+ghost use Rattle.tso_machine.specs.State.{Setup, State};
+ghost use Rattle.rack_core.specs.Start.{IsStart};
+
+/// What is true of a rack at every moment stays true by each event, whatever the network does: a step, a
+/// drain, an eviction, a delivery, a loss, a repeat or a resend; and so along every list of events. It is true
+/// of the rack of every plan that fits, before its first event.
+pub fn every_event_keeps_coherence()
+    ensures event_keeps { (images : List image) (e : event) (old new : RackView) (noted : List note)
+        → IsOfRack e → IsSafe images old → Leads images e old new noted → IsSafe images new }
+    ensures run_keeps { (images : List image) (events : List event) (old new : RackView) (noted : List note)
+        → AreOfRack events → IsSafe images old → Reaches images events old new noted → IsSafe images new }
+    ensures starts { (images : List image) (plan : rack_plan) (rack : RackView)
+        → IsFit plan → IsStart plan rack → IsSafe images rack }
+{}
+
+/// In every such rack a page that a blade may write is held by no other blade, and all blades that hold a
+/// page have the same bytes and tags of it.
+pub fn one_writer_in_the_rack()
+    ensures single_writer { (images : List image) (rack : RackView) (a b : ℕ) (page : PageView) (f g : frame)
+        → IsSafe images rack → frame_at rack.blades a page ≡ Some f → f.writable ≡ true
+        → frame_at rack.blades b page ≡ Some g → a ≡ b }
+    ensures same_image { (images : List image) (rack : RackView) (a b : ℕ) (page : PageView) (f g : frame)
+        → IsSafe images rack → frame_at rack.blades a page ≡ Some f → frame_at rack.blades b page ≡ Some g
+        → f.image ≡ g.image }
+{}
+
+/// Whatever a schedule of such events does, from a rack of a plan that fits: a page that a blade may write is
+/// held by no other blade; all blades that hold a page have the same bytes and tags of it; and the directory
+/// has an entry for each page that is held, which names its blade, as the owner if the blade may write it.
+pub fn caches_agree()
+    ensures single_writer { (images : List image) (plan : rack_plan) (first last : RackView) (events : List event) (noted : List note)
+        → IsFit plan → IsStart plan first → AreOfRack events → Reaches images events first last noted
+        → (a b : ℕ) (page : PageView) (f g : frame) → frame_at last.blades a page ≡ Some f → f.writable ≡ true
+        → frame_at last.blades b page ≡ Some g → a ≡ b }
+    ensures same_image { (images : List image) (plan : rack_plan) (first last : RackView) (events : List event) (noted : List note)
+        → IsFit plan → IsStart plan first → AreOfRack events → Reaches images events first last noted
+        → (a b : ℕ) (page : PageView) (f g : frame) → frame_at last.blades a page ≡ Some f → frame_at last.blades b page ≡ Some g
+        → f.image ≡ g.image }
+    ensures named { (images : List image) (plan : rack_plan) (first last : RackView) (events : List event) (noted : List note)
+        → IsFit plan → IsStart plan first → AreOfRack events → Reaches images events first last noted
+        → (blade : ℕ) (page : PageView) (f : frame) → frame_at last.blades blade page ≡ Some f
+        → (may (region_at last.switch.directory.entries page) blade ≡ true)
+        × (f.writable ≡ true → may_write (region_at last.switch.directory.entries page) blade ≡ true) }
+{}
+
+/// A step and a drain of a hart in a rack that stands for a state of the abstract machine note labels that lead
+/// the machine, whole, to a state that the rack stands for afterwards, while no hart's stores are spent: the
+/// same threads, and the newest images have the machine's bytes.
+pub fn steps_and_drains_run_the_machine()
+    ensures step { (images : List image) (setup : Setup) (h : ℕ) (old new : RackView) (noted : List note) (flat : PageView → PageImageView) (m : State)
+        → IsCoherent (seen old flat) → GoesWith images setup old flat m → Leads images (Step h) old new noted → GoesOn images setup m noted new }
+    ensures drain { (images : List image) (setup : Setup) (h : ℕ) (old new : RackView) (noted : List note) (flat : PageView → PageImageView) (m : State)
+        → IsCoherent (seen old flat) → GoesWith images setup old flat m → Leads images (Drain h) old new noted → GoesOn images setup m noted new }
+{}
