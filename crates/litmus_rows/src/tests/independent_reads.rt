@@ -1,0 +1,131 @@
+//! Independent reads of independent writes (IRIW): two threads store, and two read both words.
+use crate::tests::racks::FOUR;
+use crate::tests::reports::{Row, all_report};
+use std::test::Fail;
+
+const IRIW: &[&str] = &[
+    "000012b7 00100393 0072a023 00000513 00200893 00000073",
+    "00002337 00100393 00732023 00000513 00200893 00000073",
+    "000012b7 00002337 0002a403 00032483 00040513 00100893 00000073 00048513 00000073 00000513 00200893 00000073",
+    "000012b7 00002337 00032403 0002a483 00040513 00100893 00000073 00048513 00000073 00000513 00200893 00000073",
+];
+
+static INDEPENDENT_READS: [Row; 16] = [
+    // IRIW, all_zero.
+    Row {
+        rack: FOUR,
+        programs: IRIW,
+        schedule: "step 0\nstep 0\nstep 1\nstep 1\nstep 2\nstep 2\nstep 3\nstep 3\nstep 0\nstep 1\nstep 2\nstep 2\nstep 3\nstep 3\ndrain 0\ndrain 1\nstep 0\nstep 0\nstep 0\nstep 1\nstep 1\nstep 1\nstep 2\nstep 2\nstep 2\nstep 2\nstep 2\nstep 2\nstep 2\nstep 2\nstep 3\nstep 3\nstep 3\nstep 3\nstep 3\nstep 3\nstep 3\nstep 3\n",
+        report: "mind 1\nthread 0 exit 0 out -\nthread 1 exit 0 out -\nthread 2 exit 0 out 0000\nthread 3 exit 0 out 0000\ncounts events 38 labels 38 takes 0 gives 0 downs 0 peak 0 splits 0 merges 0\n",
+    },
+    // IRIW, x_first.
+    Row {
+        rack: FOUR,
+        programs: IRIW,
+        schedule: "step 0\nstep 0\nstep 1\nstep 1\nstep 2\nstep 2\nstep 3\nstep 3\nstep 0\nstep 1\nstep 3\ndrain 0\nstep 2\nstep 2\nstep 3\ndrain 1\nstep 0\nstep 0\nstep 0\nstep 1\nstep 1\nstep 1\nstep 2\nstep 2\nstep 2\nstep 2\nstep 2\nstep 2\nstep 2\nstep 2\nstep 3\nstep 3\nstep 3\nstep 3\nstep 3\nstep 3\nstep 3\nstep 3\n",
+        report: "mind 1\nthread 0 exit 0 out -\nthread 1 exit 0 out -\nthread 2 exit 0 out 0100\nthread 3 exit 0 out 0001\ncounts events 38 labels 38 takes 0 gives 0 downs 0 peak 0 splits 0 merges 0\n",
+    },
+    // IRIW, y_first.
+    Row {
+        rack: FOUR,
+        programs: IRIW,
+        schedule: "step 0\nstep 0\nstep 1\nstep 1\nstep 2\nstep 2\nstep 3\nstep 3\nstep 0\nstep 1\nstep 2\ndrain 1\nstep 3\nstep 3\nstep 2\ndrain 0\nstep 0\nstep 0\nstep 0\nstep 1\nstep 1\nstep 1\nstep 2\nstep 2\nstep 2\nstep 2\nstep 2\nstep 2\nstep 2\nstep 2\nstep 3\nstep 3\nstep 3\nstep 3\nstep 3\nstep 3\nstep 3\nstep 3\n",
+        report: "mind 1\nthread 0 exit 0 out -\nthread 1 exit 0 out -\nthread 2 exit 0 out 0001\nthread 3 exit 0 out 0100\ncounts events 38 labels 38 takes 0 gives 0 downs 0 peak 0 splits 0 merges 0\n",
+    },
+    // IRIW, all_one.
+    Row {
+        rack: FOUR,
+        programs: IRIW,
+        schedule: "step 0\nstep 0\nstep 1\nstep 1\nstep 2\nstep 2\nstep 3\nstep 3\nstep 0\nstep 1\ndrain 0\ndrain 1\nstep 2\nstep 2\nstep 3\nstep 3\nstep 0\nstep 0\nstep 0\nstep 1\nstep 1\nstep 1\nstep 2\nstep 2\nstep 2\nstep 2\nstep 2\nstep 2\nstep 2\nstep 2\nstep 3\nstep 3\nstep 3\nstep 3\nstep 3\nstep 3\nstep 3\nstep 3\n",
+        report: "mind 1\nthread 0 exit 0 out -\nthread 1 exit 0 out -\nthread 2 exit 0 out 0101\nthread 3 exit 0 out 0101\ncounts events 38 labels 38 takes 0 gives 0 downs 0 peak 0 splits 0 merges 0\n",
+    },
+    // IRIW, zero_zero_zero_one.
+    Row {
+        rack: FOUR,
+        programs: IRIW,
+        schedule: "step 0\nstep 0\nstep 1\nstep 1\nstep 2\nstep 2\nstep 3\nstep 3\nstep 0\nstep 1\nstep 2\ndrain 0\nstep 2\nstep 3\ndrain 1\nstep 3\nstep 0\nstep 0\nstep 0\nstep 1\nstep 1\nstep 1\nstep 2\nstep 2\nstep 2\nstep 2\nstep 2\nstep 2\nstep 2\nstep 2\nstep 3\nstep 3\nstep 3\nstep 3\nstep 3\nstep 3\nstep 3\nstep 3\n",
+        report: "mind 1\nthread 0 exit 0 out -\nthread 1 exit 0 out -\nthread 2 exit 0 out 0000\nthread 3 exit 0 out 0001\ncounts events 38 labels 38 takes 0 gives 0 downs 0 peak 0 splits 0 merges 0\n",
+    },
+    // IRIW, zero_zero_one_zero.
+    Row {
+        rack: FOUR,
+        programs: IRIW,
+        schedule: "step 0\nstep 0\nstep 1\nstep 1\nstep 2\nstep 2\nstep 3\nstep 3\nstep 0\nstep 1\nstep 2\nstep 2\ndrain 1\nstep 3\nstep 3\ndrain 0\nstep 0\nstep 0\nstep 0\nstep 1\nstep 1\nstep 1\nstep 2\nstep 2\nstep 2\nstep 2\nstep 2\nstep 2\nstep 2\nstep 2\nstep 3\nstep 3\nstep 3\nstep 3\nstep 3\nstep 3\nstep 3\nstep 3\n",
+        report: "mind 1\nthread 0 exit 0 out -\nthread 1 exit 0 out -\nthread 2 exit 0 out 0000\nthread 3 exit 0 out 0100\ncounts events 38 labels 38 takes 0 gives 0 downs 0 peak 0 splits 0 merges 0\n",
+    },
+    // IRIW, zero_zero_one_one.
+    Row {
+        rack: FOUR,
+        programs: IRIW,
+        schedule: "step 0\nstep 0\nstep 1\nstep 1\nstep 2\nstep 2\nstep 3\nstep 3\nstep 0\nstep 1\nstep 2\ndrain 0\nstep 2\ndrain 1\nstep 3\nstep 3\nstep 0\nstep 0\nstep 0\nstep 1\nstep 1\nstep 1\nstep 2\nstep 2\nstep 2\nstep 2\nstep 2\nstep 2\nstep 2\nstep 2\nstep 3\nstep 3\nstep 3\nstep 3\nstep 3\nstep 3\nstep 3\nstep 3\n",
+        report: "mind 1\nthread 0 exit 0 out -\nthread 1 exit 0 out -\nthread 2 exit 0 out 0000\nthread 3 exit 0 out 0101\ncounts events 38 labels 38 takes 0 gives 0 downs 0 peak 0 splits 0 merges 0\n",
+    },
+    // IRIW, zero_one_zero_zero.
+    Row {
+        rack: FOUR,
+        programs: IRIW,
+        schedule: "step 0\nstep 0\nstep 1\nstep 1\nstep 2\nstep 2\nstep 3\nstep 3\nstep 0\nstep 1\nstep 2\nstep 3\ndrain 1\nstep 2\nstep 3\ndrain 0\nstep 0\nstep 0\nstep 0\nstep 1\nstep 1\nstep 1\nstep 2\nstep 2\nstep 2\nstep 2\nstep 2\nstep 2\nstep 2\nstep 2\nstep 3\nstep 3\nstep 3\nstep 3\nstep 3\nstep 3\nstep 3\nstep 3\n",
+        report: "mind 1\nthread 0 exit 0 out -\nthread 1 exit 0 out -\nthread 2 exit 0 out 0001\nthread 3 exit 0 out 0000\ncounts events 38 labels 38 takes 0 gives 0 downs 0 peak 0 splits 0 merges 0\n",
+    },
+    // IRIW, zero_one_zero_one.
+    Row {
+        rack: FOUR,
+        programs: IRIW,
+        schedule: "step 0\nstep 0\nstep 1\nstep 1\nstep 2\nstep 2\nstep 3\nstep 3\nstep 0\nstep 1\nstep 2\ndrain 0\nstep 3\ndrain 1\nstep 2\nstep 3\nstep 0\nstep 0\nstep 0\nstep 1\nstep 1\nstep 1\nstep 2\nstep 2\nstep 2\nstep 2\nstep 2\nstep 2\nstep 2\nstep 2\nstep 3\nstep 3\nstep 3\nstep 3\nstep 3\nstep 3\nstep 3\nstep 3\n",
+        report: "mind 1\nthread 0 exit 0 out -\nthread 1 exit 0 out -\nthread 2 exit 0 out 0001\nthread 3 exit 0 out 0001\ncounts events 38 labels 38 takes 0 gives 0 downs 0 peak 0 splits 0 merges 0\n",
+    },
+    // IRIW, zero_one_one_one.
+    Row {
+        rack: FOUR,
+        programs: IRIW,
+        schedule: "step 0\nstep 0\nstep 1\nstep 1\nstep 2\nstep 2\nstep 3\nstep 3\nstep 0\nstep 1\ndrain 1\nstep 2\ndrain 0\nstep 2\nstep 3\nstep 3\nstep 0\nstep 0\nstep 0\nstep 1\nstep 1\nstep 1\nstep 2\nstep 2\nstep 2\nstep 2\nstep 2\nstep 2\nstep 2\nstep 2\nstep 3\nstep 3\nstep 3\nstep 3\nstep 3\nstep 3\nstep 3\nstep 3\n",
+        report: "mind 1\nthread 0 exit 0 out -\nthread 1 exit 0 out -\nthread 2 exit 0 out 0001\nthread 3 exit 0 out 0101\ncounts events 38 labels 38 takes 0 gives 0 downs 0 peak 0 splits 0 merges 0\n",
+    },
+    // IRIW, one_zero_zero_zero.
+    Row {
+        rack: FOUR,
+        programs: IRIW,
+        schedule: "step 0\nstep 0\nstep 1\nstep 1\nstep 2\nstep 2\nstep 3\nstep 3\nstep 0\nstep 1\nstep 3\nstep 3\ndrain 0\nstep 2\nstep 2\ndrain 1\nstep 0\nstep 0\nstep 0\nstep 1\nstep 1\nstep 1\nstep 2\nstep 2\nstep 2\nstep 2\nstep 2\nstep 2\nstep 2\nstep 2\nstep 3\nstep 3\nstep 3\nstep 3\nstep 3\nstep 3\nstep 3\nstep 3\n",
+        report: "mind 1\nthread 0 exit 0 out -\nthread 1 exit 0 out -\nthread 2 exit 0 out 0100\nthread 3 exit 0 out 0000\ncounts events 38 labels 38 takes 0 gives 0 downs 0 peak 0 splits 0 merges 0\n",
+    },
+    // IRIW, one_zero_one_one.
+    Row {
+        rack: FOUR,
+        programs: IRIW,
+        schedule: "step 0\nstep 0\nstep 1\nstep 1\nstep 2\nstep 2\nstep 3\nstep 3\nstep 0\nstep 1\ndrain 0\nstep 2\nstep 2\ndrain 1\nstep 3\nstep 3\nstep 0\nstep 0\nstep 0\nstep 1\nstep 1\nstep 1\nstep 2\nstep 2\nstep 2\nstep 2\nstep 2\nstep 2\nstep 2\nstep 2\nstep 3\nstep 3\nstep 3\nstep 3\nstep 3\nstep 3\nstep 3\nstep 3\n",
+        report: "mind 1\nthread 0 exit 0 out -\nthread 1 exit 0 out -\nthread 2 exit 0 out 0100\nthread 3 exit 0 out 0101\ncounts events 38 labels 38 takes 0 gives 0 downs 0 peak 0 splits 0 merges 0\n",
+    },
+    // IRIW, one_one_zero_zero.
+    Row {
+        rack: FOUR,
+        programs: IRIW,
+        schedule: "step 0\nstep 0\nstep 1\nstep 1\nstep 2\nstep 2\nstep 3\nstep 3\nstep 0\nstep 1\nstep 3\ndrain 1\nstep 3\ndrain 0\nstep 2\nstep 2\nstep 0\nstep 0\nstep 0\nstep 1\nstep 1\nstep 1\nstep 2\nstep 2\nstep 2\nstep 2\nstep 2\nstep 2\nstep 2\nstep 2\nstep 3\nstep 3\nstep 3\nstep 3\nstep 3\nstep 3\nstep 3\nstep 3\n",
+        report: "mind 1\nthread 0 exit 0 out -\nthread 1 exit 0 out -\nthread 2 exit 0 out 0101\nthread 3 exit 0 out 0000\ncounts events 38 labels 38 takes 0 gives 0 downs 0 peak 0 splits 0 merges 0\n",
+    },
+    // IRIW, one_one_zero_one.
+    Row {
+        rack: FOUR,
+        programs: IRIW,
+        schedule: "step 0\nstep 0\nstep 1\nstep 1\nstep 2\nstep 2\nstep 3\nstep 3\nstep 0\nstep 1\ndrain 0\nstep 2\nstep 3\ndrain 1\nstep 2\nstep 3\nstep 0\nstep 0\nstep 0\nstep 1\nstep 1\nstep 1\nstep 2\nstep 2\nstep 2\nstep 2\nstep 2\nstep 2\nstep 2\nstep 2\nstep 3\nstep 3\nstep 3\nstep 3\nstep 3\nstep 3\nstep 3\nstep 3\n",
+        report: "mind 1\nthread 0 exit 0 out -\nthread 1 exit 0 out -\nthread 2 exit 0 out 0101\nthread 3 exit 0 out 0001\ncounts events 38 labels 38 takes 0 gives 0 downs 0 peak 0 splits 0 merges 0\n",
+    },
+    // IRIW, one_one_one_zero.
+    Row {
+        rack: FOUR,
+        programs: IRIW,
+        schedule: "step 0\nstep 0\nstep 1\nstep 1\nstep 2\nstep 2\nstep 3\nstep 3\nstep 0\nstep 1\ndrain 1\nstep 3\nstep 3\ndrain 0\nstep 2\nstep 2\nstep 0\nstep 0\nstep 0\nstep 1\nstep 1\nstep 1\nstep 2\nstep 2\nstep 2\nstep 2\nstep 2\nstep 2\nstep 2\nstep 2\nstep 3\nstep 3\nstep 3\nstep 3\nstep 3\nstep 3\nstep 3\nstep 3\n",
+        report: "mind 1\nthread 0 exit 0 out -\nthread 1 exit 0 out -\nthread 2 exit 0 out 0101\nthread 3 exit 0 out 0100\ncounts events 38 labels 38 takes 0 gives 0 downs 0 peak 0 splits 0 merges 0\n",
+    },
+    // IRIW, tries_one_zero_one_zero.
+    Row {
+        rack: FOUR,
+        programs: IRIW,
+        schedule: "step 0\nstep 0\nstep 1\nstep 1\nstep 2\nstep 2\nstep 3\nstep 3\nstep 0\nstep 1\ndrain 0\nstep 2\nstep 2\ndrain 1\nstep 3\nstep 3\nstep 0\nstep 0\nstep 0\nstep 1\nstep 1\nstep 1\nstep 2\nstep 2\nstep 2\nstep 2\nstep 2\nstep 2\nstep 2\nstep 2\nstep 3\nstep 3\nstep 3\nstep 3\nstep 3\nstep 3\nstep 3\nstep 3\n",
+        report: "mind 1\nthread 0 exit 0 out -\nthread 1 exit 0 out -\nthread 2 exit 0 out 0100\nthread 3 exit 0 out 0101\ncounts events 38 labels 38 takes 0 gives 0 downs 0 peak 0 splits 0 merges 0\n",
+    },
+];
+
+#[test]
+fn each_allowed_outcome_of_independent_reads_is_reached(rt: HostRuntime) -> Result<(), Fail> {
+    all_report(&rt, &INDEPENDENT_READS)
+}

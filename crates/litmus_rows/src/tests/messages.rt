@@ -1,0 +1,149 @@
+//! Message passing (MP), load buffering (LB), and a write that one thread reads and passes on (WRC).
+use crate::tests::racks::{THREE, TWO};
+use crate::tests::reports::{Row, all_report};
+use std::test::Fail;
+
+const MP: &[&str] = &[
+    "000012b7 00002337 00100393 0072a023 00732023 00000513 00200893 00000073",
+    "000012b7 00002337 00032403 0002a483 00040513 00100893 00000073 00048513 00000073 00000513 00200893 00000073",
+];
+
+static MESSAGE_PASSING: [Row; 4] = [
+    // MP, both_zero.
+    Row {
+        rack: TWO,
+        programs: MP,
+        schedule: "step 0\nstep 0\nstep 0\nstep 1\nstep 1\nstep 0\nstep 0\nstep 1\nstep 1\ndrain 0\ndrain 0\nstep 0\nstep 0\nstep 0\nstep 1\nstep 1\nstep 1\nstep 1\nstep 1\nstep 1\nstep 1\nstep 1\n",
+        report: "mind 1\nthread 0 exit 0 out -\nthread 1 exit 0 out 0000\ncounts events 22 labels 22 takes 0 gives 0 downs 0 peak 0 splits 0 merges 0\n",
+    },
+    // MP, zero_one.
+    Row {
+        rack: TWO,
+        programs: MP,
+        schedule: "step 0\nstep 0\nstep 0\nstep 1\nstep 1\nstep 0\nstep 0\nstep 1\ndrain 0\nstep 1\ndrain 0\nstep 0\nstep 0\nstep 0\nstep 1\nstep 1\nstep 1\nstep 1\nstep 1\nstep 1\nstep 1\nstep 1\n",
+        report: "mind 1\nthread 0 exit 0 out -\nthread 1 exit 0 out 0001\ncounts events 22 labels 22 takes 0 gives 0 downs 0 peak 0 splits 0 merges 0\n",
+    },
+    // MP, both_one.
+    Row {
+        rack: TWO,
+        programs: MP,
+        schedule: "step 0\nstep 0\nstep 0\nstep 0\ndrain 0\nstep 0\ndrain 0\nstep 0\nstep 0\nstep 0\nstep 1\nstep 1\nstep 1\nstep 1\nstep 1\nstep 1\nstep 1\nstep 1\nstep 1\nstep 1\nstep 1\nstep 1\n",
+        report: "mind 1\nthread 0 exit 0 out -\nthread 1 exit 0 out 0101\ncounts events 22 labels 22 takes 0 gives 0 downs 0 peak 0 splits 0 merges 0\n",
+    },
+    // MP, tries_one_zero.
+    Row {
+        rack: TWO,
+        programs: MP,
+        schedule: "step 0\nstep 0\nstep 0\nstep 1\nstep 1\nstep 0\nstep 0\nstep 0\nstep 0\nstep 0\ndrain 0\nstep 1\nstep 1\ndrain 0\nstep 1\nstep 1\nstep 1\nstep 1\nstep 1\nstep 1\nstep 1\nstep 1\n",
+        report: "mind 1\nthread 0 exit 0 out -\nthread 1 exit 0 out 0001\ncounts events 22 labels 22 takes 0 gives 0 downs 0 peak 0 splits 0 merges 0\n",
+    },
+];
+
+const LB: &[&str] = &[
+    "000012b7 00002337 00100393 0002a503 00732023 00100893 00000073 00000513 00200893 00000073",
+    "000012b7 00002337 00100393 00032503 0072a023 00100893 00000073 00000513 00200893 00000073",
+];
+
+static LOAD_BUFFERING: [Row; 4] = [
+    // LB, both_zero.
+    Row {
+        rack: TWO,
+        programs: LB,
+        schedule: "step 0\nstep 0\nstep 0\nstep 1\nstep 1\nstep 1\nstep 0\nstep 1\nstep 0\nstep 1\ndrain 0\ndrain 1\nstep 0\nstep 0\nstep 0\nstep 0\nstep 0\nstep 1\nstep 1\nstep 1\nstep 1\nstep 1\n",
+        report: "mind 1\nthread 0 exit 0 out 00\nthread 1 exit 0 out 00\ncounts events 22 labels 22 takes 0 gives 0 downs 0 peak 0 splits 0 merges 0\n",
+    },
+    // LB, zero_one.
+    Row {
+        rack: TWO,
+        programs: LB,
+        schedule: "step 0\nstep 0\nstep 0\nstep 0\nstep 0\ndrain 0\nstep 0\nstep 0\nstep 0\nstep 0\nstep 0\nstep 1\nstep 1\nstep 1\nstep 1\nstep 1\ndrain 1\nstep 1\nstep 1\nstep 1\nstep 1\nstep 1\n",
+        report: "mind 1\nthread 0 exit 0 out 00\nthread 1 exit 0 out 01\ncounts events 22 labels 22 takes 0 gives 0 downs 0 peak 0 splits 0 merges 0\n",
+    },
+    // LB, one_zero.
+    Row {
+        rack: TWO,
+        programs: LB,
+        schedule: "step 1\nstep 1\nstep 1\nstep 1\nstep 1\ndrain 1\nstep 1\nstep 1\nstep 1\nstep 1\nstep 1\nstep 0\nstep 0\nstep 0\nstep 0\nstep 0\ndrain 0\nstep 0\nstep 0\nstep 0\nstep 0\nstep 0\n",
+        report: "mind 1\nthread 0 exit 0 out 01\nthread 1 exit 0 out 00\ncounts events 22 labels 22 takes 0 gives 0 downs 0 peak 0 splits 0 merges 0\n",
+    },
+    // LB, tries_both_one.
+    Row {
+        rack: TWO,
+        programs: LB,
+        schedule: "step 0\nstep 0\nstep 0\nstep 1\nstep 1\nstep 1\nstep 0\nstep 0\ndrain 0\nstep 1\nstep 1\ndrain 1\nstep 0\nstep 0\nstep 0\nstep 0\nstep 0\nstep 1\nstep 1\nstep 1\nstep 1\nstep 1\n",
+        report: "mind 1\nthread 0 exit 0 out 00\nthread 1 exit 0 out 01\ncounts events 22 labels 22 takes 0 gives 0 downs 0 peak 0 splits 0 merges 0\n",
+    },
+];
+
+const WRC: &[&str] = &[
+    "000012b7 00100393 0072a023 00000513 00200893 00000073",
+    "000012b7 00002337 00100393 0002a503 00732023 00100893 00000073 00000513 00200893 00000073",
+    "000012b7 00002337 00032403 0002a483 00040513 00100893 00000073 00048513 00000073 00000513 00200893 00000073",
+];
+
+static WRITE_TO_READ: [Row; 8] = [
+    // WRC, all_zero.
+    Row {
+        rack: THREE,
+        programs: WRC,
+        schedule: "step 0\nstep 0\nstep 1\nstep 1\nstep 1\nstep 2\nstep 2\nstep 2\nstep 2\nstep 1\nstep 1\ndrain 1\nstep 0\ndrain 0\nstep 0\nstep 0\nstep 0\nstep 1\nstep 1\nstep 1\nstep 1\nstep 1\nstep 2\nstep 2\nstep 2\nstep 2\nstep 2\nstep 2\nstep 2\nstep 2\n",
+        report: "mind 1\nthread 0 exit 0 out -\nthread 1 exit 0 out 00\nthread 2 exit 0 out 0000\ncounts events 30 labels 30 takes 0 gives 0 downs 0 peak 0 splits 0 merges 0\n",
+    },
+    // WRC, zero_zero_one.
+    Row {
+        rack: THREE,
+        programs: WRC,
+        schedule: "step 0\nstep 0\nstep 1\nstep 1\nstep 1\nstep 2\nstep 2\nstep 1\nstep 1\nstep 0\ndrain 0\nstep 2\nstep 2\ndrain 1\nstep 0\nstep 0\nstep 0\nstep 1\nstep 1\nstep 1\nstep 1\nstep 1\nstep 2\nstep 2\nstep 2\nstep 2\nstep 2\nstep 2\nstep 2\nstep 2\n",
+        report: "mind 1\nthread 0 exit 0 out -\nthread 1 exit 0 out 00\nthread 2 exit 0 out 0001\ncounts events 30 labels 30 takes 0 gives 0 downs 0 peak 0 splits 0 merges 0\n",
+    },
+    // WRC, zero_one_zero.
+    Row {
+        rack: THREE,
+        programs: WRC,
+        schedule: "step 1\nstep 1\nstep 1\nstep 1\nstep 1\ndrain 1\nstep 1\nstep 1\nstep 1\nstep 1\nstep 1\nstep 2\nstep 2\nstep 2\nstep 2\nstep 2\nstep 2\nstep 2\nstep 2\nstep 2\nstep 2\nstep 2\nstep 2\nstep 0\nstep 0\nstep 0\ndrain 0\nstep 0\nstep 0\nstep 0\n",
+        report: "mind 1\nthread 0 exit 0 out -\nthread 1 exit 0 out 00\nthread 2 exit 0 out 0100\ncounts events 30 labels 30 takes 0 gives 0 downs 0 peak 0 splits 0 merges 0\n",
+    },
+    // WRC, zero_one_one.
+    Row {
+        rack: THREE,
+        programs: WRC,
+        schedule: "step 1\nstep 1\nstep 1\nstep 1\nstep 1\ndrain 1\nstep 1\nstep 1\nstep 1\nstep 1\nstep 1\nstep 0\nstep 0\nstep 0\ndrain 0\nstep 0\nstep 0\nstep 0\nstep 2\nstep 2\nstep 2\nstep 2\nstep 2\nstep 2\nstep 2\nstep 2\nstep 2\nstep 2\nstep 2\nstep 2\n",
+        report: "mind 1\nthread 0 exit 0 out -\nthread 1 exit 0 out 00\nthread 2 exit 0 out 0101\ncounts events 30 labels 30 takes 0 gives 0 downs 0 peak 0 splits 0 merges 0\n",
+    },
+    // WRC, one_zero_zero.
+    Row {
+        rack: THREE,
+        programs: WRC,
+        schedule: "step 0\nstep 0\nstep 1\nstep 1\nstep 1\nstep 2\nstep 2\nstep 2\nstep 2\nstep 0\ndrain 0\nstep 1\nstep 1\ndrain 1\nstep 0\nstep 0\nstep 0\nstep 1\nstep 1\nstep 1\nstep 1\nstep 1\nstep 2\nstep 2\nstep 2\nstep 2\nstep 2\nstep 2\nstep 2\nstep 2\n",
+        report: "mind 1\nthread 0 exit 0 out -\nthread 1 exit 0 out 01\nthread 2 exit 0 out 0000\ncounts events 30 labels 30 takes 0 gives 0 downs 0 peak 0 splits 0 merges 0\n",
+    },
+    // WRC, one_zero_one.
+    Row {
+        rack: THREE,
+        programs: WRC,
+        schedule: "step 0\nstep 0\nstep 1\nstep 1\nstep 1\nstep 2\nstep 2\nstep 0\ndrain 0\nstep 1\nstep 1\nstep 2\nstep 2\ndrain 1\nstep 0\nstep 0\nstep 0\nstep 1\nstep 1\nstep 1\nstep 1\nstep 1\nstep 2\nstep 2\nstep 2\nstep 2\nstep 2\nstep 2\nstep 2\nstep 2\n",
+        report: "mind 1\nthread 0 exit 0 out -\nthread 1 exit 0 out 01\nthread 2 exit 0 out 0001\ncounts events 30 labels 30 takes 0 gives 0 downs 0 peak 0 splits 0 merges 0\n",
+    },
+    // WRC, all_one.
+    Row {
+        rack: THREE,
+        programs: WRC,
+        schedule: "step 0\nstep 0\nstep 0\ndrain 0\nstep 0\nstep 0\nstep 0\nstep 1\nstep 1\nstep 1\nstep 1\nstep 1\ndrain 1\nstep 1\nstep 1\nstep 1\nstep 1\nstep 1\nstep 2\nstep 2\nstep 2\nstep 2\nstep 2\nstep 2\nstep 2\nstep 2\nstep 2\nstep 2\nstep 2\nstep 2\n",
+        report: "mind 1\nthread 0 exit 0 out -\nthread 1 exit 0 out 01\nthread 2 exit 0 out 0101\ncounts events 30 labels 30 takes 0 gives 0 downs 0 peak 0 splits 0 merges 0\n",
+    },
+    // WRC, tries_one_one_zero.
+    Row {
+        rack: THREE,
+        programs: WRC,
+        schedule: "step 0\nstep 0\nstep 1\nstep 1\nstep 1\nstep 2\nstep 2\nstep 0\nstep 1\nstep 1\ndrain 1\nstep 2\nstep 2\ndrain 0\nstep 0\nstep 0\nstep 0\nstep 1\nstep 1\nstep 1\nstep 1\nstep 1\nstep 2\nstep 2\nstep 2\nstep 2\nstep 2\nstep 2\nstep 2\nstep 2\n",
+        report: "mind 1\nthread 0 exit 0 out -\nthread 1 exit 0 out 00\nthread 2 exit 0 out 0100\ncounts events 30 labels 30 takes 0 gives 0 downs 0 peak 0 splits 0 merges 0\n",
+    },
+];
+
+#[test]
+fn each_allowed_outcome_of_passing_a_message_is_reached(rt: HostRuntime) -> Result<(), Fail> {
+    all_report(&rt, &MESSAGE_PASSING)?;
+    all_report(&rt, &LOAD_BUFFERING)?;
+    all_report(&rt, &WRITE_TO_READ)?;
+    Ok(())
+}
