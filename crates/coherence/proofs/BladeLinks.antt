@@ -6,7 +6,7 @@ use Rattle.mind_base.specs.Page.{PageView}
 use Rattle.mind_base.specs.declared.commands.Perm.{Perm}
 use Rattle.mind_base.specs.declared.notes.State.{State}
 use Rattle.mind_base.specs.declared.notes.State.TheVariants.{I, S, M}
-use Rattle.region_directory.specs.Block.{in_range}
+use Rattle.mind_base.specs.Range.{in_range}
 use Rattle.region_directory.specs.declared.entries.Busy.{Busy}
 use Rattle.page_cache.proofs.Laws.{same_page-refl}
 use Rattle.page_cache.specs.declared.frames.Frame.{Frame}

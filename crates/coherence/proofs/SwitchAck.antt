@@ -3,7 +3,7 @@ use Rattle.std.proofs.Common.{◌≡◌, ◌⊎◌, inl, inr, refl, sym, ℕ, �
 use Rattle.std.specs.Prelude.{if◌then◌else◌}
 use Rattle.std.proofs.lemmas.Bool.Decides.{nat_tests}
 use Rattle.mind_base.specs.Page.{PageView}
-use Rattle.region_directory.specs.Block.{in_range}
+use Rattle.mind_base.specs.Range.{in_range}
 use Rattle.region_directory.specs.declared.entries.Busy.{Busy}
 use Rattle.invalidate_multicast.specs.Blades.{has_blade}
 use Rattle.page_cache.proofs.Laws.{same_page-refl}

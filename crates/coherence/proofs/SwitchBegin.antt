@@ -4,8 +4,7 @@ use Rattle.std.specs.Prelude.{if◌then◌else◌}
 use Rattle.std.proofs.lemmas.Bool.{and_parts, and_from}
 use Rattle.std.proofs.lemmas.Bool.Decides.{nat_tests}
 use Rattle.mind_base.specs.Page.{PageView}
-use Rattle.mind_base.specs.Range.{RangeView}
-use Rattle.region_directory.specs.Block.{in_range}
+use Rattle.mind_base.specs.Range.{RangeView, in_range}
 use Rattle.region_directory.specs.declared.entries.Busy.{Busy}
 use Rattle.invalidate_multicast.specs.Blades.{has_blade}
 use Rattle.wire_msg.specs.declared.msgs.Msg.{Msg}

@@ -2,8 +2,7 @@
 use Rattle.std.proofs.Common.{◌≡◌, refl, ℕ, Bool, true, false, Option, Some, None, IfSome, subst, arith}
 use Rattle.std.specs.Prelude.{if◌then◌else◌}
 use Rattle.mind_base.specs.Page.{PageView}
-use Rattle.mind_base.specs.Range.{RangeView}
-use Rattle.region_directory.specs.Block.{in_range}
+use Rattle.mind_base.specs.Range.{RangeView, in_range}
 use Rattle.region_directory.specs.declared.entries.Busy.{Busy}
 use Rattle.coherence.specs.World.{Region, World, put_range}
 use Rattle.coherence.specs.Facts.{IsCoherent, AreBlocks, transition, may, may_write}

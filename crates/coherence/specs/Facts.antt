@@ -9,7 +9,7 @@ use Rattle.mind_base.specs.declared.notes.State.TheVariants.{I, S, M}
 use Rattle.invalidate_multicast.specs.Blades.{has_blade}
 use Rattle.page_cache.specs.declared.frames.Frame.{Frame}
 use Rattle.page_image.specs.PageImage.{PageImageView}
-use Rattle.region_directory.specs.Block.{in_range}
+use Rattle.mind_base.specs.Range.{in_range}
 use Rattle.region_directory.specs.declared.entries.Busy.{Busy}
 use Rattle.wire_msg.specs.declared.msgs.Msg.{Msg}
 use Rattle.wire_msg.specs.declared.msgs.Msg.TheVariants.{Get, Fill, Deny, Back, Inv, Lower, Ack, Read, Image, Write}

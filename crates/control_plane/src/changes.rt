@@ -1,6 +1,6 @@
 ghost use Rattle.std.specs.Prelude.{◌≡◌, ◌≤◌, OnOk, OnErr};
 ghost use Rattle.std.specs.List.{list_any};
-ghost use Rattle.mind_base.specs.Home.{in_span};
+ghost use Rattle.mind_base.specs.Span.{in_span};
 ghost use Rattle.mind_base.specs.Cover.{cover_of};
 ghost use Rattle.protect_table.specs.Protect.{permission_at, changed};
 ghost use Rattle.control_plane.specs.Outcome.{are_placed, are_mapped, are_unmapped, outcome_in, IsChange, permissions_after, outcome_of};

@@ -4,8 +4,7 @@ use Rattle.std.specs.Option.{option_map_or}
 use Rattle.std.specs.Map.{lookup}
 use Rattle.mind_base.specs.Page.{page_of}
 use Rattle.mind_base.specs.Pending.{PendingView, covers, byte_at}
-use Rattle.mind_base.specs.Span.{SpanView}
-use Rattle.mind_base.specs.Home.{in_span}
+use Rattle.mind_base.specs.Span.{SpanView, in_span}
 
 -- for each domain the pages that are kept, each with its number and its bytes
 pub record MemoryView : Type 0 where

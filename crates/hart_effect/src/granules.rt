@@ -1,5 +1,5 @@
 ghost use Rattle.std.specs.Prelude.{◌≡◌, ◌<◌};
-ghost use Rattle.mind_base.specs.Home.{in_span};
+ghost use Rattle.mind_base.specs.Span.{in_span};
 ghost use Rattle.hart_effect.specs.Place.{page_with};
 ghost use Rattle.hart_effect.specs.Place.{granule_at, place_of};
 

@@ -1,12 +1,8 @@
 -- Where pages have their home.
-use Rattle.std.specs.Prelude.{ℕ, ◌+◌, ◌-◌, Bool, ◌&&◌, ◌==◌, nat_lt, nat_le, List, [], ◌∷◌, Option, Some, None, is_some, if◌then◌else◌, option_map}
+use Rattle.std.specs.Prelude.{ℕ, ◌+◌, ◌-◌, List, [], ◌∷◌, Option, Some, None, is_some, if◌then◌else◌, option_map}
 use Rattle.mind_base.specs.Page.{PageView}
-use Rattle.mind_base.specs.Span.{SpanView}
+use Rattle.mind_base.specs.Span.{SpanView, in_span}
 use Rattle.mind_base.specs.declared.plans.MemoryPlan.{MemoryPlan}
-
--- the test whether a page is one of a run's
-abbrev pub in_span : SpanView → PageView → Bool
-in_span span page = page.domain == span.domain && nat_le span.base page.number && nat_lt page.number (span.base + span.pages)
 
 -- the number of a page among the pages of these runs, counted from 0 in order
 abbrev pub place_in : List SpanView → PageView → Option ℕ

@@ -9,6 +9,7 @@ pub mod Number
 pub mod Page
 pub mod Pending
 pub mod Permission
+pub mod Place
 pub mod Range
 pub mod Sink
 pub mod Span

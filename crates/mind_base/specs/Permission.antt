@@ -1,7 +1,7 @@
 -- What a domain may do with a page: the last record that covers the page says it.
 use Rattle.std.specs.Prelude.{List, [], ◌∷◌, if◌then◌else◌}
 use Rattle.mind_base.specs.Page.{PageView}
-use Rattle.mind_base.specs.Home.{in_span}
+use Rattle.mind_base.specs.Span.{in_span}
 use Rattle.mind_base.specs.declared.commands.Perm.{Perm}
 use Rattle.mind_base.specs.declared.commands.Perm.TheVariants.{No}
 use Rattle.mind_base.specs.declared.plans.MapPlan.{MapPlan}

@@ -1,5 +1,5 @@
 -- Aligned blocks of pages.
-use Rattle.std.specs.Prelude.{◌≡◌, ℕ, ◌+◌, ◌-◌, ◌%◌, ◌<◌, ◌≤◌, ◌^◌, Option, Some, None, if◌then◌else◌, ◌==◌}
+use Rattle.std.specs.Prelude.{◌≡◌, ℕ, ◌+◌, ◌-◌, ◌%◌, ◌<◌, ◌≤◌, ◌^◌, Bool, ◌&&◌, nat_lt, nat_le, Option, Some, None, if◌then◌else◌, ◌==◌}
 use Rattle.mind_base.specs.Page.{PageView}
 
 -- an aligned block of 2 ^ log pages of one domain, from page number base on
@@ -17,6 +17,10 @@ pub record InRange (range : RangeView) (page : PageView) : Type 0 where
   pub domain : page.domain ≡ range.domain
   pub from : range.base ≤ page.number
   pub below : page.number < range.base + 2 ^ range.log
+
+-- the test whether a page is one of the block's
+abbrev pub in_range : RangeView → PageView → Bool
+in_range range page = page.domain == range.domain && nat_le range.base page.number && nat_lt page.number (range.base + 2 ^ range.log)
 
 -- the two halves of a block, the lower one first; one page has none
 abbrev pub halves_of : RangeView → Option (RangeView × RangeView)

@@ -20,9 +20,13 @@ abbrev pub held : Option Files → List ℕ → Option (Option (List ℕ))
 held None name = None
 held (Some files) name = Some (finite.get files name)
 
+-- a count that never falls when it rose by one; at the greatest 64-bit number it stands still
+abbrev pub risen : ℕ → ℕ
+risen count = min (count + 1) (2 ^ 64 - 1)
+
 -- A count that never falls rose; one that stands at the greatest 64-bit number counts as risen.
 abbrev pub Rises : ℕ → ℕ → Type 0
-Rises before now = min (before + 1) (2 ^ 64 - 1) ≤ now
+Rises before now = risen before ≤ now
 
 -- Why a read fails: a device failed, or the store misses the name, which it cannot where it tells that it holds it.
 abbrev pub FailedBy : Option (Option (List ℕ)) → ℕ → ℕ → ℕ → ℕ → Type 0

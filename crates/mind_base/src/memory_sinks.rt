@@ -1,4 +1,6 @@
-ghost use Rattle.std.specs.Prelude.{◌≡◌, [], Some, IfOk};
+ghost use Rattle.std.specs.Prelude.{◌≡◌, ◌≤◌, [], Some, IfOk};
+ghost use Rattle.mind_base.specs.Sink.{Writes};
+ghost use Rattle.mind_base.specs.MemSink.{Takes};
 
 use crate::{NoMemory, Sink, WriteError};
 use std::alloc::Global;
@@ -50,7 +52,12 @@ impl Sink for MemSink {
 
     ghost faults = { λ s. s.faults };
 
-    fn write_all(&mut self, bytes: &[u8]) -> Result<(), WriteError> {
+    /// Takes the bytes that there is room for; fails exactly where they do not all fit.
+    fn write_all(&mut self, bytes: &[u8]) -> Result<(), WriteError>
+        ensures takes { Takes self.old self.new bytes.now result }
+        ensures written { Writes (Some self.old.bytes) (Some self.new.bytes) self.old.faults self.new.faults bytes.now result }
+        ensures counts { self.old.faults ≤ self.new.faults }
+    {
         let left = self.room - self.bytes.len();
         if bytes.len() <= left {
             self.bytes.extend_from_slice(bytes).unwrap();

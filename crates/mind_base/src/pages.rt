@@ -1,5 +1,5 @@
 ghost use Rattle.std.specs.Prelude.{◌≡◌, ◌<◌};
-ghost use Rattle.mind_base.specs.Page.{page_of};
+ghost use Rattle.mind_base.specs.Page.{page_of, page_number_at, page_offset_at};
 
 use std::marker::Model;
 
@@ -30,7 +30,21 @@ impl Page {
     {
         Page {
             domain,
-            number: address / 4096,
+            number: Page::number_at(address),
         }
+    }
+
+    /// The number of the page that holds the byte at `address`, in its domain.
+    pub fn number_at(address: u32) -> u32
+        ensures { result ≡ page_number_at address }
+    {
+        address / 4096
+    }
+
+    /// Which byte of its page the one at `address` is, 0 to 4095.
+    pub fn offset_at(address: u32) -> u32
+        ensures { result ≡ page_offset_at address }
+    {
+        address % 4096
     }
 }

@@ -1,5 +1,5 @@
 ghost use Rattle.std.specs.Prelude.{◌≡◌, ◌↔◌, IsTrue};
-ghost use Rattle.mind_base.specs.Range.{InRange, halves_of, parent_of};
+ghost use Rattle.mind_base.specs.Range.{InRange, in_range, halves_of, parent_of};
 
 use crate::Page;
 use std::marker::Model;
@@ -27,7 +27,8 @@ impl Model for Range {
 impl Range {
     /// Whether the page is one of the block's.
     pub fn has(&self, page: Page) -> bool
-        ensures { IsTrue result ↔ InRange self.now page }
+        ensures test { result ≡ in_range self.now page }
+        ensures has { IsTrue result ↔ InRange self.now page }
     {
         page.domain == self.domain
             && page.number >= self.base

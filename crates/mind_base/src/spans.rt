@@ -1,5 +1,5 @@
-ghost use Rattle.std.specs.Prelude.{◌↔◌, IsTrue};
-ghost use Rattle.mind_base.specs.Span.{InSpan};
+ghost use Rattle.std.specs.Prelude.{◌≡◌, ◌↔◌, IsTrue};
+ghost use Rattle.mind_base.specs.Span.{InSpan, in_span};
 
 use crate::Page;
 use std::marker::Model;
@@ -27,7 +27,8 @@ impl Model for Span {
 impl Span {
     /// Whether the page is one of the run's.
     pub fn has(&self, page: Page) -> bool
-        ensures { IsTrue result ↔ InSpan self.now page }
+        ensures test { result ≡ in_span self.now page }
+        ensures has { IsTrue result ↔ InSpan self.now page }
     {
         page.domain == self.domain
             && page.number >= self.base

@@ -267,3 +267,20 @@ fn numbers_of_texts(rt: HostRuntime) {
         assert!(rt; number(text, limit) == Err(NumberFault::TooLarge { at }));
     }
 }
+
+#[test]
+fn a_byte_lies_in_its_page_and_its_granule(rt: HostRuntime) {
+    let place = Place::of(2, 0x1044);
+    assert_eq!(rt;
+        place.page(),
+        Page {
+            domain: 2,
+            number: 1
+        }
+    );
+    assert_eq!(rt; place.offset(), 0x44);
+    let granule = place.granule();
+    assert_eq!(rt; granule.number, 65);
+    assert_eq!(rt; granule.page(), place.page());
+    assert_eq!(rt; granule.index_in_page(), 1);
+}

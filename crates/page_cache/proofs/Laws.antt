@@ -7,8 +7,7 @@ use Rattle.std.proofs.lemmas.List.Folds.{find-append}
 use Rattle.std.proofs.lemmas.List.{reverse-append}
 use Rattle.lru.specs.LruCache.{LruCache, lru_cache, promoted, put_entries, displaced}
 use Rattle.mind_base.specs.Page.{PageView}
-use Rattle.mind_base.specs.Span.{SpanView, InSpan}
-use Rattle.mind_base.specs.Home.{in_span}
+use Rattle.mind_base.specs.Span.{SpanView, InSpan, in_span}
 use Rattle.page_cache.specs.declared.frames.Frame.{Frame}
 use Rattle.page_cache.specs.PageCache.{CacheView, same_page, frame_of, without, with_first, entries_after_put, put_from, put_of, put_kind_of, oldest_of}
 

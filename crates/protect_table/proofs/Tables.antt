@@ -6,8 +6,7 @@ use Rattle.std.proofs.lemmas.Bool.{and_left, and_right, lt-ltb, le-ltb, eq-eqb, 
 use Rattle.std.proofs.lemmas.List.{take_more}
 use Rattle.std.proofs.lemmas.List.Sums.{sum_by-cons, sum_by-set}
 use Rattle.mind_base.specs.Page.{PageView}
-use Rattle.mind_base.specs.Span.{SpanView, InSpan}
-use Rattle.mind_base.specs.Home.{in_span}
+use Rattle.mind_base.specs.Span.{SpanView, InSpan, in_span}
 use Rattle.mind_base.specs.Permission.{permission_from, permission_of}
 use Rattle.mind_base.specs.declared.plans.MapPlan.{MapPlan}
 use Rattle.mind_base.specs.Cover.{level, sum_below, cover_of, is_in_cover, is_uniform, has_uniform_parent}

@@ -2,8 +2,7 @@
 use Rattle.std.proofs.Common.{◌≡◌, ℕ, Bool, true, false, ap, sym, refl, Option, List, [], ◌∷◌, ◌++◌, Some, None, option_map, ◌∙◌, append-nil}
 use Rattle.std.specs.Prelude.{if◌then◌else◌}
 use Rattle.mind_base.specs.Page.{PageView}
-use Rattle.mind_base.specs.Range.{RangeView}
-use Rattle.region_directory.specs.Block.{in_range}
+use Rattle.mind_base.specs.Range.{RangeView, in_range}
 use Rattle.mind_base.specs.declared.commands.Perm.{Perm}
 use Rattle.page_cache.specs.PageCache.{IsPageCache, same_page, frame_of, without, with_change, lowered_frame}
 use Rattle.page_cache.specs.declared.frames.Frame.{Frame}

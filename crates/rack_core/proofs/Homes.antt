@@ -3,8 +3,8 @@ use Rattle.std.proofs.Common.{◌≡◌, ◌≢◌, ◌⊎◌, ℕ, zero, suc, �
 use Rattle.std.specs.List.{AllByRecursion}
 use Rattle.std.proofs.lemmas.Option.{same_Some, none-some}
 use Rattle.mind_base.specs.Page.{PageView}
-use Rattle.mind_base.specs.Span.{SpanView, InSpan}
-use Rattle.mind_base.specs.Home.{in_span, place_in, home_from, home_of}
+use Rattle.mind_base.specs.Span.{SpanView, InSpan, in_span}
+use Rattle.mind_base.specs.Home.{place_in, home_from, home_of}
 use Rattle.mind_base.specs.Fit.{IsFitMap}
 use Rattle.mind_base.specs.Permission.{permission_from}
 use Rattle.mind_base.specs.declared.commands.Perm.{Perm}

@@ -7,9 +7,9 @@ use Rattle.std.proofs.lemmas.Bool.{false≢true, and_parts}
 use Rattle.std.proofs.lemmas.Option.{none-some}
 use Rattle.std.proofs.lemmas.List.Sums.{count_by-le-length}
 use Rattle.mind_base.specs.Page.{PageView}
-use Rattle.mind_base.specs.Range.{RangeView}
+use Rattle.mind_base.specs.Range.{RangeView, in_range}
 use Rattle.mind_base.specs.declared.notes.State.TheVariants.{I}
-use Rattle.region_directory.specs.Block.{IsApart, in_range, is_before, are_apart, block_of}
+use Rattle.region_directory.specs.Block.{IsApart, is_before, are_apart, block_of}
 use Rattle.region_directory.specs.Entry.{place_of, fresh_entry, largest_free}
 use Rattle.region_directory.specs.declared.entries.Entry.{Entry}
 use Rattle.region_directory.proofs.BlockLemmas.{apart-from_test, one-page, test-from_has, block_of-InRange}

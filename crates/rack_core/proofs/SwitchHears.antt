@@ -15,7 +15,8 @@ use Rattle.protect_table.specs.Protect.{permission_at}
 use Rattle.invalidate_multicast.specs.First.{first_changed}
 use Rattle.invalidate_multicast.specs.Transition as transition
 use Rattle.invalidate_multicast.specs.Transition.{is_number, after_answer, is_answered}
-use Rattle.region_directory.specs.Block.{IsApart, in_range}
+use Rattle.region_directory.specs.Block.{IsApart}
+use Rattle.mind_base.specs.Range.{in_range}
 use Rattle.region_directory.specs.Entry.{with_busy, plus_hits}
 use Rattle.region_directory.specs.declared.entries.Busy.{Busy}
 use Rattle.region_directory.specs.declared.entries.Entry.{Entry}

@@ -5,8 +5,8 @@ use Rattle.std.specs.List.{AllByRecursion}
 use Rattle.std.proofs.lemmas.Option.{none-some, same_Some}
 use Rattle.std.proofs.lemmas.Bool.Decides.{nat_tests}
 use Rattle.mind_base.specs.Page.{PageView}
-use Rattle.mind_base.specs.Range.{RangeView}
-use Rattle.region_directory.specs.Block.{IsApart, in_range}
+use Rattle.mind_base.specs.Range.{RangeView, in_range}
+use Rattle.region_directory.specs.Block.{IsApart}
 use Rattle.region_directory.specs.Entry.{changed_at}
 use Rattle.region_directory.specs.declared.entries.Entry.{Entry}
 use Rattle.region_directory.proofs.BlockLemmas.{has-from_test}

@@ -9,7 +9,7 @@ use Rattle.mind_base.specs.Home.{home_of}
 use Rattle.invalidate_multicast.specs.Blades.{has_blade}
 use Rattle.invalidate_multicast.specs.Transition as transitions
 use Rattle.range_translate.specs.Place.{place_or_home, smallest_of}
-use Rattle.region_directory.specs.Block.{in_range}
+use Rattle.mind_base.specs.Range.{in_range}
 use Rattle.region_directory.specs.declared.entries.Busy.{Busy}
 use Rattle.region_directory.specs.declared.entries.Entry.{Entry}
 use Rattle.request_list.specs.Requests.{is_of}

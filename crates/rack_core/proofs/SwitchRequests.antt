@@ -5,10 +5,9 @@ use Rattle.std.specs.List.{AllByRecursion, list_any}
 use Rattle.std.proofs.lemmas.Option.{none-some, same_Some}
 use Rattle.std.proofs.lemmas.Bool.{eqb-true, eq-eqb, and_parts, and_from, false≢true, or_parts}
 use Rattle.mind_base.specs.Page.{PageView}
-use Rattle.mind_base.specs.Range.{RangeView}
+use Rattle.mind_base.specs.Range.{RangeView, in_range}
 use Rattle.page_cache.specs.PageCache.{same_page}
 use Rattle.page_cache.proofs.Laws.{same_page-true, same_page-refl}
-use Rattle.region_directory.specs.Block.{in_range}
 use Rattle.request_list.specs.Requests.{AreApart, is_of, fetching_at}
 use Rattle.request_list.specs.declared.requests.Request.{Request}
 use Rattle.switch_core.specs.Treating.{is_fetched, without_request}

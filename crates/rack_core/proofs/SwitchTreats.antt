@@ -7,7 +7,7 @@ use Rattle.std.proofs.lemmas.Option.{same_Some, get_or_from_slice_get}
 use Rattle.std.proofs.lemmas.List.Quantifiers.{position-Some}
 use Rattle.mind_base.specs.declared.notes.State.{State}
 use Rattle.mind_base.specs.declared.notes.State.TheVariants.{I, S, M}
-use Rattle.region_directory.specs.Block.{in_range}
+use Rattle.mind_base.specs.Range.{in_range}
 use Rattle.region_directory.specs.Entry.{place_of, fresh_entry}
 use Rattle.region_directory.specs.Room.{is_unheld, is_droppable, is_for_room, is_evictable, first_rule}
 use Rattle.region_directory.specs.declared.entries.Busy.{Busy}

@@ -3,8 +3,8 @@ use Rattle.std.proofs.Common.{◌≡◌, ◌≢◌, ℕ, ◌≤◌, Bool, true, 
 use Rattle.std.specs.List.{AllByRecursion}
 use Rattle.std.proofs.lemmas.Grind.{common_steps}
 use Rattle.mind_base.specs.Page.{PageView}
-use Rattle.mind_base.specs.Span.{SpanView, InSpan}
-use Rattle.mind_base.specs.Home.{in_span, home_of}
+use Rattle.mind_base.specs.Span.{SpanView, InSpan, in_span}
+use Rattle.mind_base.specs.Home.{home_of}
 use Rattle.mind_base.specs.Permission.{permission_from, permission_of}
 use Rattle.mind_base.specs.Cover.{level, cover_of}
 use Rattle.mind_base.specs.Fit.{IsApart, AreApart, IsFitMap, IsFit}

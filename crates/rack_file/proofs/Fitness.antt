@@ -3,8 +3,7 @@ use Rattle.std.proofs.Common.{◌≡◌, ℕ, ◌-◌, ◌%◌, ◌≤◌, Bool,
 use Rattle.std.specs.List.{AllByRecursion, list_any}
 use Rattle.std.proofs.lemmas.Grind.{common_steps}
 use Rattle.mind_base.specs.Page.{PageView}
-use Rattle.mind_base.specs.Span.{SpanView, InSpan}
-use Rattle.mind_base.specs.Home.{in_span}
+use Rattle.mind_base.specs.Span.{SpanView, InSpan, in_span}
 use Rattle.mind_base.specs.Fit.{Within, IsApart, AreApart, IsFitImage, IsFitThread}
 use Rattle.mind_base.specs.declared.plans.ImagePlan.{ImagePlan}
 use Rattle.mind_base.specs.declared.plans.ThreadPlan.{ThreadPlan}

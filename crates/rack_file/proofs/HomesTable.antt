@@ -4,8 +4,7 @@ use Rattle.std.proofs.Math.Path.{fun_ext}
 use Rattle.std.specs.List.{list_any}
 use Rattle.std.proofs.lemmas.List.{map-append}
 use Rattle.mind_base.specs.Page.{PageView}
-use Rattle.mind_base.specs.Span.{SpanView}
-use Rattle.mind_base.specs.Home.{in_span}
+use Rattle.mind_base.specs.Span.{SpanView, in_span}
 use Rattle.mind_base.specs.Cover.{level}
 use Rattle.mind_base.specs.Permission.{permission_from, permission_of}
 use Rattle.mind_base.specs.declared.commands.Perm.{Perm}

@@ -4,8 +4,7 @@ use Rattle.std.specs.List.{list_any}
 use Rattle.std.specs.Str.{bytes_eq}
 use Rattle.toml.specs.Data.{Data, Items, Members, get_member, as_table}
 use Rattle.mind_base.specs.Page.{PageView}
-use Rattle.mind_base.specs.Span.{SpanView}
-use Rattle.mind_base.specs.Home.{in_span}
+use Rattle.mind_base.specs.Span.{SpanView, in_span}
 use Rattle.mind_base.specs.Name.{is_name}
 use Rattle.mind_base.specs.Fit.{all_homes}
 use Rattle.mind_base.specs.Permission.{permission_of}

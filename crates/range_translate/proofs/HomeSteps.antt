@@ -4,8 +4,8 @@ use Rattle.std.specs.Option.{option_map}
 use Rattle.std.proofs.lemmas.List.{at_drop_more}
 use Rattle.std.proofs.lemmas.Bool.Decides.{nat_tests}
 use Rattle.mind_base.specs.Page.{PageView}
-use Rattle.mind_base.specs.Span.{SpanView, InSpan}
-use Rattle.mind_base.specs.Home.{in_span, place_in, home_from}
+use Rattle.mind_base.specs.Span.{SpanView, InSpan, in_span}
+use Rattle.mind_base.specs.Home.{place_in, home_from}
 use Rattle.mind_base.specs.Fit.{AreApart, all_homes}
 use Rattle.mind_base.specs.declared.plans.MemoryPlan.{MemoryPlan}
 use Rattle.range_translate.proofs.Apart.{AreApart-front, AreApart-rest}

@@ -2,7 +2,7 @@
 use Rattle.std.proofs.Common.{◌≡◌, Bool, true, false, cond, nat_lt, List, [], ◌∷◌, Option, Some, None, IsTrue, IfSome, refl}
 use Rattle.std.specs.List.{AllByRecursion}
 use Rattle.mind_base.specs.Page.{PageView}
-use Rattle.range_translate.specs.Block.{in_range}
+use Rattle.mind_base.specs.Range.{in_range}
 use Rattle.range_translate.specs.Place.{smaller_of, smallest_of}
 use Rattle.range_translate.specs.declared.outliers.Outlier.{Outlier}
 

@@ -6,10 +6,10 @@ use Rattle.std.proofs.lemmas.Bool.{cases_lt, false≢true}
 use Rattle.std.proofs.lemmas.Bool.Decides.{nat_tests}
 use Rattle.std.proofs.lemmas.List.Elements.{recursion_from_All}
 use Rattle.mind_base.specs.Page.{PageView}
-use Rattle.mind_base.specs.Range.{RangeView, IsRange, InRange}
+use Rattle.mind_base.specs.Range.{RangeView, IsRange, InRange, in_range}
 use Rattle.mind_base.specs.Home.{home_of}
 use Rattle.mind_base.proofs.Blocks.{up_to_nine}
-use Rattle.range_translate.specs.Block.{in_range, comes_before}
+use Rattle.range_translate.specs.Block.{comes_before}
 use Rattle.range_translate.specs.Order.{IsOrdered}
 use Rattle.range_translate.specs.Place.{smaller_of, smallest_of, place_or_home, place_in_outlier, place_of, IsSmallest}
 use Rattle.range_translate.specs.Table.{TableView, IsTable}

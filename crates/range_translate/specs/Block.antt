@@ -1,11 +1,6 @@
 -- Blocks of pages beside one another.
 use Rattle.std.specs.Prelude.{◌+◌, ◌^◌, Bool, ◌&&◌, ◌||◌, ◌==◌, nat_lt, nat_le}
-use Rattle.mind_base.specs.Page.{PageView}
 use Rattle.mind_base.specs.Range.{RangeView}
-
--- the test whether a page is one of a block's
-abbrev pub in_range : RangeView → PageView → Bool
-in_range range page = page.domain == range.domain && nat_le range.base page.number && nat_lt page.number (range.base + 2 ^ range.log)
 
 -- all pages of the first block are pages of the second one
 abbrev pub is_inside : RangeView → RangeView → Bool

@@ -1,11 +1,10 @@
 -- Where pages lie.
 use Rattle.std.specs.Prelude.{ℕ, ◌+◌, ◌-◌, ◌≤◌, ◌^◌, nat_lt, List, [], ◌∷◌, Option, Some, None, if◌then◌else◌, map, sum, option_map, All, Contains}
 use Rattle.mind_base.specs.Page.{PageView}
-use Rattle.mind_base.specs.Range.{InRange}
+use Rattle.mind_base.specs.Range.{InRange, in_range}
 use Rattle.mind_base.specs.Span.{SpanView}
 use Rattle.mind_base.specs.Home.{home_of}
 use Rattle.mind_base.specs.declared.plans.MemoryPlan.{MemoryPlan}
-use Rattle.range_translate.specs.Block.{in_range}
 use Rattle.range_translate.specs.declared.outliers.Outlier.{Outlier}
 
 -- how many pages these runs have together

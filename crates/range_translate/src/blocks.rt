@@ -1,16 +1,7 @@
 ghost use Rattle.std.specs.Prelude.{◌≡◌};
-ghost use Rattle.range_translate.specs.Block.{in_range, is_inside, encloses, is_same, comes_before};
+ghost use Rattle.range_translate.specs.Block.{is_inside, encloses, is_same, comes_before};
 
-use mind_base::{Page, Range};
-
-/// Whether the page is one of the block's.
-pub fn in_range(range: &Range, page: Page) -> bool
-    ensures { result ≡ in_range range.now page }
-{
-    page.domain == range.domain
-        && range.base <= page.number
-        && page.number < range.base + (1 << range.log)
-}
+use mind_base::Range;
 
 /// Whether all pages of the first block are pages of the second one.
 pub fn is_inside(inner: &Range, outer: &Range) -> bool

@@ -1,6 +1,7 @@
 ghost use Rattle.std.specs.Prelude.{◌≡◌, ◌≢◌, ◌+◌, ◌<◌, ◌≤◌, length, take, drop, count_by, find, filter, not, All, IsTrue, IfSome, vec_len, vec_capacity, if◌then◌else◌};
 ghost use Rattle.std.specs.List.{list_any};
-ghost use Rattle.range_translate.specs.Block.{in_range, is_inside, encloses, is_same, comes_before};
+ghost use Rattle.range_translate.specs.Block.{is_inside, encloses, is_same, comes_before};
+ghost use Rattle.mind_base.specs.Range.{in_range};
 ghost use Rattle.range_translate.specs.Place.{smallest_of, smaller_of, place_in_outlier, FitsOutlier};
 ghost use Rattle.range_translate.specs.Order.{IsOrdered, put_in_order};
 
@@ -27,7 +28,7 @@ pub fn smallest_of(outliers: &[Outlier], page: Page) -> Option<Outlier>
 fn smaller_with(outlier: &Outlier, other: Option<Outlier>, page: Page) -> Option<Outlier>
     ensures { result ≡ (if in_range outlier.now.range page then smaller_of outlier.now other else other) }
 {
-    if !blocks::in_range(&outlier.range, page) {
+    if !outlier.range.has(page) {
         return other;
     }
     match other {

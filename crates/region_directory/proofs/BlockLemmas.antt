@@ -5,8 +5,8 @@ use Rattle.std.proofs.lemmas.Bool.{true_from_ne_false, cases_lt}
 use Rattle.std.proofs.lemmas.Bool.Decides.{nat_tests}
 use Rattle.mind_base.proofs.Blocks.{up_to_nine}
 use Rattle.mind_base.specs.Page.{PageView, IsPage}
-use Rattle.mind_base.specs.Range.{RangeView, IsRange, InRange}
-use Rattle.region_directory.specs.Block.{IsApart, in_range, are_apart, block_of}
+use Rattle.mind_base.specs.Range.{RangeView, IsRange, InRange, in_range}
+use Rattle.region_directory.specs.Block.{IsApart, are_apart, block_of}
 
 -- a block has at most 512 pages
 pub pages-bound : (l : ℕ) → l ≤ 9 → 1 * 2 ^ l % 4294967296 ≤ 512

@@ -7,8 +7,8 @@ use Rattle.std.proofs.lemmas.Bool.Decides.{nat_tests}
 use Rattle.std.proofs.lemmas.List.Quantifiers.{position-Some}
 use Rattle.std.proofs.lemmas.List.Sums.{prefix_len_passes}
 use Rattle.mind_base.specs.Page.{PageView}
-use Rattle.mind_base.specs.Range.{RangeView, IsRange, InRange}
-use Rattle.region_directory.specs.Block.{in_range, are_apart, block_of}
+use Rattle.mind_base.specs.Range.{RangeView, IsRange, InRange, in_range}
+use Rattle.region_directory.specs.Block.{are_apart, block_of}
 use Rattle.region_directory.specs.Directory.{DirectoryView, IsDirectory}
 use Rattle.region_directory.specs.Entry.{HasPage, NoneHas, MeetsNone, fresh_entry, largest_free}
 use Rattle.region_directory.specs.declared.entries.Entry.{Entry}

@@ -11,10 +11,6 @@ IsApart a b = (page : PageView) → InRange a page → InRange b page → ⊥
 abbrev pub is_before : RangeView → RangeView → Bool
 is_before a b = nat_lt a.domain b.domain || (a.domain == b.domain && nat_lt a.base b.base)
 
--- the test whether a page is one of a block's
-abbrev pub in_range : RangeView → PageView → Bool
-in_range range page = page.domain == range.domain && nat_le range.base page.number && nat_lt page.number (range.base + 2 ^ range.log)
-
 -- the test whether no page is in both blocks
 abbrev pub are_apart : RangeView → RangeView → Bool
 are_apart a b = not (a.domain == b.domain && (nat_lt a.base (b.base + 2 ^ b.log) && nat_lt b.base (a.base + 2 ^ a.log)))

@@ -4,7 +4,7 @@ use Rattle.std.specs.List.{list_any}
 use Rattle.mind_base.specs.Page.{PageView}
 use Rattle.mind_base.specs.declared.notes.State.{State}
 use Rattle.mind_base.specs.declared.notes.State.TheVariants.{I, S, M}
-use Rattle.region_directory.specs.Block.{in_range}
+use Rattle.mind_base.specs.Range.{in_range}
 use Rattle.region_directory.specs.declared.entries.Busy.{Busy}
 use Rattle.region_directory.specs.declared.entries.Entry.{Entry}
 use Rattle.region_directory.specs.declared.rooms.Room.{Room}

@@ -1,5 +1,6 @@
 ghost use Rattle.std.specs.Prelude.{◌≡◌, ◌↔◌, ◌≤◌, ◌^◌, IsTrue};
-ghost use Rattle.region_directory.specs.Block.{in_range, is_before, are_apart, block_of};
+ghost use Rattle.region_directory.specs.Block.{is_before, are_apart, block_of};
+ghost use Rattle.mind_base.specs.Range.{in_range};
 
 use mind_base::{Page, Range};
 

@@ -1,6 +1,5 @@
 ghost use Rattle.std.specs.Prelude.{◌≡◌, ◌↔◌, ◌+◌, ◌<◌, ◌≤◌, ℕ, [], length, map, insert, remove, position, slice_get, Some, IsTrue, IsNone, IfSome, IfOk};
-ghost use Rattle.mind_base.specs.Range.{RangeView, IsRange, InRange};
-ghost use Rattle.region_directory.specs.Block.{in_range};
+ghost use Rattle.mind_base.specs.Range.{RangeView, IsRange, InRange, in_range};
 ghost use Rattle.region_directory.specs.Entry.{HasPage, NoneHas, MeetsNone, largest_free, place_of, fresh_entry, in_state, with_busy, with_hits, plus_hits, changed_at};
 ghost use Rattle.region_directory.specs.Directory.{DirectoryView, IsDirectory};
 ghost use Rattle.region_directory.specs.Room.{room_of, MustWait};

@@ -1,6 +1,6 @@
 ghost use Rattle.std.specs.Prelude.{◌≡◌, ◌<◌, ◌≤◌, ◌^◌, length, position, IfSome};
 ghost use Rattle.std.specs.List.{list_any};
-ghost use Rattle.region_directory.specs.Block.{in_range};
+ghost use Rattle.mind_base.specs.Range.{in_range};
 ghost use Rattle.region_directory.specs.Room.{is_droppable, is_for_room, is_evictable, room_of};
 
 use crate::Entry;

@@ -1,7 +1,7 @@
 ghost use Rattle.std.specs.Prelude.{◌≡◌, ◌≤◌, ◌<◌, ℕ, count_by, position, length, IfSome};
 ghost use Rattle.std.specs.List.{list_all};
-ghost use Rattle.mind_base.specs.Range.{RangeView};
-ghost use Rattle.region_directory.specs.Block.{in_range, is_before, are_apart, block_of};
+ghost use Rattle.mind_base.specs.Range.{RangeView, in_range};
+ghost use Rattle.region_directory.specs.Block.{is_before, are_apart, block_of};
 ghost use Rattle.region_directory.specs.Entry.{largest_free, place_of, MeetsNone};
 
 use crate::Entry;

@@ -7,7 +7,7 @@ use Rattle.std.proofs.lemmas.Bool.{cases_Bool}
 use Rattle.mind_base.specs.Page.{PageView}
 use Rattle.mind_base.specs.Home.{home_of, home_from, place_in}
 use Rattle.mind_base.specs.declared.plans.MemoryPlan.{MemoryPlan}
-use Rattle.range_translate.specs.Block.{in_range}
+use Rattle.mind_base.specs.Range.{in_range}
 use Rattle.range_translate.specs.Place.{smaller_of, smallest_of, place_or_home, place_of}
 use Rattle.range_translate.specs.declared.outliers.Outlier.{Outlier}
 

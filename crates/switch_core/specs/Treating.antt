@@ -2,7 +2,7 @@
 use Rattle.std.specs.Prelude.{ℕ, ◌+◌, ◌^◌, ◌==◌, Bool, true, false, not, List, [], ◌∷◌, map, filter, length, insert, remove, position, slice_get, is_none, Option, Some, None, option_map, unwrap_or, if◌then◌else◌}
 use Rattle.std.specs.List.{list_any}
 use Rattle.mind_base.specs.Page.{PageView}
-use Rattle.mind_base.specs.Range.{RangeView}
+use Rattle.mind_base.specs.Range.{RangeView, in_range}
 use Rattle.mind_base.specs.declared.commands.Perm.{Perm}
 use Rattle.mind_base.specs.declared.commands.Perm.TheVariants.{No, R, Rw}
 use Rattle.mind_base.specs.declared.links.LinkName.{LinkName}
@@ -12,7 +12,6 @@ use Rattle.mind_base.specs.declared.notes.State.{State}
 use Rattle.mind_base.specs.declared.notes.State.TheVariants.{I, S, M}
 use Rattle.invalidate_multicast.specs.Blades.{has_blade, without_blade, casts_of}
 use Rattle.protect_table.specs.Protect.{permission_at}
-use Rattle.region_directory.specs.Block.{in_range}
 use Rattle.region_directory.specs.Entry.{in_state, with_busy, changed_at, fresh_entry, largest_free, place_of}
 use Rattle.region_directory.specs.Room.{room_of}
 use Rattle.region_directory.specs.declared.entries.Busy.{Busy}

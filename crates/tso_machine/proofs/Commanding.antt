@@ -6,8 +6,7 @@ use Rattle.std.proofs.Math.Path.{fun_ext}
 use Rattle.control_plane.specs.Outcome.{outcome_of, permissions_after}
 use Rattle.flat_memory.specs.FlatMemory.{byte_in, zeroed}
 use Rattle.mind_base.specs.Page.{PageView}
-use Rattle.mind_base.specs.Span.{SpanView}
-use Rattle.mind_base.specs.Home.{in_span}
+use Rattle.mind_base.specs.Span.{SpanView, in_span}
 use Rattle.mind_base.specs.Permission.{permission_from, permission_of}
 use Rattle.mind_base.specs.declared.commands.Perm.{Perm}
 use Rattle.mind_base.specs.declared.commands.Perm.TheVariants.{No}

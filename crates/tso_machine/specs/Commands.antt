@@ -2,10 +2,9 @@
 use Rattle.std.specs.Prelude.{ℕ, suc, Bool, true, false, ◌==◌, ◌&&◌, ◌||◌, not, List, [], ◌∷◌, ◌++◌, map, slice_get, Option, Some, None, is_some, option_and_then, if◌then◌else◌}
 use Rattle.std.specs.List.{list_any}
 use Rattle.control_plane.specs.Outcome.{outcome_of}
-use Rattle.mind_base.specs.Home.{in_span}
 use Rattle.mind_base.specs.Pending.{PendingView}
 use Rattle.mind_base.specs.Permission.{permission_of}
-use Rattle.mind_base.specs.Span.{SpanView}
+use Rattle.mind_base.specs.Span.{SpanView, in_span}
 use Rattle.mind_base.specs.declared.commands.Perm.TheVariants.{No}
 use Rattle.mind_base.specs.declared.commands.Command.{Command}
 use Rattle.mind_base.specs.declared.commands.Command.TheVariants.{Map, Unmap, Protect, Migrate}

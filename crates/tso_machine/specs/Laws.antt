@@ -3,10 +3,9 @@
 -- labels from a state, and speaks of every moment and every step of the run, as far as the labels are enabled.
 use Rattle.std.specs.Prelude.{◌≡◌, ℕ, ◌⊎◌, Bool, ◌&&◌, ◌==◌, IsTrue, IsFalse, List, [], ◌∷◌, ◌++◌, All, Contains, slice_get, flat_map, Some}
 use Rattle.hart_core.specs.declared.outcome.Act.{Act}
-use Rattle.mind_base.specs.Home.{in_span}
 use Rattle.mind_base.specs.Page.{page_of}
 use Rattle.mind_base.specs.Pending.{PendingView, covers, byte_at}
-use Rattle.mind_base.specs.Span.{SpanView}
+use Rattle.mind_base.specs.Span.{SpanView, in_span}
 use Rattle.mind_base.specs.declared.commands.Command.TheVariants.{Map}
 use Rattle.mind_base.specs.declared.commands.Outcome.TheVariants.{Fine}
 use Rattle.mind_base.specs.declared.commands.Perm.{Perm}

@@ -1,7 +1,7 @@
 -- What memory holds: the last write to a byte says it.
 use Rattle.std.specs.Prelude.{ℕ, ◌&&◌, ◌==◌, List, [], ◌∷◌, if◌then◌else◌}
 use Rattle.mind_base.specs.Page.{page_of}
-use Rattle.mind_base.specs.Home.{in_span}
+use Rattle.mind_base.specs.Span.{in_span}
 use Rattle.tso_machine.specs.State.{Write, Byte, Zeros}
 
 -- the byte at an address of a domain after one more write

@@ -1,6 +1,6 @@
 ghost use Rattle.std.specs.Prelude.{◌≡◌, ◌+◌, ◌∷◌, ◌++◌, [], None, Some, OnOk, OnErr, length, drop, slice_get, if◌then◌else◌};
 ghost use Rattle.mind_base.specs.Pending.{covers, byte_at, newest_byte as newest_byte_of};
-ghost use Rattle.mind_base.specs.Home.{in_span};
+ghost use Rattle.mind_base.specs.Span.{in_span};
 ghost use Rattle.mind_base.specs.Page.{page_of};
 ghost use Rattle.std.specs.List.{list_any};
 ghost use Rattle.tso_machine.specs.Commands.{stores_in};

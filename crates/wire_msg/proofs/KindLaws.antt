@@ -2,7 +2,7 @@
 use Rattle.std.proofs.Common.{◌≡◌, ℕ, ◌+◌, Bool, ◌&&◌, ltb, leb, List, ◌++◌, Option, Some, refl, sym, subst}
 use Rattle.std.proofs.lemmas.Bool.{ltb-true, lt-ltb, leb-true, le-leb}
 use Rattle.mind_base.specs.Page.{PageView}
-use Rattle.mind_base.specs.Range.{RangeView}
+use Rattle.mind_base.specs.Range.{RangeView, in_range}
 use Rattle.mind_base.specs.Span.{SpanView}
 use Rattle.mind_base.specs.declared.commands.Perm.{Perm}
 use Rattle.page_image.specs.PageImage.{PageImageView}
@@ -10,10 +10,10 @@ use Rattle.wire_msg.specs.declared.msgs.Msg.{Msg}
 use Rattle.wire_msg.specs.declared.msgs.Msg.TheVariants.{Get, Fill, Deny, Back, Inv, Lower, Ack, Close, Closed, Reopen, Read, Image, Write, Zero}
 use Rattle.wire_msg.specs.Spelling.{kind_of, fields_of}
 use Rattle.wire_msg.specs.WellFormed.{IsWellFormed}
-use Rattle.wire_msg.specs.Reading.{made_at, get_at, fill_message_at, deny_at, back_at, inv_at, lower_at, ack_at, close_at, closed_at, reopen_at, read_at, image_message_at, write_at, zero_at, lies_in, asks_in}
+use Rattle.wire_msg.specs.Reading.{made_at, get_at, fill_message_at, deny_at, back_at, inv_at, lower_at, ack_at, close_at, closed_at, reopen_at, read_at, image_message_at, write_at, zero_at, asks_in}
 use Rattle.wire_msg.proofs.Fields.{IsBytes, Takes, IsField, number_field, then_field, where_field, made_take, made_again}
 use Rattle.wire_msg.proofs.Images.{image_field}
-use Rattle.wire_msg.proofs.Parts.{page_field, asked_field, range_field, span_field, flag_field, fill_field, blade_field, in_range, lies_there, asks_inside, asks_there, and_both, both_and}
+use Rattle.wire_msg.proofs.Parts.{page_field, asked_field, range_field, span_field, flag_field, fill_field, blade_field, has-InRange, lies_there, asks_inside, asks_there, and_both, both_and}
 
 -- what was read is a message of this kind, well formed, and spelled so
 pub record IsRead (kind : ℕ) (bytes : List ℕ) (message : Msg) (rest : List ℕ) : Type 0 where
@@ -56,11 +56,11 @@ unfolding inv_at
 inv_reads = reads (where_field (then_field number_field (then_field range_field asked_field)) asks) 5 (λ f. Inv f.0 f.1.0 f.1.1) (λ x h. (refl, ((h.0.0, h.0.1.0, h.0.1.1), asks_inside x.1.0 x.1.1 h.1), refl))
 
 abbrev lies : ℕ × (RangeView × PageView) → Bool
-lies f = lies_in f.1.0 f.1.1
+lies f = in_range f.1.0 f.1.1
 
 pub lower_reads : Reads 6 lower_at
 unfolding lower_at
-lower_reads = reads (where_field (then_field number_field (then_field range_field page_field)) lies) 6 (λ f. Lower f.0 f.1.0 f.1.1) (λ x h. (refl, ((h.0.0, h.0.1.0, h.0.1.1), in_range x.1.0 x.1.1 h.1), refl))
+lower_reads = reads (where_field (then_field number_field (then_field range_field page_field)) lies) 6 (λ f. Lower f.0 f.1.0 f.1.1) (λ x h. (refl, ((h.0.0, h.0.1.0, h.0.1.1), has-InRange x.1.0 x.1.1 h.1), refl))
 
 pub ack_reads : Reads 7 ack_at
 unfolding ack_at

@@ -4,13 +4,13 @@ use Rattle.std.specs.Prelude.{◌⊎◌, option_map}
 use Rattle.std.proofs.lemmas.Bool.{ltb-true, lt-ltb, leb-true, le-leb, eqb-true, eq-eqb, ne_eqb, cases_eq}
 use Rattle.std.proofs.lemmas.Option.{cond_some}
 use Rattle.mind_base.specs.Page.{PageView}
-use Rattle.mind_base.specs.Range.{RangeView, InRange}
+use Rattle.mind_base.specs.Range.{RangeView, InRange, in_range}
 use Rattle.mind_base.specs.Span.{SpanView}
 use Rattle.mind_base.specs.declared.commands.Perm.{Perm}
 use Rattle.mind_base.specs.declared.commands.Perm.TheVariants.{No, R, Rw}
 use Rattle.wire_msg.specs.Spelling.{number_bytes, page_number, page_bytes, range_bytes, span_bytes, asked_bytes, flag_bytes, fill_bytes, blade_bytes}
 use Rattle.wire_msg.specs.WellFormed.{IsPageView, IsRangeView, IsSpanView, IsAsked, AsksIn, CanFill, IsBlade}
-use Rattle.wire_msg.specs.Reading.{page_from, page_of, asked_of, range_of, span_of, flag_of, fill_of, blade_of, page_at, asked_at, range_at, span_at, flag_at, fill_at, blade_at, lies_in, asks_in}
+use Rattle.wire_msg.specs.Reading.{page_from, page_of, asked_of, range_of, span_of, flag_of, fill_of, blade_of, page_at, asked_at, range_at, span_at, flag_at, fill_at, blade_at, asks_in}
 use Rattle.wire_msg.proofs.Fields.{IsField, Parses, parsed_field, then_field, number_field, byte_field, some_is}
 
 pub and_both : (a b : Bool) → a && b ≡ true → (a ≡ true) × (b ≡ true)
@@ -261,18 +261,18 @@ blade_field = parsed_field byte_field blade_parses
 
 -- ---- a page in a range
 
-pub in_range : (range : RangeView) (page : PageView) → lies_in range page ≡ true → InRange range page
-in_range range page e =
+pub has-InRange : (range : RangeView) (page : PageView) → in_range range page ≡ true → InRange range page
+has-InRange range page e =
     let outer = and_both (eqb page.domain range.domain && leb range.base page.number) (ltb page.number (range.base + 2 ^ range.log)) e in
     let inner = and_both (eqb page.domain range.domain) (leb range.base page.number) outer.0 in
     record { domain = eqb-true _ _ inner.0; from = leb-true _ _ inner.1; below = ltb-true _ _ outer.1 }
 
-pub lies_there : (range : RangeView) (page : PageView) → InRange range page → lies_in range page ≡ true
+pub lies_there : (range : RangeView) (page : PageView) → InRange range page → in_range range page ≡ true
 lies_there range page h = both_and _ _ (both_and _ _ (eq-eqb _ _ h.domain) (le-leb _ _ h.from)) (lt-ltb _ _ h.below)
 
 pub asks_inside : (range : RangeView) (asked : Option PageView) → asks_in range asked ≡ true → AsksIn range asked
 asks_inside range None e = tt
-asks_inside range (Some page) e = in_range range page e
+asks_inside range (Some page) e = has-InRange range page e
 
 pub asks_there : (range : RangeView) (asked : Option PageView) → AsksIn range asked → asks_in range asked ≡ true
 asks_there range None h = refl

@@ -3,7 +3,7 @@ use Rattle.std.specs.Prelude.{◌≡◌, ℕ, zero, suc, ◌+◌, ◌/◌, ◌%�
 use Rattle.std.specs.Int.{w64, from_be_bytes}
 use Rattle.byteorder.specs.Endian.{big_number}
 use Rattle.mind_base.specs.Page.{PageView}
-use Rattle.mind_base.specs.Range.{RangeView}
+use Rattle.mind_base.specs.Range.{RangeView, in_range}
 use Rattle.mind_base.specs.Span.{SpanView}
 use Rattle.mind_base.specs.declared.commands.Perm.{Perm}
 use Rattle.mind_base.specs.declared.commands.Perm.TheVariants.{R, Rw}
@@ -129,14 +129,9 @@ blade_at = parsed_at byte_at blade_of
 unfoldable pub image_at : List ℕ → Option (PageImageView × List ℕ)
 image_at = made_at (bytes_at 4608) image_from
 
--- whether a page lies in a range
-abbrev pub lies_in : RangeView → PageView → Bool
-lies_in range page =
-    page.domain == range.domain && nat_le range.base page.number && nat_lt page.number (range.base + 2 ^ range.log)
-
 abbrev pub asks_in : RangeView → Option PageView → Bool
 asks_in range None = true
-asks_in range (Some page) = lies_in range page
+asks_in range (Some page) = in_range range page
 
 -- the fields of each kind
 unfoldable pub get_at : List ℕ → Option (Msg × List ℕ)
@@ -155,7 +150,7 @@ unfoldable pub inv_at : List ℕ → Option (Msg × List ℕ)
 inv_at = made_at (where_at (then_at number_at (then_at range_at asked_at)) (λ f. asks_in f.1.0 f.1.1)) (λ f. Inv f.0 f.1.0 f.1.1)
 
 unfoldable pub lower_at : List ℕ → Option (Msg × List ℕ)
-lower_at = made_at (where_at (then_at number_at (then_at range_at page_at)) (λ f. lies_in f.1.0 f.1.1)) (λ f. Lower f.0 f.1.0 f.1.1)
+lower_at = made_at (where_at (then_at number_at (then_at range_at page_at)) (λ f. in_range f.1.0 f.1.1)) (λ f. Lower f.0 f.1.0 f.1.1)
 
 unfoldable pub ack_at : List ℕ → Option (Msg × List ℕ)
 ack_at = made_at (then_at number_at number_at) (λ f. Ack f.0 f.1)

@@ -3,7 +3,7 @@ ghost use Rattle.wire_msg.specs.declared.msgs.Msg.{Msg as message};
 ghost use Rattle.wire_msg.specs.declared.refusals.WireRefusal.TheVariants.{BadFrame as bad_frame};
 ghost use Rattle.wire_msg.specs.Spelling.{spelling};
 ghost use Rattle.wire_msg.specs.WellFormed.{IsWellFormed};
-ghost use Rattle.wire_msg.specs.Reading.{Gives, number_at, byte_at, bytes_at, page_of, asked_of, range_of, span_of, flag_of, fill_of, blade_of, image_from, lies_in, get_at, fill_message_at, deny_at, back_at, inv_at, lower_at, ack_at, close_at, closed_at, reopen_at, read_at, image_message_at, write_at, zero_at, fields_at, message_at, message_of};
+ghost use Rattle.wire_msg.specs.Reading.{Gives, number_at, byte_at, bytes_at, page_of, asked_of, range_of, span_of, flag_of, fill_of, blade_of, image_from, get_at, fill_message_at, deny_at, back_at, inv_at, lower_at, ack_at, close_at, closed_at, reopen_at, read_at, image_message_at, write_at, zero_at, fields_at, message_at, message_of};
 
 use crate::{Msg, WireRefusal};
 use byteorder::{BigEndian, ByteOrder};
@@ -199,13 +199,6 @@ fn image(alloc: Global, bytes: &[u8]) -> Result<PageImage, WireRefusal>
     }
 }
 
-/// Whether the page that was asked for lies in the range.
-fn lies(range: &Range, page: Page) -> bool
-    ensures { result ≡ lies_in range.now page }
-{
-    range.has(page)
-}
-
 #[tactic(auto, unfolding(crate::specs::Reading::get_at, crate::specs::Reading::page_at, crate::specs::Reading::flag_at))]
 fn get(bytes: &[u8]) -> Result<(Msg, &[u8]), WireRefusal>
     ensures { Gives (λ x. (x.0, x.1.now)) result (get_at bytes.now) }
@@ -270,7 +263,7 @@ fn inv(bytes: &[u8]) -> Result<(Msg, &[u8]), WireRefusal>
     let (asked_number, rest) = number(rest)?;
     let asked = asked(asked_number)?;
     if let Some(page) = asked
-        && !lies(&range, page)
+        && !range.has(page)
     {
         return Err(WireRefusal::BadFrame);
     }
@@ -295,7 +288,7 @@ fn lower(bytes: &[u8]) -> Result<(Msg, &[u8]), WireRefusal>
     let range = range(base, log)?;
     let (asked_number, rest) = number(rest)?;
     let asked = page(asked_number)?;
-    if !lies(&range, asked) {
+    if !range.has(asked) {
         return Err(WireRefusal::BadFrame);
     }
     Ok((

@@ -2,8 +2,8 @@ use Rattle.std.proofs.Common.{◌≡◌, ◌+◌, ◌-◌, ℕ, List, drop, Some
 use Rattle.std.proofs.lemmas.List.{at_drop_all}
 use Rattle.std.proofs.lemmas.Bool.{false≢true}
 use Rattle.mind_base.specs.Page.{PageView}
-use Rattle.mind_base.specs.Span.{SpanView, InSpan}
-use Rattle.mind_base.specs.Home.{in_span, place_in}
+use Rattle.mind_base.specs.Span.{SpanView, InSpan, in_span}
+use Rattle.mind_base.specs.Home.{place_in}
 use Rattle.range_translate.proofs.Apart.{IsSpanView, read_one}
 use Rattle.range_translate.proofs.HomeSteps.{found_in, not_in, shifted, not_in_span}
 use Rattle.range_translate.proofs.homes.place_in.Goals as goal

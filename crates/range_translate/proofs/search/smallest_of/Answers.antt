@@ -1,6 +1,6 @@
 use Rattle.std.proofs.Common.{◌≡◌, ◌≤◌, ℕ, drop, Option, IfSome, IsTrue, subst, sym, ap, ◌∙◌, arith}
 use Rattle.std.proofs.lemmas.List.Elements.{recursion_from_All}
-use Rattle.range_translate.specs.Block.{in_range}
+use Rattle.mind_base.specs.Range.{in_range}
 use Rattle.range_translate.specs.Place.{smallest_of, FitsOutlier}
 use Rattle.range_translate.specs.declared.outliers.Outlier.{Outlier}
 use Rattle.range_translate.proofs.Smallest.{smallest-has, has_page, any_page}

@@ -1,7 +1,7 @@
 use Rattle.std.proofs.Common.{◌≡◌, Some, None, refl, subst, arith}
 use Rattle.std.proofs.lemmas.Bool.{cases_lt, true≢false}
 use Rattle.std.specs.List.{position}
-use Rattle.region_directory.specs.Block.{in_range}
+use Rattle.mind_base.specs.Range.{in_range}
 use Rattle.region_directory.specs.Directory.{DirectoryView, IsDirectory}
 use Rattle.region_directory.specs.Entry.{HasPage, NoneHas}
 use Rattle.region_directory.proofs.SearchLemmas.{found-has, only-one, none-has, some-has}
