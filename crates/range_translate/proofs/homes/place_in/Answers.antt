@@ -12,7 +12,7 @@ pub overflow_add-result : goal.overflow_add-result
 overflow_add-result c =
     let r = read_one c.args.homes.now c.loop-span.span-index c.loop-span.before c.span-item.result c.requires c.loop-span-test.true c.span-item.is
     (subst IsSpanView c.span.view_is c.span.invariant) c.loop-span.invariant.spans c.loop-span.invariant.sum in
-    let has = c.if-has.ensures.0 refl in
+    let has = c.if-has.ensures.has.0 refl in
     omega (arith, r.few, has.below, has.from, ap (λ (s : SpanView). s.pages) c.span.view_is, ap (λ (s : SpanView). s.base) c.span.view_is, ap (λ (p : PageView). p.number) c.page.view_is)
 
 pub overflow_add-before : goal.overflow_add-before
@@ -24,7 +24,7 @@ overflow_add-before c =
 pub returns-then-has-clause-place : goal.returns-then-has-clause-place
 returns-then-has-clause-place c =
     let page = c.loop-span.invariant.page in
-    let has : InSpan c.span-item.result c.args.page = subst (λ (p : PageView). InSpan c.span-item.result p) page (c.if-has.ensures.0 refl) in
+    let has : InSpan c.span-item.result c.args.page = subst (λ (p : PageView). InSpan c.span-item.result p) page (c.if-has.ensures.has.0 refl) in
     let number : c.page.inside.number ≡ c.args.page.number = ap (λ (p : PageView). p.number) (c.page.view_is ∙ page) in
     let base : c.span.inside.base ≡ c.span-item.result.base = ap (λ (s : SpanView). s.base) c.span.view_is in
     let same : c.loop-span.before + (c.page.inside.number - c.span.inside.base) ≡ c.loop-span.before + (c.args.page.number - c.span-item.result.base) = cc in
@@ -38,7 +38,7 @@ loop-span-preserved c =
     let page = c.loop-span.invariant.page in
     let pages : c.span.inside.pages ≡ c.span-item.result.pages = ap (λ (s : SpanView). s.pages) c.span.view_is in
     let hasnt : in_span c.span-item.result c.args.page ≡ false = not_in_span c.span-item.result c.args.page
-    (λ h. false≢true (c.if-has.ensures.1 (subst (λ (p : PageView). InSpan c.span-item.result p) (sym page) h))) in
+    (λ h. false≢true (c.if-has.ensures.has.1 (subst (λ (p : PageView). InSpan c.span-item.result p) (sym page) h))) in
     record {
       spans = r.spans;
       sum = omega (arith, r.sum, pages);
@@ -57,5 +57,5 @@ pub returns-then-has-clause-few : goal.returns-then-has-clause-few
 returns-then-has-clause-few c =
     let r = read_one c.args.homes.now c.loop-span.span-index c.loop-span.before c.span-item.result c.requires c.loop-span-test.true c.span-item.is
     (subst IsSpanView c.span.view_is c.span.invariant) c.loop-span.invariant.spans c.loop-span.invariant.sum in
-    let has = c.if-has.ensures.0 refl in
+    let has = c.if-has.ensures.has.0 refl in
     omega (arith, r.few, has.below, has.from, ap (λ (s : SpanView). s.pages) c.span.view_is, ap (λ (s : SpanView). s.base) c.span.view_is, ap (λ (p : PageView). p.number) c.page.view_is)
