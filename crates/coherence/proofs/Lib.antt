@@ -22,4 +22,5 @@ pub mod SwitchEnter
 pub mod SwitchGrant
 pub mod SwitchBegin
 pub mod SwitchAck
+pub mod SwitchReshape
 pub mod Whole

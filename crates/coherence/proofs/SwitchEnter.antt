@@ -7,7 +7,7 @@ use Rattle.region_directory.specs.declared.entries.Busy.{Busy}
 use Rattle.coherence.specs.World.{Region, World, put_range}
 use Rattle.coherence.specs.Facts.{IsCoherent, AreBlocks, transition, may, may_write}
 use Rattle.coherence.specs.Moves.{May, moved, Enters, Drops, is_droppable}
-use Rattle.coherence.proofs.SwitchEntries.{widened, blocks_put}
+use Rattle.coherence.proofs.SwitchEntries.{was-same, widened, blocks_put}
 
 -- what an entry that names nobody and has no transition changes, in place of none
 enters_held : (t : Bool) (old : Option Region) (range : RangeView) (b : ℕ) → (t ≡ true → old ≡ None) → may old b ≡ true → may (if t then Some (is_droppable range) else old) b ≡ true
@@ -34,7 +34,7 @@ enters w range safe none = widened w (put_range range (Some (is_droppable range)
       writer = λ p b. enters_writer (in_range range p) (w.regions p) range b (none p);
       transition = λ p number. enters_transition (in_range range p) (w.regions p) range number (none p);
       idle = λ p. enters_idle (in_range range p) (w.regions p) range;
-      busy = λ p. enters_busy (in_range range p) (w.regions p) range;
+      busy = λ p r busy is at. was-same (w.regions p) r (enters_busy (in_range range p) (w.regions p) range r busy is at);
     })
     (blocks_put w range (Some (is_droppable range)) (λ r e. grind arith) (λ p q r is within inside. let here = (safe.blocks p r is).1 q within in absurd (cc (none q inside, here))) safe.blocks)
     safe
@@ -73,7 +73,7 @@ drops w range safe all = widened w (put_range range None w.regions)
       writer = λ p b. drops_writer (in_range range p) (w.regions p) range b (all p);
       transition = λ p number. drops_transition (in_range range p) (w.regions p) range number (all p);
       idle = λ p. drops_idle (in_range range p) (w.regions p);
-      busy = λ p. drops_busy (in_range range p) (w.regions p);
+      busy = λ p r busy is at. was-same (w.regions p) r (drops_busy (in_range range p) (w.regions p) r busy is at);
     })
     (blocks_put w range None (λ r e. absurd (cc e)) (drops_closed w range all safe.blocks) safe.blocks)
     safe

@@ -7,9 +7,19 @@ use Rattle.region_directory.specs.declared.entries.Busy.{Busy}
 use Rattle.wire_msg.specs.declared.msgs.Msg.{Msg}
 use Rattle.wire_msg.specs.declared.msgs.Msg.TheVariants.{Fill, Back, Inv, Lower, Ack}
 use Rattle.coherence.specs.World.{Region, World, put_range}
-use Rattle.coherence.specs.Facts.{IsCoherent, IsUp, IsDown, AreBlocks, WaitsFor, transition, may, may_write}
+use Rattle.coherence.specs.Facts.{IsCoherent, IsUp, IsDown, AreBlocks, IsTarget, WaitsFor, transition, may, may_write}
 use Rattle.coherence.proofs.Changes.{by-test}
 use Rattle.coherence.proofs.Queues.{ups-kept, downs-same, none-never}
+
+-- the entry that a page had has the state and the transition of the one that it has
+pub record Was (old : Option Region) (now : Region) : Type 0 where
+  pub region : Region
+  pub entry : old ≡ Some region
+  pub state : region.state ≡ now.state
+  pub busy : region.busy ≡ now.busy
+
+pub was-same : (old : Option Region) (now : Region) → old ≡ Some now → Was old now
+was-same old now is = record { region = now; entry = is; state = refl; busy = refl }
 
 -- who may hold a page, or write it, still may; transitions are as they were, and so is what has one
 pub record Widens (old new : PageView → Option Region) : Type 0 where
@@ -17,7 +27,7 @@ pub record Widens (old new : PageView → Option Region) : Type 0 where
   pub writer : (p : PageView) (b : ℕ) → may_write (old p) b ≡ true → may_write (new p) b ≡ true
   pub transition : (p : PageView) (number : ℕ) → transition number (new p) ≡ transition number (old p)
   pub idle : (p : PageView) → IfSome (old p) (λ r. r.busy ≡ None) → IfSome (new p) (λ r. r.busy ≡ None)
-  pub busy : (p : PageView) (r : Region) (busy : Busy) → new p ≡ Some r → r.busy ≡ Some busy → old p ≡ Some r
+  pub busy : (p : PageView) (r : Region) (busy : Busy) → new p ≡ Some r → r.busy ≡ Some busy → Was (old p) r
 
 abbrev pub with_regions : (PageView → Option Region) → World → World
 with_regions new w = record w { regions = new }
@@ -66,9 +76,10 @@ widened w new widens blocks safe = let after = with_regions new w in record {
   called = λ b number p busy is. safe.called b number p busy (sym (widens.transition p number) ∙ is);
   fetches = λ b p v is fetching. let f = safe.fetches b p v is fetching in
       record { held = widens.held p b f.held; writer = λ t. widens.writer p b (f.writer t); idle = widens.idle p f.idle; allowed = f.allowed };
-  numbered = λ p r busy is at. safe.numbered p r busy (widens.busy p r busy is at) at;
+  numbered = λ p r busy is at. let was = widens.busy p r busy is at in safe.numbered p was.region busy was.entry (was.busy ∙ at);
   blocks = blocks;
-  targets = λ p r busy is at. safe.targets p r busy (widens.busy p r busy is at) at;
+  targets = λ p r busy is at. let was = widens.busy p r busy is at in
+      subst (λ state. IsTarget state busy) was.state (safe.targets p was.region busy was.entry (was.busy ∙ at));
   tos = safe.tos;
   written = safe.written;
   froms = safe.froms;

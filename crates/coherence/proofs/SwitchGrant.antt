@@ -19,7 +19,7 @@ use Rattle.coherence.specs.Facts.{IsCoherent, IsUp, AreUps, IsFrom, AreTos, AreW
 use Rattle.coherence.proofs.Changes.{by-test, by-number, by-both}
 use Rattle.coherence.proofs.Queues.{ups-kept, none-never, total-append, tos-kept, tos-same, froms-same, written-append, none-more}
 use Rattle.coherence.specs.Moves.{May, Grants, moved, GrantsIt}
-use Rattle.coherence.proofs.SwitchEntries.{with_regions, widened, blocks_put}
+use Rattle.coherence.proofs.SwitchEntries.{with_regions, was-same, widened, blocks_put}
 
 -- ---- the entry
 
@@ -108,7 +108,7 @@ entry_granted w region state blade write all idle named safe = widened w (put_ra
       writer = λ p b. grants_writer (in_range region.range p) (w.regions p) region state b (all p) (named.writer b);
       transition = λ p number. grants_transition (in_range region.range p) (w.regions p) region state number (all p);
       idle = λ p. grants_idle (in_range region.range p) (w.regions p) region state idle;
-      busy = λ p r busy. grants_busy (in_range region.range p) (w.regions p) region state r busy idle;
+      busy = λ p r busy is at. was-same (w.regions p) r (grants_busy (in_range region.range p) (w.regions p) region state r busy idle is at);
     })
     (blocks_put w region.range (Some (in_state state region)) (λ r e. grind arith) (block_closed w region all safe.blocks) safe.blocks)
     safe

@@ -3,7 +3,7 @@ use Rattle.std.proofs.Common.{◌≡◌, ℕ, List, [], ◌∷◌, Option, Some,
 use Rattle.mind_base.specs.Page.{PageView}
 use Rattle.mind_base.specs.declared.commands.Perm.{Perm}
 use Rattle.coherence.specs.Facts.{IsCoherent, ArePlaced}
-use Rattle.coherence.specs.Moves.{Move, May, moved, Asks, Stores, GivesUp, Lowers, TakesFill, TakesDeny, AnswersInv, AnswersLower, HearsGet, HearsBack, HearsAck, HearsImage, Refuses, Enters, Drops, GrantsIt, Begins, Reads, Writes}
+use Rattle.coherence.specs.Moves.{Move, May, moved, Asks, Stores, GivesUp, Lowers, TakesFill, TakesDeny, AnswersInv, AnswersLower, HearsGet, HearsBack, HearsAck, HearsImage, Refuses, Enters, Drops, GrantsIt, Begins, ReshapesTo, Reads, Writes}
 use Rattle.coherence.specs.Runs.{Run, start}
 use Rattle.coherence.specs.World.{World}
 use Rattle.coherence.proofs.BladeMoves.{asks, stores, gives_up, lowers, takes_fill, takes_deny, answers_inv, answers_lower}
@@ -17,6 +17,7 @@ use Rattle.coherence.proofs.SwitchGet.{hears_get}
 use Rattle.coherence.proofs.SwitchGrant.{grants_it}
 use Rattle.coherence.proofs.SwitchImage.{hears_image}
 use Rattle.coherence.proofs.SwitchRefuse.{refuses}
+use Rattle.coherence.proofs.SwitchReshape.{reshapes}
 
 pub move_keeps : (w : World) (move : Move) → IsCoherent w → May w move → IsCoherent (moved w move)
 move_keeps w (Asks blade page write) h m = asks w blade page write h m
@@ -36,6 +37,7 @@ move_keeps w (Enters range) h m = enters w range h m
 move_keeps w (Drops range) h m = drops w range h m
 move_keeps w (GrantsIt blade page write place region state) h m = grants_it w blade page write place region state h m
 move_keeps w (Begins region busy message) h m = begins w region busy message h m
+move_keeps w (ReshapesTo regions) h m = reshapes w regions h m
 move_keeps w (Reads memory phys blade page behind) h m = reads w memory phys blade page behind h m
 move_keeps w (Writes memory phys image behind) h m = writes w memory phys image behind h m
 

@@ -198,9 +198,12 @@ abbrev pub AreNumbered : World → Type 0
 AreNumbered w = (page : PageView) (region : Region) (busy : Busy) → w.regions page ≡ Some region → region.busy ≡ Some busy → busy.number ≤ w.last
 
 -- the entry of a page is the entry of each page of its block, and of no other page
+abbrev pub AreBlocksOf : (PageView → Option Region) → Type 0
+AreBlocksOf regions = (page : PageView) (region : Region) → regions page ≡ Some region
+    → (in_range region.range page ≡ true) × ((other : PageView) → in_range region.range other ≡ true → regions other ≡ Some region)
+
 abbrev pub AreBlocks : World → Type 0
-AreBlocks w = (page : PageView) (region : Region) → w.regions page ≡ Some region
-    → (in_range region.range page ≡ true) × ((other : PageView) → in_range region.range other ≡ true → w.regions other ≡ Some region)
+AreBlocks w = AreBlocksOf w.regions
 
 -- a target keeps none that was not named, and has no owner
 abbrev pub IsTarget : State → Busy → Type 0

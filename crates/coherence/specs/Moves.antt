@@ -13,7 +13,7 @@ use Rattle.page_image.specs.PageImage.{PageImageView}
 use Rattle.region_directory.specs.declared.entries.Busy.{Busy}
 use Rattle.wire_msg.specs.declared.msgs.Msg.{Msg}
 use Rattle.wire_msg.specs.declared.msgs.Msg.TheVariants.{Get, Fill, Deny, Back, Inv, Lower, Ack, Read, Image, Write}
-use Rattle.coherence.specs.Facts.{names, owns, is_writable, allows, is_fetching}
+use Rattle.coherence.specs.Facts.{AreBlocksOf, names, owns, is_writable, allows, is_fetching}
 use Rattle.coherence.specs.World.{Region, Wanted, World, put, put_page, put_both, put_range}
 
 -- ---- a blade
@@ -180,6 +180,50 @@ pub record MayBegin (w : World) (region : Region) (busy : Busy) (message : Msg) 
   pub writers : (blade : ℕ) → owns region.state blade ≡ true → has_blade busy.waiting blade ≡ true
   pub call : IsCallOf region.range busy message
 
+-- ---- entries change their size
+
+-- a transition and the state under it stay; without one, who was named is named, and who was the owner is the owner
+abbrev pub KeepsState : Option Busy → State → State → Type 0
+KeepsState (Some busy) was now = now ≡ was
+KeepsState None was now = (blade : ℕ) → (names was blade ≡ true → names now blade ≡ true) × (owns was blade ≡ true → owns now blade ≡ true)
+
+-- the entry that a page had and the one that it has: a page has one where it had one
+abbrev pub KeepsEntry : Option Region → Option Region → Type 0
+KeepsEntry None None = Unit {0}
+KeepsEntry None (Some now) = ⊥
+KeepsEntry (Some was) None = ⊥
+KeepsEntry (Some was) (Some now) = (now.busy ≡ was.busy) × KeepsState was.busy was.state now.state
+
+-- Entries are split, busy ones too, and merged: each page keeps its entry so, and the entry of a page is again the
+-- entry of each page of its block.
+pub record Reshapes (old new : PageView → Option Region) : Type 0 where
+  pub pages : (page : PageView) → KeepsEntry (old page) (new page)
+  pub blocks : AreBlocksOf new
+
+abbrev pub reshaped : (PageView → Option Region) → World → World
+reshaped regions w = record w { regions = regions }
+
+-- an entry is split: both halves have its state and its transition
+abbrev pub with_range : RangeView → Region → Region
+with_range range region = record region { range = range }
+
+abbrev pub split_into : RangeView → RangeView → Region → (PageView → Option Region) → PageView → Option Region
+split_into lower upper region regions =
+    put_range lower (Some (with_range lower region)) (put_range upper (Some (with_range upper region)) regions)
+
+-- two entries without a transition are merged into one
+abbrev pub merged_into : RangeView → State → (PageView → Option Region) → PageView → Option Region
+merged_into range state regions = put_range range (Some (record { range = range; state = state; busy = None })) regions
+
+-- the halves of a block have entries without a transition, and the new state names who they name, with their owners
+pub record MayMerge (w : World) (lower upper : Region) (state : State) : Type 0 where
+  pub lower_entry : (page : PageView) → in_range lower.range page ≡ true → w.regions page ≡ Some lower
+  pub upper_entry : (page : PageView) → in_range upper.range page ≡ true → w.regions page ≡ Some upper
+  pub lower_idle : lower.busy ≡ None
+  pub upper_idle : upper.busy ≡ None
+  pub lower_kept : KeepsState None lower.state state
+  pub upper_kept : KeepsState None upper.state state
+
 -- ---- a memory blade
 
 abbrev pub read : ℕ → ℕ → ℕ → PageView → List Msg → World → World
@@ -214,6 +258,7 @@ pub data Move : Type 0 where
   Drops : (range : RangeView) → Move
   GrantsIt : (blade : ℕ) (page : PageView) (write : Bool) (place : ℕ × ℕ) (region : Region) (state : State) → Move
   Begins : (region : Region) (busy : Busy) (message : Msg) → Move
+  ReshapesTo : (regions : PageView → Option Region) → Move
   Reads : (memory phys blade : ℕ) (page : PageView) (behind : List Msg) → Move
   Writes : (memory phys : ℕ) (image : PageImageView) (behind : List Msg) → Move
 
@@ -249,6 +294,7 @@ May w (Enters range) = (page : PageView) → in_range range page ≡ true → w.
 May w (Drops range) = (page : PageView) → in_range range page ≡ true → w.regions page ≡ Some (is_droppable range)
 May w (GrantsIt blade page write place region state) = MayGrant w blade page write place region state
 May w (Begins region busy message) = MayBegin w region busy message
+May w (ReshapesTo regions) = Reshapes w.regions regions
 May w (Reads memory phys blade page behind) = w.tos memory ≡ Read phys (Some blade) page ∷ behind
 May w (Writes memory phys image behind) = w.tos memory ≡ Write phys image ∷ behind
 
@@ -271,5 +317,6 @@ moved w (Enters range) = entered range w
 moved w (Drops range) = dropped range w
 moved w (GrantsIt blade page write place region state) = granted blade page write place region state w
 moved w (Begins region busy message) = begun region busy message w
+moved w (ReshapesTo regions) = reshaped regions w
 moved w (Reads memory phys blade page behind) = read memory phys blade page behind w
 moved w (Writes memory phys image behind) = wrote memory phys image behind w

@@ -4,4 +4,4 @@
 
 mod laws;
 
-pub use laws::{every_move_keeps_coherence, one_writer};
+pub use laws::{every_move_keeps_coherence, one_writer, regions_change_size};
