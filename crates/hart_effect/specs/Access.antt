@@ -6,7 +6,14 @@ use Rattle.mind_base.specs.declared.commands.Perm.{Perm}
 use Rattle.mind_base.specs.declared.commands.Perm.TheVariants.{No, R, Rw}
 use Rattle.mind_base.specs.declared.ends.FaultKind.{FaultKind}
 use Rattle.mind_base.specs.declared.ends.FaultKind.TheVariants as fault
-use Rattle.hart_effect.specs.Place.{place_of, page_at}
+use Rattle.mind_base.specs.Place.{place_of, page_at}
+use Rattle.hart_core.specs.Memory.{load_size}
+use Rattle.hart_core.specs.declared.outcome.Act.{Act}
+use Rattle.hart_core.specs.declared.outcome.Act.TheVariants as act
+use Rattle.hart_core.specs.declared.outcome.LockedKind.{LockedKind}
+use Rattle.hart_core.specs.declared.outcome.LockedKind.TheVariants as locked
+use Rattle.hart_effect.specs.declared.accesses.AccessKind.{AccessKind}
+use Rattle.hart_effect.specs.declared.accesses.AccessKind.TheVariants.{Reads, WritesLater, WritesAtOnce}
 
 -- What a thread finds around it: its number and its domain, the byte that memory holds at an address of
 -- a domain, and the permission of a page.
@@ -39,6 +46,35 @@ may_write No = false
 may_write R = false
 may_write Rw = true
 
+-- An access: what it does, the domain of the thread that makes it, the address of its lowest byte there, and
+-- how many bytes it has.
+pub record AccessView : Type 0 where
+  pub kind : AccessKind
+  pub domain : ℕ
+  pub address : ℕ
+  pub size : ℕ
+
+-- it stands at a multiple of its size
+abbrev pub is_aligned : AccessView → Bool
+is_aligned access = access.address % access.size == 0
+
+-- it writes, now or later
+abbrev pub writes : AccessKind → Bool
+writes Reads = false
+writes WritesLater = true
+writes WritesAtOnce = true
+
+-- what an access of a kind wants of its page, and the fault that it ends by where that is not allowed
+abbrev pub allows : AccessKind → Perm → Bool
+allows Reads = may_read
+allows WritesLater = may_write
+allows WritesAtOnce = may_write
+
+abbrev pub fault_of : AccessKind → FaultKind
+fault_of Reads = fault.Load
+fault_of WritesLater = fault.Store
+fault_of WritesAtOnce = fault.Store
+
 -- Why an access of so many bytes is denied: it stands at no multiple of its size; else its page may not
 -- be read, or written.
 abbrev pub denied : FaultKind → (Perm → Bool) → (PageView → Perm) → ℕ → ℕ → ℕ → Option FaultKind
@@ -47,8 +83,30 @@ denied kind allows perm domain address size =
     then (if allows (perm (page_at (place_of domain address))) then None else Some kind)
     else Some fault.Align
 
+abbrev pub access_denied : (PageView → Perm) → AccessView → Option FaultKind
+access_denied perm access = denied (fault_of access.kind) (allows access.kind) perm access.domain access.address access.size
+
 abbrev pub read_denied : (PageView → Perm) → ℕ → ℕ → ℕ → Option FaultKind
-read_denied perm domain address size = denied fault.Load may_read perm domain address size
+read_denied perm domain address size = access_denied perm (record { kind = Reads; domain = domain; address = address; size = size })
 
 abbrev pub write_denied : (PageView → Perm) → ℕ → ℕ → ℕ → Option FaultKind
-write_denied perm domain address size = denied fault.Store may_write perm domain address size
+write_denied perm domain address size = access_denied perm (record { kind = WritesLater; domain = domain; address = address; size = size })
+
+-- ---- which access an instruction makes
+
+-- LR reads; SC and AMO write, at once
+abbrev pub locked_kind : LockedKind → AccessKind
+locked_kind locked.Lr = Reads
+locked_kind locked.Sc = WritesAtOnce
+locked_kind (locked.Amo kind) = WritesAtOnce
+
+-- the access that an instruction of a thread of a domain makes, if it makes one
+abbrev pub access_of : Act → ℕ → Option AccessView
+access_of (act.Next rd value pc) domain = None
+access_of (act.Load kind rd address) domain = Some (record { kind = Reads; domain = domain; address = address; size = load_size kind })
+access_of (act.Store size address value) domain = Some (record { kind = WritesLater; domain = domain; address = address; size = size })
+access_of (act.Locked kind rd address operand) domain = Some (record { kind = locked_kind kind; domain = domain; address = address; size = 4 })
+access_of (act.Fence drains) domain = None
+access_of act.Call domain = None
+access_of (act.Jumped target) domain = None
+access_of act.Broke domain = None

@@ -7,24 +7,24 @@ use Rattle.rv32_decode.specs.declared.instruction.AmoKind.{AmoKind}
 use Rattle.rv32_decode.specs.declared.instruction.LoadKind.{LoadKind}
 use Rattle.hart_core.specs.Act.{act_of, IsWellFormed}
 use Rattle.hart_core.specs.Memory.{combined, extended, load_size}
-use Rattle.hart_core.specs.Registers.{register, with_register}
+use Rattle.hart_core.specs.Registers.{register}
 use Rattle.hart_core.specs.Values.{word_sum}
 use Rattle.hart_core.specs.declared.outcome.Act.{Act}
 use Rattle.hart_core.specs.declared.outcome.Act.TheVariants as act
 use Rattle.hart_core.specs.declared.outcome.LockedKind.{LockedKind}
 use Rattle.hart_core.specs.declared.outcome.LockedKind.TheVariants as locked
 use Rattle.mind_base.specs.Pending.{PendingView}
+use Rattle.mind_base.specs.Place.{Granule, place_of, granule_at, same_granule}
 use Rattle.mind_base.specs.declared.ends.End.{End}
 use Rattle.mind_base.specs.declared.ends.End.TheVariants.{Running, Exit, Fault}
 use Rattle.mind_base.specs.declared.ends.FaultKind.{FaultKind}
 use Rattle.mind_base.specs.declared.ends.FaultKind.TheVariants as fault
 use Rattle.mind_base.specs.declared.images.Image.{Image}
-use Rattle.hart_effect.specs.Thread.{Thread}
-use Rattle.hart_effect.specs.Place.{place_of, granule_at, same_granule}
+use Rattle.hart_effect.specs.Core.{core_continued, core_put_out, core_exited, core_faulted}
+use Rattle.hart_effect.specs.Thread.{Thread, with_core}
 use Rattle.hart_effect.specs.Access.{Around, memory_byte, seen_byte, number_of, read_denied, write_denied}
 use Rattle.hart_effect.specs.declared.finds.Found.{Found}
 use Rattle.hart_effect.specs.declared.finds.Found.TheVariants.{Outside, Unknown, Asks}
-use Rattle.hart_effect.specs.declared.granules.Granule.{Granule}
 
 -- the thread alone changes; or it changes and a store takes effect in memory with it, at once
 pub data Deed : Type 0 where
@@ -35,15 +35,15 @@ pub data Deed : Type 0 where
 
 -- the thread ends by a fault of its own
 abbrev pub faulted : FaultKind → ℕ → ℕ → Thread → Thread
-faulted kind value pc thread = record thread { end = Fault kind value pc }
+faulted kind value pc thread = with_core (core_faulted kind value pc) thread
 
 -- a register takes a value, and the thread goes on at a pc
 abbrev pub continued : ℕ → ℕ → ℕ → Thread → Thread
-continued rd value pc thread = record thread { regs = with_register thread.regs rd value; end = Running pc }
+continued rd value pc thread = with_core (core_continued (record { rd = rd; value = value; pc = pc })) thread
 
 -- a byte joins the output, and the thread goes on at the next word
 abbrev pub put_out : ℕ → ℕ → Thread → Thread
-put_out byte pc thread = record thread { output = thread.output ++ byte ∷ []; end = Running (word_sum pc 4) }
+put_out byte pc thread = with_core (core_put_out byte (word_sum pc 4)) thread
 
 -- a store goes to the end of the buffer
 abbrev pub buffered : PendingView → Thread → Thread
@@ -58,7 +58,7 @@ reserving granule thread = record thread { reserved = granule }
 abbrev pub called : ℕ → ℕ → ℕ → ℕ → Thread → Thread
 called number a0 hart pc thread =
     if number == 1 then put_out (a0 % 256) pc thread
-    else (if number == 2 then record thread { end = Exit a0 }
+    else (if number == 2 then with_core (core_exited a0) thread
     else (if number == 3 then continued 10 hart (word_sum pc 4) thread
     else faulted fault.Call number pc thread))
 

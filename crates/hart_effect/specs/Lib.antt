@@ -1,4 +1,5 @@
 pub mod Access
+pub mod Core
 pub mod Deed
-pub mod Place
 pub mod Thread
+pub mod Work

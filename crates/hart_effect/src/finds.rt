@@ -1,7 +1,6 @@
-ghost use Rattle.std.specs.Prelude.{◌≡◌, ◌==◌, ◌&&◌, ◌||◌, ℕ, List, length};
+ghost use Rattle.std.specs.Prelude.{◌≡◌};
 ghost use Rattle.rv32_decode.specs.Instr.{instr_of};
-ghost use Rattle.hart_effect.specs.Deed.{word_at, found, found_word, found_instr, AsksWellFormed, wants_empty};
-ghost use Rattle.hart_effect.specs.Deed.{is_store as is_store_of};
+ghost use Rattle.hart_effect.specs.Deed.{word_at, found, found_word, found_instr, AsksWellFormed};
 
 use hart_core::{Act, Regs, act};
 use mind_base::Image;
@@ -55,36 +54,5 @@ pub fn find(image: &Image, regs: &Regs, pc: u32) -> Found
     match fetch(image, pc) {
         None => Found::Outside,
         Some(word) => find_instr(word, regs, pc),
-    }
-}
-
-/// Whether what is asked wants the thread's buffer empty: a locked operation or an ordering fence.
-pub fn needs_empty(asked: Act) -> bool
-    ensures { result ≡ wants_empty asked }
-{
-    match asked {
-        Act::Locked { .. } => true,
-        Act::Fence { drains } => drains,
-        Act::Next { .. }
-        | Act::Load { .. }
-        | Act::Store { .. }
-        | Act::Call
-        | Act::Jumped { .. }
-        | Act::Broke => false,
-    }
-}
-
-pub fn is_store(asked: Act) -> bool
-    ensures { result ≡ is_store_of asked }
-{
-    match asked {
-        Act::Store { .. } => true,
-        Act::Next { .. }
-        | Act::Load { .. }
-        | Act::Locked { .. }
-        | Act::Fence { .. }
-        | Act::Call
-        | Act::Jumped { .. }
-        | Act::Broke => false,
     }
 }

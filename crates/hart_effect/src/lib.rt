@@ -2,10 +2,20 @@
 //! permissions around it; and what a hart comes upon at its pc.
 #![tactic(auto)]
 
+mod accesses;
+mod cores;
 mod finds;
-mod granules;
+mod instructions;
 mod permissions;
+mod surroundings;
+mod waits;
+mod works;
 
-pub use finds::{Found, find, is_store, needs_empty};
-pub use granules::Granule;
+pub use accesses::{Access, AccessKind};
+pub use cores::Core;
+pub use finds::{Found, find};
+pub use instructions::Here;
 pub use permissions::{may_read, may_write};
+pub use surroundings::Surroundings;
+pub use waits::drains_first;
+pub use works::{AccessEffect, Change, Continued, Work};
