@@ -1,6 +1,8 @@
 -- The queue in which a thread's stores wait.
-use Rattle.std.specs.Prelude.{◌≡◌, ℕ, ◌+◌, ◌/◌, ◌<◌, ◌≤◌, Bool, ◌&&◌, nat_le, nat_lt, IsTrue, IsFalse, List, ◌∷◌, ◌++◌, length, All}
+use Rattle.std.specs.Prelude.{◌≡◌, ℕ, ◌<◌, ◌≤◌, Bool, IsTrue, IsFalse, List, ◌∷◌, ◌++◌, length, All}
+use Rattle.mind_base.specs.Page.{page_of}
 use Rattle.mind_base.specs.Pending.{PendingView, IsPending, covers, byte_at}
+use Rattle.mind_base.specs.Span.{in_span}
 
 -- the stores that wait, the oldest first, and how many may
 pub record QueueView : Type 0 where
@@ -24,10 +26,7 @@ pub record IsNewestByte (stores : List PendingView) (address byte : ℕ) : Type 
   pub newest : All (λ s. IsFalse (covers s address)) newer
   pub byte_is : byte ≡ byte_at store address
 
--- the number of the page that a store changes
-abbrev pub page_number : PendingView → ℕ
-page_number store = store.address / 4096
-
--- the test whether a store lies in one of so many pages from a page number on
+-- The test whether a store lies in one of so many pages from a page number on. The domain is that of the
+-- queue's thread, for the store and the pages alike, and so counts for nothing.
 abbrev pub lies_in : ℕ → ℕ → PendingView → Bool
-lies_in base pages store = nat_le base (page_number store) && nat_lt (page_number store) (base + pages)
+lies_in base pages store = in_span (record { domain = 0; base = base; pages = pages }) (page_of 0 store.address)

@@ -4,7 +4,7 @@ ghost use Rattle.mind_base.specs.Pending.{covers, byte_at, newest_byte as newest
 ghost use Rattle.store_queue.specs.StoreQueue.{IsStoreQueue, IsNewestByte, lies_in};
 
 use circular_buffer::HeapCircularBuffer;
-use mind_base::{NoMemory, Pending};
+use mind_base::{NoMemory, Page, Pending, Span};
 use std::alloc::Global;
 use std::marker::Model;
 
@@ -77,6 +77,14 @@ impl StoreQueue {
         self.stores.len() as u32
     }
 
+    /// How many stores may wait.
+    pub fn capacity(&self) -> u32
+        ensures capacity { result ≡ self.now.capacity }
+        ensures shape { IsStoreQueue self.now }
+    {
+        self.stores.capacity() as u32
+    }
+
     /// Whether as many stores wait as there are places.
     pub fn is_full(&self) -> bool
         ensures full { IsTrue result ↔ (length self.now.stores ≡ self.now.capacity) }
@@ -105,17 +113,27 @@ impl StoreQueue {
         requires { base + pages ≤ 1048576 }
         ensures { result ≡ list_any (lies_in base pages) self.now.stores }
     {
-        for store in self.stores.iter() {
-            let page = store.address / 4096;
-            if base <= page && page < base + pages {
-                return true;
-            }
-        }
-        false
+        self.stores.iter().any(|store| lies_in(store, base, pages))
     }
 }
 
-// The byte that a store has at an address, where it covers it.
+/// Whether the store lies in one of the `pages` pages from page number `base` on.
+fn lies_in(store: &Pending, base: u32, pages: u32) -> bool
+    requires { base + pages ≤ 1048576 }
+    ensures { result ≡ lies_in base pages store.now }
+{
+    if pages == 0 {
+        return false;
+    }
+    let span = Span {
+        domain: 0,
+        base,
+        pages,
+    };
+    span.has(Page::of(0, store.address))
+}
+
+/// The byte that a store has at an address, where it covers it.
 fn byte_of(store: &Pending, address: u32) -> Option<u8>
     ensures { result ≡ (if covers store.now address then Some (byte_at store.now address) else None) }
 {

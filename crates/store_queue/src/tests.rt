@@ -26,6 +26,7 @@ fn a_queue_of_two_refuses_the_third_store(rt: HostRuntime) -> Result<(), Fail> {
     assert!(rt; queue.is_full());
     assert_eq!(rt; queue.push(byte), Err(byte));
     assert_eq!(rt; queue.len(), 2);
+    assert_eq!(rt; queue.capacity(), 2);
     for (address, want) in [
         (0x0fff, None),
         (0x1000, Some(0x44)),
@@ -39,6 +40,7 @@ fn a_queue_of_two_refuses_the_third_store(rt: HostRuntime) -> Result<(), Fail> {
     assert!(rt; queue.holds_in(1, 1));
     assert!(rt; !queue.holds_in(0, 1));
     assert!(rt; !queue.holds_in(2, 1000));
+    assert!(rt; !queue.holds_in(1, 0));
     assert_eq!(rt; queue.front(), Some(word));
     assert_eq!(rt; queue.pop(), Some(word));
     assert_eq!(rt; queue.pop(), Some(half));
