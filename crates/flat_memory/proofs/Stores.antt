@@ -9,6 +9,7 @@ use Rattle.std.proofs.lemmas.Bool.{cases_lt, cases_eq}
 use Rattle.std.proofs.lemmas.Bool.Decides.{nat_tests}
 use Rattle.std.proofs.lemmas.List.{get_or-take, get_or-replicate, get_or_past, length-take-le, length-replicate}
 use Rattle.std.proofs.lemmas.Map.Entries.{lookup-filter-keys}
+use Rattle.mind_base.specs.Page.{page_number_at, page_offset_at}
 use Rattle.mind_base.specs.Pending.{PendingView, IsPending, byte_number}
 use Rattle.flat_memory.specs.FlatMemory.{byte_among, stored_among, zeroed_among, written}
 use Rattle.flat_memory.proofs.Pages.{between-in, between-out}
@@ -130,6 +131,25 @@ stored-new old new store page after bytes is e found zeros over puts =
       same a one =
           let here : lookup (eqb (store.address / 4096)) old ≡ None = sym (lookup-number old (store.address / 4096)) ∙ found in
           rw (one, here, zeros) (get_or-zeros 4096 (a % 4096))
+
+-- the same where the page's number and the store's place in it were worked out before
+pub stored-kept-at : (old new : List (ℕ × List ℕ)) (store : PendingView) (number offset : ℕ) (page after bytes : List ℕ)
+    → number ≡ page_number_at store.address → offset ≡ page_offset_at store.address
+    → IsPending store.address store.size → bytes ≡ take store.size (to_le_bytes w32 store.value)
+    → lookup (is_at (nat_cmp number)) old ≡ Some page
+    → ((k : ℕ) → get_or after k 0 ≡ written page offset bytes k)
+    → Puts old new number after → byte_among new ≡ stored_among (byte_among old) store
+stored-kept-at old new store number offset page after bytes n o is e found over puts =
+    stored-kept old new store page after bytes is e (rw (← n) found) (λ k. rw (← o) (over k)) (λ q. rw (← n) (puts q))
+
+pub stored-new-at : (old new : List (ℕ × List ℕ)) (store : PendingView) (number offset : ℕ) (page after bytes : List ℕ)
+    → number ≡ page_number_at store.address → offset ≡ page_offset_at store.address
+    → IsPending store.address store.size → bytes ≡ take store.size (to_le_bytes w32 store.value)
+    → lookup (is_at (nat_cmp number)) old ≡ None → page ≡ replicate 4096 0
+    → ((k : ℕ) → get_or after k 0 ≡ written page offset bytes k)
+    → Puts old new number after → byte_among new ≡ stored_among (byte_among old) store
+stored-new-at old new store number offset page after bytes n o is e found zeros over puts =
+    stored-new old new store page after bytes is e (rw (← n) found) zeros (λ k. rw (← o) (over k)) (λ q. rw (← n) (puts q))
 
 -- the pages that are kept when so many are dropped
 abbrev pub stays : ℕ → ℕ → ℕ → Bool

@@ -2,7 +2,7 @@ ghost use Rattle.std.specs.Prelude.{◌≡◌, [], OnOk, OnErr};
 ghost use Rattle.flat_memory.specs.FlatMemory.{byte_among, stored_among, zeroed_among};
 
 use crate::kept_pages::KeptPage;
-use mind_base::{NoMemory, Pending};
+use mind_base::{NoMemory, Page, Pending};
 use std::alloc::Global;
 use std::collections::BTreeMap;
 use std::marker::Model;
@@ -35,8 +35,8 @@ impl DomainMemory {
     pub(crate) fn byte(&self, address: u32) -> u8
         ensures { result ≡ byte_among self.now address }
     {
-        match self.pages.get(&(address / 4096)) {
-            Some(page) => page.byte(address % 4096),
+        match self.pages.get(&Page::number_at(address)) {
+            Some(page) => page.byte(Page::offset_at(address)),
             None => 0,
         }
     }
@@ -46,8 +46,8 @@ impl DomainMemory {
         ensures ok { OnOk result (byte_among self.new ≡ stored_among (byte_among self.old) store) }
         ensures err { OnErr result (self.new ≡ self.old) }
     {
-        let number = store.address / 4096;
-        let offset = store.address % 4096;
+        let number = Page::number_at(store.address);
+        let offset = Page::offset_at(store.address);
         let word = store.value.to_le_bytes();
         let bytes = &word[..store.size as usize];
         if let Some(page) = self.pages.get_mut(&number) {

@@ -2,7 +2,7 @@ ghost use Rattle.std.specs.Prelude.{◌≡◌, ◌<◌, IfOk, OnOk, OnErr};
 ghost use Rattle.flat_memory.specs.FlatMemory.{byte_in, stored, zeroed};
 
 use crate::domains::DomainMemory;
-use mind_base::{NoMemory, Pending, Span};
+use mind_base::{NoMemory, Pending, Place, Span};
 use std::alloc::Global;
 use std::marker::Model;
 
@@ -37,12 +37,11 @@ impl FlatMemory {
         Ok(FlatMemory { domains, alloc })
     }
 
-    /// The byte at an address of a domain, which is below 16.
-    pub fn byte(&self, domain: u8, address: u32) -> u8
-        requires { domain < 16 }
-        ensures { result ≡ byte_in self.now domain address }
+    /// The byte at a place.
+    pub fn byte(&self, place: Place) -> u8
+        ensures { result ≡ byte_in self.now place.domain place.address }
     {
-        self.domains[domain as usize].byte(address)
+        self.domains[place.domain as usize].byte(place.address)
     }
 
     /// Lets the store take effect in a domain, which is below 16. After an error the memory is as it was.

@@ -1,5 +1,5 @@
 use super::*;
-use mind_base::{Pending, Span};
+use mind_base::{Pending, Place, Span};
 use std::test::Fail;
 
 /// A domain, an address in it, and the byte that is to be there.
@@ -7,7 +7,7 @@ type Row = (u8, u32, u8);
 
 fn holds(memory: &FlatMemory, row: &Row) -> bool {
     let (domain, address, byte) = *row;
-    domain < 16 && memory.byte(domain, address) == byte
+    domain < 16 && memory.byte(Place::of(domain, address)) == byte
 }
 
 #[test]
