@@ -4,13 +4,13 @@ use Rattle.std.specs.List.{slice_get, slice_set}
 use Rattle.std.specs.Option.{option_and_then, option_map}
 use Rattle.std.proofs.lemmas.List.{set-get_or}
 use Rattle.std.proofs.lemmas.Option.{slice_get_read}
-use Rattle.flat_memory.specs.FlatMemory.{MemoryView, byte_in, stored}
+use Rattle.flat_memory.specs.FlatMemory.{MemoryView, byte_in}
 use Rattle.mind_base.specs.declared.images.Image.{Image}
 use Rattle.mind_base.specs.declared.plans.ThreadPlan.{ThreadPlan}
 use Rattle.protect_table.specs.Protect.{permission_at}
 use Rattle.hart_effect.specs.Thread.{Thread}
 use Rattle.tso_machine.specs.State.{State}
-use Rattle.hart_effect.specs.Place.{place_of, granule_at}
+use Rattle.mind_base.specs.Place.{place_of, granule_at}
 use Rattle.tso_machine.specs.Memory.{byte_of}
 use Rattle.hart_effect.specs.Access.{Around}
 use Rattle.hart_effect.specs.Deed.{Deed, Alone, Storing, executed, drained}
@@ -18,6 +18,7 @@ use Rattle.tso_machine.specs.Done.{Does, Settles}
 use Rattle.tso_machine.specs.Step.{threads_off, around_in, done_by, after_exec, after_drain}
 use Rattle.tso_machine.specs.Machine.{MachineView, StandsFor, LeadsTo, CarriesOut, around_at}
 use Rattle.tso_machine.specs.declared.deeds.Done.{Done}
+use Rattle.tso_machine.specs.Storing.{stored_by}
 use Rattle.tso_machine.proofs.Writing.{stored-is}
 
 -- thread hart did its deed, and what it did is settled
@@ -79,7 +80,7 @@ leads-deed old new s hart domain result (Some (Storing t store)) same stands c =
   c.0,
   record {
     threads = c.1 ∙ ap (λ ts. threads_off (granule_at (place_of domain store.address)) (slice_set ts hart t)) stands.threads;
-    bytes = c.2 ∙ ap (λ b. stored b domain store) stands.bytes ∙ stored-is s.writes domain store;
+    bytes = c.2 ∙ ap (λ b. stored_by b domain store) stands.bytes ∙ stored-is s.writes domain store;
     perms = ap permission_at same.perms ∙ stands.perms;
     taken = same.taken ∙ stands.taken;
   },

@@ -19,7 +19,7 @@ use Rattle.mind_base.specs.declared.images.Image.{Image}
 use Rattle.mind_base.specs.declared.plans.ThreadPlan.{ThreadPlan}
 use Rattle.hart_effect.specs.Thread.{Thread}
 use Rattle.tso_machine.specs.State.{Setup, State}
-use Rattle.hart_effect.specs.Place.{place_of, granule_at}
+use Rattle.mind_base.specs.Place.{place_of, granule_at}
 use Rattle.hart_effect.specs.Access.{Around, read_denied, write_denied}
 use Rattle.hart_effect.specs.Deed.{Deed, Alone, Storing, faulted, continued, put_out, unless_denied, called, locked_done, holds_reservation, stored_if, acted, must_wait, holds_stores, found, carried_out, executed_at, executed, drained_of, drained}
 use Rattle.tso_machine.specs.Step.{around_in, done_by, after}

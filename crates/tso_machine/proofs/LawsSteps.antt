@@ -8,11 +8,10 @@ use Rattle.mind_base.specs.Pending.{PendingView}
 use Rattle.mind_base.specs.Span.{SpanView}
 use Rattle.hart_effect.specs.Thread.{Thread}
 use Rattle.tso_machine.specs.State.{Setup, State, Taken}
-use Rattle.hart_effect.specs.Place.{place_of, granule_at}
+use Rattle.mind_base.specs.Place.{Granule, place_of, granule_at}
 use Rattle.hart_effect.specs.Deed.{Deed, Alone, Storing}
 use Rattle.tso_machine.specs.Step.{done_by, bytes_of, threads_off, after}
 use Rattle.tso_machine.specs.Orders.{Zeroed, event_of, effect_of, in_effect, executes, zeroes, performs, stores_of, effects_of, spans_of, accepted_spans, writes_of}
-use Rattle.hart_effect.specs.declared.granules.Granule.{Granule}
 use Rattle.tso_machine.specs.declared.labels.Label.{Label}
 use Rattle.tso_machine.specs.declared.labels.Label.TheVariants as label
 use Rattle.tso_machine.proofs.LawsDeeds.{thread_of, Changes, Stays, Waits, AtOnce, Drains, Stepped, stepped-exec, stepped-drain}

@@ -14,8 +14,8 @@ pub mod Runs
 pub mod Starts
 pub mod Carrying
 pub mod Commanding
+pub mod Counting
 pub mod Marking
-pub mod Samples
 pub mod Threads
 pub mod Waiting
 pub mod Writing

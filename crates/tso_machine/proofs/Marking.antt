@@ -1,5 +1,5 @@
 -- The commands that were taken, as the outcomes of the queue say it.
-use Rattle.std.proofs.Common.{◌≡◌, ℕ, zero, suc, ◌+◌, ◌<◌, ◌≤◌, ◌∙◌, ap, sym, refl, subst, Bool, true, false, ◌==◌, ◌&&◌, not, List, [], ◌∷◌, ◌++◌, length, get_or, take, drop, Option, Some, None, is_some, arith, add-zero, if◌then◌else◌}
+use Rattle.std.proofs.Common.{◌≡◌, ℕ, zero, suc, ◌+◌, ◌<◌, ◌≤◌, ◌∙◌, ap, sym, refl, subst, Bool, true, false, ◌==◌, ◌&&◌, not, List, [], ◌∷◌, ◌++◌, length, get_or, take, drop, Option, Some, None, is_some, IfSome, IsSomeAnd, arith, add-zero, if◌then◌else◌}
 use Rattle.std.specs.List.{slice_get, slice_set}
 use Rattle.std.specs.Option.{option_and_then}
 use Rattle.std.proofs.Math.Seq.{drop-cons}
@@ -119,6 +119,21 @@ next-changes cs os next command q within is =
 pub outcome-at : (os : List (Option Outcome)) (next index : ℕ) (o : Option Outcome) → index < next → index < length os → o ≡ get_or os index o
     → o ≡ outcome_at (taken_from 0 (take next os)) index
 outcome-at os next index o before within is = sym (outcome-is (take next os) index ∙ get_or-take next os index None before ∙ get_or_from_slice_get os index o None (slice_get_read os (length os) index o refl within is))
+
+-- where a command has an outcome, it is a change
+marked-at : (os : List (Option Outcome)) (cs : List Command) (k : ℕ) → AreMarked os cs → IfSome (get_or os k None) (λ o. IsSomeAnd (slice_get cs k) IsChange)
+marked-at [] cs k marked = tt
+marked-at (o ∷ os) [] k marked = absurd marked
+marked-at (None ∷ os) (c ∷ cs) zero marked = tt
+marked-at (Some o ∷ os) (c ∷ cs) zero marked = change c (sym marked.0)
+marked-at (o ∷ os) (c ∷ cs) (suc k) marked = marked-at os cs k marked.1
+
+pub outcome-changes : (cs : List Command) (os : List (Option Outcome)) (next index : ℕ) (o : Option Outcome) → IsQueue cs os next → index < next → index < length os → o ≡ get_or os index o
+    → IfSome o (λ p. IsSomeAnd (slice_get cs index) IsChange)
+outcome-changes cs os next index o q before within is =
+    let e : get_or (take next os) index None ≡ o = get_or-take next os index None before ∙ get_or_from_slice_get os index o None (slice_get_read os (length os) index o refl within is) in
+    let P : Option Outcome → Type 0 = λ p. IfSome p (λ _. IsSomeAnd (slice_get cs index) IsChange) in
+    subst P e (marked-at (take next os) cs index q.passed.marked)
 
 pub no-outcome : (os : List (Option Outcome)) (next index : ℕ) → next ≤ length os → next ≤ index → None ≡ outcome_at (taken_from 0 (take next os)) index
 no-outcome os next index within past = sym (outcome-is (take next os) index ∙ get_or_past (take next os) index None (omega (arith, length-take-le next os within)))

@@ -1,5 +1,5 @@
 -- No thread comes or goes.
-use Rattle.std.proofs.Common.{◌≡◌, ℕ, suc, ◌∙◌, ap, sym, refl, List, [], ◌∷◌, length, Option, Some, None, Bool, true, false, ◌==◌, if◌then◌else◌}
+use Rattle.std.proofs.Common.{◌≡◌, ℕ, ◌∙◌, ap, sym, refl, List, [], ◌∷◌, length, Option, Some, None, Bool, true, false, ◌==◌, if◌then◌else◌}
 use Rattle.std.specs.List.{slice_get}
 use Rattle.std.specs.Option.{option_map, option_and_then}
 use Rattle.std.proofs.lemmas.List.{length-set, length-map}
@@ -11,9 +11,8 @@ use Rattle.hart_effect.specs.Thread.{Thread}
 use Rattle.tso_machine.specs.State.{Setup, State}
 use Rattle.tso_machine.specs.Commands.{next_command, is_held_up, thread_outside, threads_after, taken_as, outcome_in_state, taken_unless_held_up}
 use Rattle.hart_effect.specs.Deed.{Deed, Alone, Storing, executed, drained}
-use Rattle.hart_effect.specs.Place.{place_of, granule_at}
+use Rattle.mind_base.specs.Place.{place_of, granule_at}
 use Rattle.tso_machine.specs.Step.{done_by, around_in, thread_off, after}
-use Rattle.tso_machine.specs.Replay.{Replayed, Whole, Stuck, advanced, advance, advance_all, replay}
 use Rattle.tso_machine.specs.declared.labels.Label.{Label}
 use Rattle.tso_machine.specs.declared.labels.Label.TheVariants as label
 
@@ -55,28 +54,3 @@ after-length setup s t (label.Drain hart) e =
     deed-length hart plan.domain s t (drained thread) k))
 after-length setup s t (label.Command index) e =
     option_and_then_some _ (next_command setup.commands s.taken) t e (λ n f g. next-length setup s t index (n == index) g)
-
--- where labels lead there are as many threads as before
-abbrev Ends : Replayed → State → Type 0
-Ends (Whole m) s = length m.threads ≡ length s.threads
-Ends (Stuck k m) s = length m.threads ≡ length s.threads
-
-same_Whole : (m t : State) → Whole m ≡ Whole t → m ≡ t
-same_Whole m t e = cc
-
-advanced-ends : (setup : Setup) (n : ℕ) (s m : State) (l : Label) (o : Option State) → after setup m l ≡ o → length m.threads ≡ length s.threads → Ends (advanced n m o) s
-advanced-ends setup n s m l None e same = same
-advanced-ends setup n s m l (Some next) e same = after-length setup m next l e ∙ same
-
-advance-ends : (setup : Setup) (n : ℕ) (s : State) (r : Replayed) (l : Label) → Ends r s → Ends (advance setup n r l) s
-advance-ends setup n s (Whole m) l same = advanced-ends setup n s m l (after setup m l) refl same
-advance-ends setup n s (Stuck k m) l same = same
-
-advance_all-length : (setup : Setup) (n : ℕ) (s t : State) (r : Replayed) (ls : List Label) → Ends r s → advance_all setup n r ls ≡ Whole t → length t.threads ≡ length s.threads
-advance_all-length setup n s t (Whole m) [] same e = ap (λ x. length x.threads) (sym (same_Whole m t e)) ∙ same
-advance_all-length setup n s t (Stuck k m) [] same e = absurd (cc)
-advance_all-length setup n s t r (l ∷ ls) same e = advance_all-length setup (suc n) s t (advance setup n r l) ls (advance-ends setup n s r l same) e
-
--- a whole run leaves as many threads as there were
-pub replay-length : (setup : Setup) (s t : State) (ls : List Label) → replay setup s ls ≡ Whole t → length t.threads ≡ length s.threads
-replay-length setup s t ls e = advance_all-length setup 0 s t (Whole s) ls refl e

@@ -14,8 +14,7 @@ use Rattle.mind_base.specs.declared.plans.MapPlan.{MapPlan}
 use Rattle.mind_base.specs.declared.plans.ThreadPlan.{ThreadPlan}
 use Rattle.hart_effect.specs.Thread.{Thread}
 use Rattle.tso_machine.specs.State.{Setup, Write, Zeros, Taken, State}
-use Rattle.hart_effect.specs.Place.{place_of, page_at, page_with}
-use Rattle.hart_effect.specs.declared.granules.Granule.{Granule}
+use Rattle.mind_base.specs.Place.{Granule, place_of, page_at, page_with}
 
 -- ---- which command is next
 

@@ -1,9 +1,10 @@
 -- What a thread of the code has done of a deed.
 use Rattle.std.specs.Prelude.{◌≡◌, ℕ, Bool, true, false, List, Option, Some, None}
-use Rattle.flat_memory.specs.FlatMemory.{MemoryView, byte_in, stored}
+use Rattle.flat_memory.specs.FlatMemory.{MemoryView, byte_in}
 use Rattle.hart_effect.specs.Thread.{Thread}
 use Rattle.hart_effect.specs.Deed.{Deed, Alone, Storing}
-use Rattle.hart_effect.specs.Place.{place_of, granule_at}
+use Rattle.mind_base.specs.Place.{place_of, granule_at}
+use Rattle.tso_machine.specs.Storing.{stored_by}
 use Rattle.tso_machine.specs.Step.{threads_off}
 use Rattle.tso_machine.specs.declared.deeds.Done.{Done}
 use Rattle.tso_machine.specs.declared.deeds.Done.TheVariants as done
@@ -13,12 +14,7 @@ abbrev pub Does : Done → ℕ → Thread → MemoryView → Thread → MemoryVi
 Does answer domain old m new m' None = (answer ≡ done.Nothing) × (new ≡ old) × (m' ≡ m)
 Does answer domain old m new m' (Some (Alone thread)) = (answer ≡ done.Changed) × (new ≡ thread) × (m' ≡ m)
 Does answer domain old m new m' (Some (Storing thread store)) =
-    (answer ≡ done.Stored store) × (new ≡ thread) × (byte_in m' ≡ stored (byte_in m) domain store)
-
--- the same of a deed in which the thread alone changes
-abbrev pub DoesAlone : Done → Thread → Deed → Type 0
-DoesAlone answer new (Alone thread) = (answer ≡ done.Changed) × (new ≡ thread)
-DoesAlone answer new (Storing thread store) = ⊥
+    (answer ≡ done.Stored store) × (new ≡ thread) × (byte_in m' ≡ stored_by (byte_in m) domain store)
 
 -- what was done is settled: where a store took effect, all reservations on its granule go
 abbrev pub Settles : Bool → ℕ → Done → List Thread → List Thread → Type 0

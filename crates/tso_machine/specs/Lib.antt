@@ -6,7 +6,7 @@ pub mod Memory
 pub mod Orders
 pub mod Queue
 pub mod Replay
-pub mod Sample
 pub mod Scheduled
 pub mod State
 pub mod Step
+pub mod Storing

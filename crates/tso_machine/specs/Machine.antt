@@ -1,14 +1,15 @@
 -- What a machine shows of itself, and which states it stands for.
 use Rattle.std.specs.Prelude.{◌≡◌, ℕ, Bool, true, false, List, ◌++◌, slice_set, Option, Some, None}
-use Rattle.flat_memory.specs.FlatMemory.{MemoryView, byte_in, stored}
+use Rattle.flat_memory.specs.FlatMemory.{MemoryView, byte_in}
 use Rattle.mind_base.specs.Permission.{permission_of}
 use Rattle.protect_table.specs.Protect.{ProtectView, permission_at}
 use Rattle.hart_effect.specs.Thread.{Thread}
 use Rattle.tso_machine.specs.State.{Setup, Taken, State}
-use Rattle.hart_effect.specs.Place.{place_of, granule_at}
+use Rattle.mind_base.specs.Place.{place_of, granule_at}
 use Rattle.tso_machine.specs.Memory.{byte_of}
 use Rattle.hart_effect.specs.Access.{Around}
 use Rattle.hart_effect.specs.Deed.{Deed, Alone, Storing}
+use Rattle.tso_machine.specs.Storing.{stored_by}
 use Rattle.tso_machine.specs.Step.{threads_off, after}
 use Rattle.tso_machine.specs.Replay.{Replayed, Whole, Stuck, replay}
 use Rattle.tso_machine.specs.declared.labels.Label.{Label}
@@ -71,4 +72,4 @@ CarriesOut done hart domain old m new m' None = (done ≡ false) × (new ≡ old
 CarriesOut done hart domain old m new m' (Some (Alone thread)) = (done ≡ true) × (new ≡ slice_set old hart thread) × (m' ≡ m)
 CarriesOut done hart domain old m new m' (Some (Storing thread store)) = (done ≡ true)
     × (new ≡ threads_off (granule_at (place_of domain store.address)) (slice_set old hart thread))
-    × (byte_in m' ≡ stored (byte_in m) domain store)
+    × (byte_in m' ≡ stored_by (byte_in m) domain store)

@@ -4,12 +4,11 @@ use Rattle.mind_base.specs.Pending.{PendingView, byte_number}
 use Rattle.mind_base.specs.Permission.{permission_of}
 use Rattle.hart_effect.specs.Thread.{Thread}
 use Rattle.tso_machine.specs.State.{Setup, Write, Byte, State}
-use Rattle.hart_effect.specs.Place.{place_of, granule_at, same_granule}
+use Rattle.mind_base.specs.Place.{Granule, place_of, granule_at, same_granule}
 use Rattle.tso_machine.specs.Memory.{byte_of}
 use Rattle.tso_machine.specs.Commands.{after_command}
 use Rattle.hart_effect.specs.Access.{Around}
 use Rattle.hart_effect.specs.Deed.{Deed, Alone, Storing, executed, drained}
-use Rattle.hart_effect.specs.declared.granules.Granule.{Granule}
 use Rattle.tso_machine.specs.declared.labels.Label.{Label}
 use Rattle.tso_machine.specs.declared.labels.Label.TheVariants as label
 

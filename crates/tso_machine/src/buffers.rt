@@ -1,12 +1,10 @@
-ghost use Rattle.std.specs.Prelude.{◌≡◌, ◌+◌, ◌∷◌, ◌++◌, [], None, Some, OnOk, OnErr, length, drop, slice_get, if◌then◌else◌};
+ghost use Rattle.std.specs.Prelude.{◌≡◌, ◌<◌, ◌+◌, ◌∷◌, ◌++◌, [], None, Some, OnOk, OnErr, length, drop, slice_get, if◌then◌else◌};
 ghost use Rattle.mind_base.specs.Pending.{covers, byte_at, newest_byte as newest_byte_of};
-ghost use Rattle.mind_base.specs.Span.{in_span};
-ghost use Rattle.mind_base.specs.Page.{page_of};
 ghost use Rattle.std.specs.List.{list_any};
 ghost use Rattle.tso_machine.specs.Commands.{stores_in};
 ghost use Rattle.hart_effect.specs.Deed.{holds_stores};
 
-use mind_base::{NoMemory, Pending, Span};
+use mind_base::{NoMemory, Pending, Place, Span};
 use std::alloc::Global;
 use std::collections::VecDeque;
 use std::marker::Model;
@@ -87,20 +85,19 @@ impl Buffer {
 
     /// Whether a store lies in a page of the span, for a thread of this domain.
     pub fn holds_store_in(&self, span: &Span, domain: u8) -> bool
+        requires { domain < 16 }
         ensures { result ≡ list_any (stores_in span.now domain) self.now }
     {
-        self.stores
-            .iter()
-            .any(|store| lies_in(span, domain, store.address))
+        self.stores.iter().any(|store| lies_in(store, span, domain))
     }
 }
 
-/// Whether the byte at an address of a domain lies in a page of the span.
-fn lies_in(span: &Span, domain: u8, address: u32) -> bool
-    ensures { result ≡ in_span span.now (page_of domain address) }
+/// Whether a store of a thread of this domain lies in a page of the span.
+fn lies_in(store: &Pending, span: &Span, domain: u8) -> bool
+    requires { domain < 16 }
+    ensures { result ≡ stores_in span.now domain store.now }
 {
-    let number = address / 4096;
-    domain == span.domain && span.base <= number && number < span.base + span.pages
+    span.has(Place::of(domain, store.address).page())
 }
 
 /// The byte that a store has at an address, where it covers it.

@@ -1,7 +1,8 @@
-ghost use Rattle.std.specs.Prelude.{◌≡◌, ◌≤◌, ◌/◌, OnOk, OnErr, if◌then◌else◌};
+ghost use Rattle.std.specs.Prelude.{◌≡◌, ◌≤◌, length, OnOk, OnErr, if◌then◌else◌};
 ghost use Rattle.control_plane.specs.Outcome.{IsChange, permissions_after};
 ghost use Rattle.flat_memory.specs.FlatMemory.{byte_in};
 ghost use Rattle.mind_base.specs.Cover.{cover_of};
+ghost use Rattle.mind_base.specs.Fit.{IsFit};
 ghost use Rattle.protect_table.specs.Protect.{permission_at};
 ghost use Rattle.tso_machine.specs.Commands.{is_buffered, is_held_up, threads_outside, threads_after, is_fine};
 ghost use Rattle.tso_machine.specs.Queue.{bytes_after};
@@ -9,24 +10,28 @@ ghost use Rattle.tso_machine.specs.Queue.{bytes_after};
 use crate::harts::Hart;
 use control_plane::apply;
 use flat_memory::FlatMemory;
-use mind_base::{Command, NoMemory, Outcome, Span, ThreadPlan};
+use mind_base::{Command, NoMemory, Outcome, RackPlan, Span};
 use protect_table::Protect;
 
 /// Whether the command must wait: a thread buffers a store in a page of its span.
-pub fn is_held_up(command: &Command, threads: &[ThreadPlan], harts: &[Hart]) -> bool
-    ensures { result ≡ is_held_up command.now threads.now harts.now }
+pub fn is_held_up(command: &Command, plan: &RackPlan, harts: &[Hart]) -> bool
+    requires { IsFit plan.now }
+    ensures { result ≡ is_held_up command.now plan.now.threads harts.now }
 {
     match command {
-        Command::Map { span, .. } => is_buffered(span, threads, harts),
-        Command::Unmap { span } => is_buffered(span, threads, harts),
-        Command::Protect { span, .. } => is_buffered(span, threads, harts),
+        Command::Map { span, .. } => is_buffered(span, plan, harts),
+        Command::Unmap { span } => is_buffered(span, plan, harts),
+        Command::Protect { span, .. } => is_buffered(span, plan, harts),
         Command::Migrate { .. } => false,
     }
 }
 
-fn is_buffered(span: &Span, threads: &[ThreadPlan], harts: &[Hart]) -> bool
-    ensures { result ≡ is_buffered span.now threads.now harts.now }
+#[tactic(auto, using(crate::proofs::Waiting::fit_domain))]
+fn is_buffered(span: &Span, plan: &RackPlan, harts: &[Hart]) -> bool
+    requires { IsFit plan.now }
+    ensures { result ≡ is_buffered span.now plan.now.threads harts.now }
 {
+    let threads = plan.threads.as_slice();
     for i in 0..threads.len().min(harts.len()) {
         if harts[i].buffers_in(span, threads[i].domain) {
             return true;
@@ -76,8 +81,10 @@ fn zero_mapped(command: &Command, memory: &mut FlatMemory)
 }
 
 /// Ends the reservations that the command takes away: those inside the span of a map or an unmap.
+#[tactic(auto, using(crate::proofs::Counting::length_outside))]
 pub fn end_reservations_by(command: &Command, harts: &mut Vec<Hart>)
-    ensures { harts.new.items ≡ threads_after command.now harts.old.items }
+    ensures threads { harts.new.items ≡ threads_after command.now harts.old.items }
+    ensures count { length harts.new.items ≡ length harts.old.items }
 {
     match command {
         Command::Map { span, .. } => end_reservations_in(harts, span),

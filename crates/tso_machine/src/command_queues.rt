@@ -1,4 +1,4 @@
-ghost use Rattle.std.specs.Prelude.{◌≡◌, ◌≤◌, ◌++◌, ◌∷◌, [], length, take, drop, Some, IfOk, IfSome};
+ghost use Rattle.std.specs.Prelude.{◌≡◌, ◌≤◌, ◌++◌, ◌∷◌, [], length, take, drop, Some, IfOk, IfSome, IsSomeAnd, slice_get};
 ghost use Rattle.control_plane.specs.Outcome.{IsChange};
 ghost use Rattle.tso_machine.specs.Commands.{is_change, outcome_at, next_command};
 ghost use Rattle.tso_machine.specs.Queue.{taken_from, IsPassed, IsQueue, command_if_next};
@@ -68,7 +68,8 @@ impl CommandQueue {
 
     /// How the command with this number ended; None where it was not taken.
     pub fn outcome(&self, index: u32) -> Option<Outcome>
-        ensures { result ≡ outcome_at self.now.taken index }
+        ensures taken { result ≡ outcome_at self.now.taken index }
+        ensures change { IfSome result (λ _. IsSomeAnd (slice_get self.now.commands index) IsChange) }
     {
         let index = index as usize;
         if index < self.next {

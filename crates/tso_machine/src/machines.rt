@@ -1,4 +1,5 @@
-ghost use Rattle.std.specs.Prelude.{◌≡◌, ◌<◌, ◌≤◌, length, map, IfOk, OnErr, slice_get, Some, option_map, option_and_then};
+ghost use Rattle.std.specs.Prelude.{◌≡◌, ◌<◌, ◌≤◌, length, map, IfOk, IfSome, IsSomeAnd, OnErr, slice_get, Some, option_map, option_and_then};
+ghost use Rattle.control_plane.specs.Outcome.{IsChange};
 ghost use Rattle.mind_base.specs.Fit.{IsFit, FitImages};
 ghost use Rattle.hart_effect.specs.Thread.{first_thread};
 ghost use Rattle.tso_machine.specs.State.{State, start_state, image_at};
@@ -18,8 +19,9 @@ use crate::harts::Hart;
 use crate::{Label, Replay, label_in};
 use control_plane::decide;
 use flat_memory::FlatMemory;
-use hart_effect::Granule;
-use mind_base::{Command, End, Image, ImagePlan, Log, NoMemory, Outcome, RackPlan, Sequence};
+use mind_base::{
+    Command, End, Granule, Image, ImagePlan, Log, NoMemory, Outcome, Place, RackPlan, Sequence,
+};
 use protect_table::Protect;
 use std::alloc::Global;
 use std::marker::Model;
@@ -37,7 +39,7 @@ pub struct Machine {
 }
 
 impl Model for Machine {
-    ghost use Rattle.std.specs.Prelude.{◌≡◌};
+    ghost use Rattle.std.specs.Prelude.{◌≡◌, length};
     ghost use Rattle.std.specs.Coded.{codes};
     ghost use Rattle.mind_base.specs.Fit.{IsFit};
     ghost use Rattle.protect_table.specs.Protect.{protect_code};
@@ -49,7 +51,7 @@ impl Model for Machine {
 
     ghost view = { λ m. record { setup = record { plan = m.plan; images = m.images; commands = m.commands.commands }; threads = m.harts.items; memory = m.memory; perms = m.perms; taken = m.commands.taken } };
 
-    ghost invariant = { λ m. IsFit m.plan × (m.perms.slots ≡ m.plan.protect) };
+    ghost invariant = { λ m. IsFit m.plan × (m.perms.slots ≡ m.plan.protect) × (length m.harts.items ≡ length m.plan.threads) };
 }
 
 impl Machine {
@@ -140,11 +142,7 @@ impl Machine {
         let Some(command) = self.commands.command_if_next(index) else {
             return Ok(false);
         };
-        if is_held_up(
-            &command,
-            self.plan.threads.as_slice(),
-            self.harts.as_slice(),
-        ) {
+        if is_held_up(&command, &self.plan, self.harts.as_slice()) {
             return Ok(false);
         }
         let outcome = decide(&command, self.plan.memories.as_slice(), &self.perms);
@@ -156,7 +154,10 @@ impl Machine {
 
     /// How the command with this number ended; None where it was not taken, or is a migrate.
     pub fn outcome(&self, index: u32) -> Option<Outcome>
-        ensures { result ≡ outcome_at self.now.taken index }
+        ensures taken { result ≡ outcome_at self.now.taken index }
+
+        // What was taken is a map, an unmap or a protect of the setup.
+        ensures change { IfSome result (λ _. IsSomeAnd (slice_get self.now.setup.commands index) IsChange) }
     {
         self.commands.outcome(index)
     }
@@ -213,17 +214,26 @@ impl Machine {
         Ok(Replay::Whole)
     }
 
-    /// Where a thread stands.
+    /// How many threads the machine has: as many as its plan, which has at most 64.
+    pub fn thread_count(&self) -> u8
+        ensures threads { result ≡ length self.now.threads }
+        ensures planned { result ≡ length self.now.setup.plan.threads }
+        ensures few { result ≤ 64 }
+    {
+        self.harts.len() as u8
+    }
+
+    /// Where a thread of the plan stands.
     pub fn end(&self, hart: u8) -> End
-        requires { hart < length self.now.threads }
+        requires { hart < length self.now.setup.plan.threads }
         ensures { option_map (λ thread. thread.end) (slice_get self.now.threads hart) ≡ Some result }
     {
         self.harts[usize::from(hart)].end()
     }
 
-    /// The bytes that a thread put out.
+    /// The bytes that a thread of the plan put out.
     pub fn output(&self, hart: u8) -> &[u8]
-        requires { hart < length self.now.threads }
+        requires { hart < length self.now.setup.plan.threads }
         ensures { option_map (λ thread. thread.output) (slice_get self.now.threads hart) ≡ Some result.now }
     {
         self.harts[usize::from(hart)].output()
@@ -231,6 +241,7 @@ impl Machine {
 }
 
 /// Lets thread number `hart`, of a domain, execute one instruction of its image.
+#[tactic(auto, using(crate::proofs::Counting::length_one))]
 fn execute_among(
     harts: &mut Vec<Hart>,
     memory: &mut FlatMemory,
@@ -242,6 +253,7 @@ fn execute_among(
     requires { domain < 16 }
     ensures ok { IfOk result (λ done. CarriesOut done hart domain harts.old.items memory.old harts.new.items memory.new
         (option_and_then (λ thread. executed image.now (around_at hart domain memory.old perms.now) thread) (slice_get harts.old.items hart))) }
+    ensures count { length harts.new.items ≡ length harts.old.items }
     ensures err { OnErr result ((harts.new.items ≡ harts.old.items) × (memory.new ≡ memory.old)) }
 {
     let index = usize::from(hart);
@@ -253,6 +265,7 @@ fn execute_among(
 }
 
 /// Lets the oldest store of thread number `hart`, of a domain, take effect.
+#[tactic(auto, using(crate::proofs::Counting::length_one))]
 fn drain_among(
     harts: &mut Vec<Hart>,
     memory: &mut FlatMemory,
@@ -262,6 +275,7 @@ fn drain_among(
     requires { domain < 16 }
     ensures ok { IfOk result (λ done. CarriesOut done hart domain harts.old.items memory.old harts.new.items memory.new
         (option_and_then drained (slice_get harts.old.items hart))) }
+    ensures count { length harts.new.items ≡ length harts.old.items }
     ensures err { OnErr result ((harts.new.items ≡ harts.old.items) × (memory.new ≡ memory.old)) }
 {
     let index = usize::from(hart);
@@ -273,14 +287,17 @@ fn drain_among(
 }
 
 /// Ends the reservations on the granule of a store that took effect. False where nothing was done.
+#[tactic(auto, using(crate::proofs::Counting::length_off))]
 fn settle_deed(harts: &mut Vec<Hart>, done: Done, domain: u8) -> bool
-    ensures { Settles result domain done harts.old.items harts.new.items }
+    requires { domain < 16 }
+    ensures settles { Settles result domain done harts.old.items harts.new.items }
+    ensures count { length harts.new.items ≡ length harts.old.items }
 {
     match done {
         Done::Nothing => false,
         Done::Changed => true,
         Done::Stored { store } => {
-            end_reservations(harts, Granule::of(domain, store.address));
+            end_reservations(harts, Place::of(domain, store.address).granule());
             true
         }
     }
@@ -314,8 +331,10 @@ fn image_place(images: &[ImagePlan], i: u8) -> u32
     }
 }
 
+#[tactic(auto, using(crate::proofs::Counting::length_first))]
 fn start_harts(alloc: Global, plan: &RackPlan) -> Result<Vec<Hart>, NoMemory>
-    ensures { IfOk result (λ harts. harts.items ≡ map (λ thread. first_thread (image_at plan.now.images thread.image)) plan.now.threads) }
+    ensures threads { IfOk result (λ harts. harts.items ≡ map (λ thread. first_thread (image_at plan.now.images thread.image)) plan.now.threads) }
+    ensures count { IfOk result (λ harts. length harts.items ≡ length plan.now.threads) }
 {
     let mut harts = Vec::new(alloc);
     let images = plan.images.as_slice();
@@ -324,6 +343,3 @@ fn start_harts(alloc: Global, plan: &RackPlan) -> Result<Vec<Hart>, NoMemory>
     }
     Ok(harts)
 }
-
-#[cfg(test)]
-mod tests;

@@ -4,7 +4,7 @@ use Rattle.mind_base.specs.Cover.{count_below, sum_below, is_uniform, has_unifor
 use Rattle.mind_base.specs.Fit.{IsFit, FitImages}
 use Rattle.mind_base.specs.declared.commands.Perm.TheVariants.{No}
 use Rattle.mind_base.specs.declared.plans.RackPlan.{RackPlan}
-use Rattle.tso_machine.specs.Sample.{sample_plan}
+use Rattle.tso_machine_rows.specs.Sample.{sample_plan}
 
 false-right : (a b : Bool) → (a && false) && b ≡ false
 false-right true b = refl

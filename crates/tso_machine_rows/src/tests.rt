@@ -3,12 +3,16 @@
 ghost use Rattle.std.specs.Prelude.{◌≡◌, ◌<◌, ◌≤◌, ◌∷◌, [], length, IfOk};
 ghost use Rattle.mind_base.specs.Fit.{IsFit, FitImages};
 ghost use Rattle.mind_base.specs.Span.{IsSpan};
-ghost use Rattle.tso_machine.specs.Sample.{sample_home, sample_memories, sample_threads, sample_plan};
+ghost use Rattle.tso_machine_rows.specs.Sample.{sample_home, sample_memories, sample_threads, sample_plan};
 
-use super::*;
-use mind_base::{MemoryPlan, Name, Perm, PolicyKind, Range, Span, ThreadPlan};
+use mind_base::{
+    Command, End, Image, ImagePlan, MemoryPlan, Name, NoMemory, Outcome, Perm, PolicyKind,
+    RackPlan, Range, Sequence, Span, ThreadPlan,
+};
+use std::alloc::Global;
 use std::process::Abort;
 use std::test::Fail;
+use tso_machine::{Label, Machine};
 
 // Stores A in page 16, reserves and stores it again there, and exits with the answer of the last store
 // added to the byte that is there then: lui a1, 16; addi a2, zero, 65; sw a2, 0(a1); lr.w a3, (a1);
@@ -144,7 +148,7 @@ fn first_other_end(
 
 /// Where the first thread stands.
 fn first_end(machine: &Machine) -> Option<End> {
-    if machine.harts.len() == 0 {
+    if machine.thread_count() == 0 {
         return None;
     }
     Some(machine.end(0))
