@@ -18,6 +18,14 @@ pub record Continues (rest total : Effect) (out out₀ : List Msg) (notes notes�
 pub begins_same : {X : Type 0} (xs : List X) → BeginsWith xs xs
 begins_same xs = record { rest = []; split = sym (append-nil xs) }
 
+begins_unchanged : {X : Type 0} (xs ys : List X) → ys ≡ xs → BeginsWith xs ys
+begins_unchanged xs ys e = record { rest = []; split = e ∙ sym (append-nil xs) }
+
+-- an error leaves what was sent and noted as it was
+pub left_alone : {A E : Type 0} (r : Result A E) (out out' : List Msg) (notes notes' : List Note) → (out' ≡ out) × (notes' ≡ notes) → OnErr r (BeginsWith out out' × BeginsWith notes notes')
+left_alone (Ok a) out out' notes notes' e = tt
+left_alone (Err r) out out' notes notes' e = (begins_unchanged out out' e.0, begins_unchanged notes notes' e.1)
+
 pub begins_more : {X : Type 0} (front xs ys zs : List X) → BeginsWith front xs → ys ≡ xs ++ zs → BeginsWith front ys
 begins_more front xs ys zs b e = record { rest = b.rest ++ zs; split = e ∙ (ap (λ l. l ++ zs) b.split ∙ append_assoc front b.rest zs) }
 

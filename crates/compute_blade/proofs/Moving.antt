@@ -4,14 +4,13 @@ use Rattle.mind_base.specs.Pending.{PendingView}
 use Rattle.mind_base.specs.declared.notes.Note.{Note}
 use Rattle.mind_base.specs.declared.notes.Note.TheVariants as note
 use Rattle.mind_base.specs.declared.plans.ThreadPlan.{ThreadPlan}
-use Rattle.hart_effect.specs.Access.{Around}
 use Rattle.hart_effect.specs.Deed.{Deed, carried_out}
 use Rattle.hart_effect.specs.declared.finds.Found.{Found}
 use Rattle.page_cache.specs.PageCache.{CacheView}
-use Rattle.compute_blade.specs.Blade.{HartView, BladeView, Notes, hart_of, HasSpent, last_store}
+use Rattle.compute_blade.specs.Blade.{HartView, BladeView, Notes, hart_of, with_hart, HasSpent, last_store}
 use Rattle.compute_blade.specs.Frames.{around_held, thread_of}
 use Rattle.compute_blade.specs.Harts.{DoesSome, TakesEffect}
-use Rattle.compute_blade.specs.Steps.{performed_by, performed_in, drained}
+use Rattle.compute_blade.specs.Steps.{performed_by, performed, drained}
 
 -- what stands at a place, written there again
 pub same_place : {X : Type 0} (xs : List X) (i : ℕ) (x : X) → slice_get xs i ≡ Some x → slice_set xs i x ≡ xs
@@ -25,7 +24,7 @@ placed [] i x y h = let never : ⊥ = cc in absurd never
 placed (z ∷ zs) zero x y h = refl
 placed (z ∷ zs) (suc i) x y h = placed zs i x y h
 
-inner : (o : Option (Option HartView)) (hart : HartView) → option_and_then (λ hart. hart) o ≡ Some hart → o ≡ Some (Some hart)
+pub inner : (o : Option (Option HartView)) (hart : HartView) → option_and_then (λ hart. hart) o ≡ Some hart → o ≡ Some (Some hart)
 inner None hart h = let never : ⊥ = cc in absurd never
 inner (Some o) hart h = ap Some h
 
@@ -93,16 +92,25 @@ spent_at blade now i h place hart hart' cache' r kept spent =
       ap (λ j. moved blade j hart' cache') r.index ∙ (moved_same blade h hart hart' cache' is kept.0 kept.1 ∙ r.view),
     )
 
+-- hart h changed
+pub changed_own : (change : HartView → HartView) (h : ℕ) (blade now : BladeView) (i : ℕ) (place : Option HartView) (hart hart' : HartView)
+    → IsRead blade now i h place hart → hart' ≡ change hart
+    → IfSome (hart_of now h) (λ hart. moved blade i hart' blade.cache ≡ with_hart h (change hart) now)
+changed_own change h blade now i place hart hart' r does =
+    subst (λ b. IfSome (hart_of b h) (λ hart. moved blade i hart' blade.cache ≡ with_hart h (change hart) b)) r.view
+    (of_hart (λ hart. moved blade i hart' blade.cache ≡ with_hart h (change hart) blade) (hart_of blade h) hart (own_read blade now i h place hart r)
+    ((λ k. moved blade (r.index k) (does k) blade.cache)))
+
 -- hart h did its deed, by what it found around it
-pub performed_own : (change : Around → Around) (h : ℕ) (plan : ThreadPlan) (found : Found) (pc : ℕ) (blade now : BladeView) (i : ℕ) (place : Option HartView) (hart hart' : HartView) (cache' : CacheView) (notes notes' : List Note)
+pub performed_own : (h : ℕ) (plan : ThreadPlan) (found : Found) (pc : ℕ) (blade now : BladeView) (i : ℕ) (place : Option HartView) (hart hart' : HartView) (cache' : CacheView) (notes notes' : List Note)
     → IsRead blade now i h place hart
-    → DoesSome h plan.domain found hart blade.cache hart' cache' (carried_out found (change (around_held blade.cache.entries h plan.domain)) pc (thread_of blade.cache.entries hart))
+    → DoesSome h plan.domain found hart blade.cache hart' cache' (carried_out found (around_held blade.cache.entries h plan.domain) pc (thread_of blade.cache.entries hart))
     → notes' ≡ notes ++ note.Exec h ∷ []
-    → IfSome (hart_of now h) (λ hart. Notes (performed_in (change (around_held now.cache.entries h plan.domain)) h plan found pc now hart) (moved blade i hart' cache') notes notes')
-performed_own change h plan found pc blade now i place hart hart' cache' notes notes' r does noted =
-    subst (λ b. IfSome (hart_of b h) (λ hart. Notes (performed_in (change (around_held b.cache.entries h plan.domain)) h plan found pc b hart) (moved blade i hart' cache') notes notes')) r.view
-    (of_hart (λ hart. Notes (performed_in (change (around_held blade.cache.entries h plan.domain)) h plan found pc blade hart) (moved blade i hart' cache') notes notes') (hart_of blade h) hart (own_read blade now i h place hart r)
-    (performed_at (carried_out found (change (around_held blade.cache.entries h plan.domain)) pc (thread_of blade.cache.entries hart)) h plan found blade (moved blade i hart' cache') hart hart' cache' notes notes' does
+    → IfSome (hart_of now h) (λ hart. Notes (performed h plan found pc now hart) (moved blade i hart' cache') notes notes')
+performed_own h plan found pc blade now i place hart hart' cache' notes notes' r does noted =
+    subst (λ b. IfSome (hart_of b h) (λ hart. Notes (performed h plan found pc b hart) (moved blade i hart' cache') notes notes')) r.view
+    (of_hart (λ hart. Notes (performed h plan found pc blade hart) (moved blade i hart' cache') notes notes') (hart_of blade h) hart (own_read blade now i h place hart r)
+    (performed_at (carried_out found (around_held blade.cache.entries h plan.domain) pc (thread_of blade.cache.entries hart)) h plan found blade (moved blade i hart' cache') hart hart' cache' notes notes' does
     (ap (λ j. moved blade j hart' cache') r.index) noted))
 
 -- the oldest store of hart h took effect

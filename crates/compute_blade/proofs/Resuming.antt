@@ -1,12 +1,13 @@
 -- What waited for a page, where the request is answered.
 use Rattle.std.proofs.Common.{◌≡◌, true, List, Option, Some, None, IfSome, is_some, slice_get, refl, sym, subst, ◌∙◌}
+use Rattle.std.specs.Prelude.{IsSomeAnd}
 use Rattle.mind_base.specs.Page.{PageView}
 use Rattle.mind_base.specs.declared.images.Image.{Image}
 use Rattle.mind_base.specs.declared.notes.Note.{Note}
 use Rattle.mind_base.specs.declared.plans.ThreadPlan.{ThreadPlan}
 use Rattle.wire_msg.specs.declared.msgs.Msg.{Msg}
-use Rattle.compute_blade.specs.Blade.{HartView, BladeView, Did, HasSpent, SomeSpent, hart_of, with_hart, answered, request_for, last_store}
-use Rattle.compute_blade.specs.Messages.{awake, resumed, resumed_by, resumed_for}
+use Rattle.compute_blade.specs.Blade.{HartView, BladeView, Did, HasSpent, hart_of, with_hart, answered, request_for, last_store}
+use Rattle.compute_blade.specs.Messages.{awake, need_asked, resumed, resumed_by, resumed_for}
 use Rattle.compute_blade.specs.declared.kept.Answer.{Answer}
 use Rattle.compute_blade.specs.declared.kept.Asked.{Asked}
 use Rattle.compute_blade.specs.declared.kept.Waits.{Waits}
@@ -43,25 +44,27 @@ there blade mid asked w = by_hart (hart_of blade asked.hart) refl w.own w.awake 
 
 pub resumed_ok : (answer : Answer) (images : List Image) (asked : Asked) (plan : ThreadPlan) (blade mid new : BladeView) (out out' : List Msg) (notes notes' : List Note)
     → IsWoken blade mid asked → slice_get blade.plan.threads asked.hart ≡ Some plan
-    → IfSome (hart_of mid asked.hart) (λ hart. Did (resumed_by asked.waits answer images asked.hart plan mid hart) new out out' notes notes')
+    → IfSome (hart_of mid asked.hart) (λ hart. Did (resumed_by asked.waits answer (need_asked asked) images asked.hart plan mid hart) new out out' notes notes')
     → Did (resumed answer images asked blade) new out out' notes notes'
 resumed_ok answer images asked plan blade mid new out out' notes notes' w planned did =
     let h = there blade mid asked w in
-    let P : BladeView → Type 0 = λ b. IfSome (hart_of b asked.hart) (λ hart. Did (resumed_by asked.waits answer images asked.hart plan b hart) new out out' notes notes') in
-    let Q : Option HartView → Type 0 = λ o. IfSome o (λ hart. Did (resumed_by asked.waits answer images asked.hart plan (woken blade asked h.0) hart) new out out' notes notes') in
+    let P : BladeView → Type 0 = λ b. IfSome (hart_of b asked.hart) (λ hart. Did (resumed_by asked.waits answer (need_asked asked) images asked.hart plan b hart) new out out' notes notes') in
+    let Q : Option HartView → Type 0 = λ o. IfSome o (λ hart. Did (resumed_by asked.waits answer (need_asked asked) images asked.hart plan (woken blade asked h.0) hart) new out out' notes notes') in
     rw (planned, h.1) (subst Q (woken_hart blade asked h.0 h.1) (subst P h.2 did))
 
 pub resumed_some : (answer : Answer) (images : List Image) (page : PageView) (asked : Asked) (plan : ThreadPlan) (blade mid new : BladeView) (out out' : List Msg) (notes notes' : List Note)
     → IsWoken blade mid asked → Some asked ≡ request_for page blade.requests → slice_get blade.plan.threads asked.hart ≡ Some plan
-    → IfSome (hart_of mid asked.hart) (λ hart. Did (resumed_by asked.waits answer images asked.hart plan mid hart) new out out' notes notes')
+    → IfSome (hart_of mid asked.hart) (λ hart. Did (resumed_by asked.waits answer (need_asked asked) images asked.hart plan mid hart) new out out' notes notes')
     → Did (resumed_for answer images (request_for page blade.requests) blade) new out out' notes notes'
 resumed_some answer images page asked plan blade mid new out out' notes notes' w is planned did =
     subst (λ o. Did (resumed_for answer images o blade) new out out' notes notes') is (resumed_ok answer images asked plan blade mid new out out' notes notes' w planned did)
 
 -- a hart that spent its tags had done so before it was woken
-pub spent_before : (blade mid new : BladeView) (asked : Asked) → IsWoken blade mid asked → HasSpent asked.hart mid × (new ≡ mid) → SomeSpent blade × SomeSpent new
-spent_before blade mid new asked w s =
+pub spent_before : (page : PageView) (blade mid new : BladeView) (asked : Asked) → IsWoken blade mid asked → Some asked ≡ request_for page blade.requests → HasSpent asked.hart mid × (new ≡ mid)
+    → IsSomeAnd (request_for page blade.requests) (λ asked. HasSpent asked.hart blade × HasSpent asked.hart new)
+spent_before page blade mid new asked w is s =
     let h = there blade mid asked w in
     let after : HasSpent asked.hart (woken blade asked h.0) = subst (HasSpent asked.hart) h.2 s.0 in
     let stores : (awake asked.waits h.0).stores ≡ last_store = rw (woken_hart blade asked h.0 h.1) at after in
-    ((asked.hart, rw h.1 (sym (awake-stores asked.waits h.0) ∙ stores)), (asked.hart, subst (HasSpent asked.hart) (sym s.1) s.0))
+    let both : HasSpent asked.hart blade × HasSpent asked.hart new = (rw h.1 (sym (awake-stores asked.waits h.0) ∙ stores), subst (HasSpent asked.hart) (sym s.1) s.0) in
+    subst (λ o. IsSomeAnd o (λ asked. HasSpent asked.hart blade × HasSpent asked.hart new)) is both

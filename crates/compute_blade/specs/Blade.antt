@@ -1,11 +1,12 @@
 -- What is seen of a compute blade, and what one call on it does.
-use Rattle.std.specs.Prelude.{◌≡◌, ℕ, ◌<◌, ◌≤◌, Bool, List, [], ◌∷◌, ◌++◌, length, filter, not, slice_get, slice_set, Option, Some, None, option_and_then, is_some, IsSomeAnd}
+use Rattle.std.specs.Prelude.{◌≡◌, ℕ, ◌==◌, ◌<◌, ◌≤◌, Bool, List, [], ◌∷◌, ◌++◌, length, filter, not, slice_get, slice_set, slice_index, Option, Some, None, option_and_then, is_some, IsSomeAnd}
 use Rattle.std.specs.List.{find, list_any}
 use Rattle.mind_base.specs.Fit.{IsFit}
 use Rattle.mind_base.specs.Page.{PageView}
 use Rattle.mind_base.specs.declared.ends.End.{End}
 use Rattle.mind_base.specs.declared.notes.Note.{Note}
 use Rattle.mind_base.specs.declared.plans.RackPlan.{RackPlan}
+use Rattle.mind_base.specs.declared.plans.ThreadPlan.{ThreadPlan}
 use Rattle.page_cache.specs.PageCache.{CacheView, same_page}
 use Rattle.store_queue.specs.StoreQueue.{QueueView}
 use Rattle.wire_msg.specs.declared.msgs.Msg.{Msg}
@@ -33,14 +34,6 @@ pub record BladeView : Type 0 where
   pub cache : CacheView
   pub requests : List Asked
 
--- the plan is one of a rack, and has the blade; there is a place for each hart of the plan; and the cache
--- has as many frames as a plan allows at most
-pub record IsBlade (blade : BladeView) : Type 0 where
-  pub fit : IsFit blade.plan
-  pub number : blade.number < length blade.plan.frames
-  pub harts : length blade.harts ≡ length blade.plan.threads
-  pub frames : blade.cache.frames ≤ 1024
-
 -- the number of a hart's last store that has a tag: tags are 64 times a store's number and the hart's
 abbrev pub last_store : ℕ
 last_store = 288230376151711743
@@ -48,6 +41,27 @@ last_store = 288230376151711743
 -- hart h, if it is the blade's
 abbrev pub hart_of : BladeView → ℕ → Option HartView
 hart_of blade h = option_and_then (λ hart. hart) (slice_get blade.harts h)
+
+-- A hart of a thread: its queue has as many places as the plan says, and no more of its stores took effect
+-- than have tags.
+pub record IsHartOf (thread : ThreadPlan) (hart : HartView) : Type 0 where
+  pub queue : hart.queue.capacity ≡ thread.queue
+  pub stores : hart.stores ≤ last_store
+
+-- what no call changes of a hart: its queue's places, and that its stores have tags
+pub record IsLike (old new : HartView) : Type 0 where
+  pub queue : new.queue.capacity ≡ old.queue.capacity
+  pub stores : new.stores ≤ last_store
+
+-- The plan is one of a rack, and has the blade; the cache has the frames that it gives the blade; and there is
+-- a place for each thread, with its hart exactly where the thread is the blade's.
+pub record IsBlade (blade : BladeView) : Type 0 where
+  pub fit : IsFit blade.plan
+  pub number : blade.number < length blade.plan.frames
+  pub frames : blade.cache.frames ≡ slice_index blade.plan.frames blade.number
+  pub places : length blade.harts ≡ length blade.plan.threads
+  pub own : (h : ℕ) (thread : ThreadPlan) → slice_get blade.plan.threads h ≡ Some thread → is_some (hart_of blade h) ≡ (thread.blade == blade.number)
+  pub harts : (h : ℕ) (thread : ThreadPlan) (hart : HartView) → slice_get blade.plan.threads h ≡ Some thread → hart_of blade h ≡ Some hart → IsHartOf thread hart
 
 abbrev pub with_hart : ℕ → HartView → BladeView → BladeView
 with_hart h hart blade = record blade { harts = slice_set blade.harts h (Some hart) }
@@ -121,12 +135,8 @@ pub record BeginsWith {X : Type 0} (front all : List X) : Type 0 where
 abbrev pub HasSpent : ℕ → BladeView → Type 0
 HasSpent h blade = IsSomeAnd (hart_of blade h) (λ hart. hart.stores ≡ last_store)
 
--- some hart's did
-abbrev pub SomeSpent : BladeView → Type 0
-SomeSpent blade = (h : ℕ) × HasSpent h blade
-
--- what no call changes: the plan, the number, and which harts are the blade's
+-- what holds after each call: the blade is one still, with the plan and the number that it had
 pub record Keeps (old new : BladeView) : Type 0 where
   pub plan : new.plan ≡ old.plan
   pub number : new.number ≡ old.number
-  pub own : (h : ℕ) → is_some (hart_of new h) ≡ is_some (hart_of old h)
+  pub shape : IsBlade new

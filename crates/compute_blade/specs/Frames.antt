@@ -1,15 +1,14 @@
 -- What a hart finds in the pages that its blade holds.
-use Rattle.std.specs.Prelude.{ℕ, ◌%◌, ◌==◌, List, Option, Some, None, slice_index, if◌then◌else◌}
-use Rattle.mind_base.specs.Page.{PageView, page_of}
+use Rattle.std.specs.Prelude.{ℕ, ◌==◌, List, Option, Some, None, slice_index, if◌then◌else◌}
+use Rattle.mind_base.specs.Page.{PageView}
+use Rattle.mind_base.specs.Place.{Place, Granule, page_at, offset_at, page_with, index_in_page}
 use Rattle.mind_base.specs.declared.commands.Perm.{Perm}
 use Rattle.mind_base.specs.declared.commands.Perm.TheVariants.{No}
 use Rattle.page_cache.specs.PageCache.{frame_of}
 use Rattle.page_cache.specs.declared.frames.Frame.{Frame}
 use Rattle.page_image.specs.PageImage.{tag_at}
 use Rattle.hart_effect.specs.Access.{Around}
-use Rattle.hart_effect.specs.Place.{page_with}
 use Rattle.hart_effect.specs.Thread.{Thread}
-use Rattle.hart_effect.specs.declared.granules.Granule.{Granule}
 use Rattle.compute_blade.specs.Blade.{HartView}
 use Rattle.compute_blade.specs.declared.kept.Reservation.{Reservation}
 
@@ -18,9 +17,13 @@ abbrev pub byte_in : Option Frame → ℕ → ℕ
 byte_in None offset = 0
 byte_in (Some frame) offset = slice_index frame.image.bytes offset
 
--- the byte at an address of a domain, from the frame of its page
+-- the byte of a place, from the frame of its page
+abbrev pub byte_at : List (PageView × Frame) → Place → ℕ
+byte_at entries place = byte_in (frame_of (page_at place) entries) (offset_at place)
+
+-- the same of the place at an address of a domain
 abbrev pub held_byte : List (PageView × Frame) → ℕ → ℕ → ℕ
-held_byte entries domain address = byte_in (frame_of (page_of domain address) entries) (address % 4096)
+held_byte entries domain address = byte_at entries (record { domain = domain; address = address })
 
 -- what the domain of a page may do with it, which came with the page
 abbrev pub perm_in : Option Frame → Perm
@@ -40,7 +43,7 @@ around_held entries h domain =
 -- the tag of a granule in the frame of its page
 abbrev pub tag_in : Option Frame → Granule → Option ℕ
 tag_in None granule = None
-tag_in (Some frame) granule = Some (tag_at frame.image (granule.number % 64))
+tag_in (Some frame) granule = Some (tag_at frame.image (index_in_page granule))
 
 abbrev pub held_tag : List (PageView × Frame) → Granule → Option ℕ
 held_tag entries granule = tag_in (frame_of (page_with granule) entries) granule

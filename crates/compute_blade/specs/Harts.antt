@@ -1,16 +1,11 @@
 -- What a hart's code does with the hart and with the cache, said of the two alone.
-use Rattle.std.specs.Prelude.{◌≡◌, ℕ, ◌%◌, Bool, false, ◌==◌, List, [], ◌∷◌, ◌++◌, Option, Some, None, if◌then◌else◌}
-use Rattle.hart_core.specs.Registers.{zero_registers, with_register}
-use Rattle.hart_core.specs.Values.{word_sum}
-use Rattle.hart_core.specs.declared.outcome.LockedKind.{LockedKind}
-use Rattle.hart_core.specs.declared.outcome.LockedKind.TheVariants as locked
+use Rattle.std.specs.Prelude.{◌≡◌, ℕ, false, List, [], Option, Some, None}
+use Rattle.hart_core.specs.Registers.{zero_registers}
 use Rattle.hart_effect.specs.Deed.{Deed}
 use Rattle.hart_effect.specs.declared.finds.Found.{Found}
 use Rattle.mind_base.specs.Page.{PageView}
 use Rattle.mind_base.specs.Pending.{PendingView}
-use Rattle.mind_base.specs.declared.ends.End.TheVariants.{Running, Exit, Fault}
-use Rattle.mind_base.specs.declared.ends.FaultKind.{FaultKind}
-use Rattle.mind_base.specs.declared.ends.FaultKind.TheVariants as fault
+use Rattle.mind_base.specs.declared.ends.End.TheVariants.{Running}
 use Rattle.page_cache.specs.PageCache.{CacheView}
 use Rattle.page_cache.specs.declared.frames.Frame.{Frame}
 use Rattle.compute_blade.specs.Blade.{HartView}
@@ -28,36 +23,6 @@ first_hart pc places = record {
   stepping = false;
   draining = false;
 }
-
--- a register takes a value, and the hart goes on at a pc
-abbrev pub going_on : ℕ → ℕ → ℕ → HartView → HartView
-going_on rd value pc hart = record hart { regs = with_register hart.regs rd value; end = Running pc }
-
--- a fault ends the hart
-abbrev pub faulting : FaultKind → ℕ → ℕ → HartView → HartView
-faulting kind value pc hart = record hart { end = Fault kind value pc }
-
--- an environment call, as a thread makes it
-abbrev pub putting_out : ℕ → ℕ → HartView → HartView
-putting_out byte pc hart = record hart { output = hart.output ++ byte ∷ []; end = Running (word_sum pc 4) }
-
-abbrev pub calling : ℕ → ℕ → ℕ → ℕ → HartView → HartView
-calling number a0 h pc hart =
-    if number == 1 then putting_out (a0 % 256) pc hart
-    else (if number == 2 then record hart { end = Exit a0 }
-    else (if number == 3 then going_on 10 h (word_sum pc 4) hart
-    else faulting fault.Call number pc hart))
-
--- the fault of a locked operation that is denied
-abbrev pub locked_fault : LockedKind → FaultKind
-locked_fault locked.Lr = fault.Load
-locked_fault locked.Sc = fault.Store
-locked_fault (locked.Amo kind) = fault.Store
-
--- the tag is that which was kept
-abbrev pub has_tag : ℕ → Option ℕ → Bool
-has_tag kept None = false
-has_tag kept (Some tag) = tag == kept
 
 -- the cache with these entries
 abbrev pub holding : CacheView → List (PageView × Frame) → CacheView

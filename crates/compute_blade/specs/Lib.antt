@@ -1,4 +1,5 @@
 pub mod Blade
+pub mod Denials
 pub mod Frames
 pub mod Harts
 pub mod Messages

@@ -31,6 +31,10 @@ giving_up page (Some frame) blade = record {
 abbrev pub given_up : PageView → BladeView → Effect
 given_up page blade = giving_up page (frame_of page blade.cache.entries) blade
 
+-- what `evict` of a page does
+abbrev pub evicted : PageView → BladeView → Effect
+evicted page blade = given_up page blade
+
 -- a page may be written no longer, where it is held; if it is dirty its image goes back, and it is clean
 abbrev pub lowering : PageView → Option Frame → BladeView → Effect
 lowering page None blade = only blade

@@ -14,7 +14,7 @@ use Rattle.hart_core.specs.declared.outcome.LockedKind.{LockedKind}
 use Rattle.hart_core.specs.declared.outcome.LockedKind.TheVariants as locked
 use Rattle.hart_effect.specs.Access.{Around, may_write}
 use Rattle.hart_effect.specs.Deed.{Deed, Alone, Storing, found, carried_out, drains_first}
-use Rattle.hart_effect.specs.Place.{place_of, page_at, granule_at}
+use Rattle.mind_base.specs.Place.{place_of, page_at, offset_at, granule_at}
 use Rattle.hart_effect.specs.Thread.{Thread}
 use Rattle.hart_effect.specs.declared.finds.Found.{Found}
 use Rattle.hart_effect.specs.declared.finds.Found.TheVariants.{Outside, Unknown, Asks}
@@ -84,7 +84,7 @@ next_tag h stores = (stores + 1) * 64 + h
 -- the frames when a store of a domain has taken effect, with that tag
 abbrev pub frames_with : ℕ → PendingView → ℕ → List (PageView × Frame) → List (PageView × Frame)
 frames_with domain store tag entries = with_first
-    (written_frame ((place_of domain store.address).address % 4096) store.size store.value tag)
+    (written_frame (offset_at (place_of domain store.address)) store.size store.value tag)
     (page_at (place_of domain store.address)) entries
 
 -- the frames when the page that was needed is the most recently used
@@ -106,7 +106,21 @@ kept_by locked.Lr (Some tag) domain address kept = Some (record { granule = gran
 kept_by locked.Sc tag domain address kept = None
 kept_by (locked.Amo kind) tag domain address kept = kept
 
--- the reservation after a locked operation that was not denied
+-- the reservation after what was found, where it was not denied
+abbrev pub kept_now : Found → ℕ → List (PageView × Frame) → Option Reservation → Option Reservation
+kept_now Outside domain entries kept = kept
+kept_now (Unknown word) domain entries kept = kept
+kept_now (Asks (act.Next rd value pc)) domain entries kept = kept
+kept_now (Asks (act.Load kind rd address)) domain entries kept = kept
+kept_now (Asks (act.Store size address value)) domain entries kept = kept
+kept_now (Asks (act.Locked kind rd address operand)) domain entries kept =
+    kept_by kind (held_tag entries (granule_at (place_of domain address))) domain address kept
+kept_now (Asks (act.Fence drains)) domain entries kept = kept
+kept_now (Asks act.Call) domain entries kept = kept
+kept_now (Asks (act.Jumped target)) domain entries kept = kept
+kept_now (Asks act.Broke) domain entries kept = kept
+
+-- the reservation after an end: a denied operation leaves it
 abbrev pub kept_unless_denied : End → Option Reservation → Option Reservation → Option Reservation
 kept_unless_denied (Running pc) after before = after
 kept_unless_denied (Exit value) after before = before

@@ -1,7 +1,7 @@
 ghost use Rattle.std.specs.Prelude.{◌≡◌, ◌<◌, ◌≤◌, [], ◌↔◌, map, length, slice_get, Some, None, IfOk, IfSome, IsSome, IsTrue};
 ghost use Rattle.std.specs.Option.{option_copied};
 ghost use Rattle.mind_base.specs.Fit.{IsFit, IsFitThread};
-ghost use Rattle.compute_blade.specs.Blade.{hart_of};
+ghost use Rattle.compute_blade.specs.Blade.{IsBlade, hart_of};
 ghost use Rattle.compute_blade.specs.Start.{first_blade, hart_for, image_place};
 
 mod answers;
@@ -43,7 +43,8 @@ impl ComputeBlade {
     pub fn new(alloc: Global, plan: &RackPlan, number: u8) -> Result<ComputeBlade, NoMemory>
         requires fit { IsFit plan.now }
         requires number { number < length plan.now.frames }
-        ensures { IfOk result (λ blade. blade ≡ first_blade plan.now number) }
+        ensures first { IfOk result (λ blade. blade ≡ first_blade plan.now number) }
+        ensures shape { IfOk result IsBlade }
     {
         let frames = plan.frames.as_slice()[usize::from(number)];
         let harts = start_harts(alloc, plan, number)?;
@@ -60,7 +61,8 @@ impl ComputeBlade {
 
     /// Whether the blade waits for no page: no request of it is out.
     pub fn quiet(&self) -> bool
-        ensures { IsTrue result ↔ (self.now.requests ≡ []) }
+        ensures quiet { IsTrue result ↔ (self.now.requests ≡ []) }
+        ensures shape { IsBlade self.now }
     {
         self.requests.is_empty()
     }
@@ -69,6 +71,7 @@ impl ComputeBlade {
     fn thread(&self, hart: u8) -> Option<ThreadPlan>
         ensures plan { result ≡ slice_get self.now.plan.threads hart }
         ensures own { IsSome (hart_of self.now hart) → IsSome result }
+        ensures shape { IsBlade self.now }
         ensures fit { IfSome result (λ thread. (hart < 64) × IsFitThread (length self.now.plan.frames) (length self.now.plan.images) thread) }
     {
         let threads = self.plan.threads.as_slice();
@@ -77,7 +80,8 @@ impl ComputeBlade {
     }
 
     fn hart(&self, hart: u8) -> Option<&Hart>
-        ensures { option_copied result ≡ hart_of self.now hart }
+        ensures hart { option_copied result ≡ hart_of self.now hart }
+        ensures shape { IsBlade self.now }
     {
         match self.harts.get(usize::from(hart)) {
             Some(Some(hart)) => Some(hart),

@@ -1,5 +1,4 @@
-use hart_effect::Granule;
-use mind_base::Page;
+use mind_base::{FaultKind, Granule, Page};
 
 /// A reservation as the blade keeps it: the granule, and the tag that it had when LR read it.
 #[derive(Clone, Copy, Debug, PartialEq, Eq)]
@@ -30,6 +29,13 @@ pub struct Asked {
 pub struct Need {
     pub page: Page,
     pub write: bool,
+}
+
+/// The fault that ends a hart whose access is denied, and the address of the access.
+#[derive(Clone, Copy, Debug, PartialEq, Eq)]
+pub struct Denial {
+    pub kind: FaultKind,
+    pub address: u32,
 }
 
 /// How the switch answered a request: with the page, or not.

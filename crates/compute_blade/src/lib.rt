@@ -2,6 +2,7 @@
 #![tactic(auto)]
 
 mod blades;
+mod denials;
 mod frames;
 mod harts;
 mod kept;

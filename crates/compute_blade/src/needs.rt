@@ -4,12 +4,13 @@ ghost use Rattle.hart_core.specs.Act.{IsWellFormed};
 ghost use Rattle.hart_effect.specs.Deed.{AsksWellFormed};
 ghost use Rattle.hart_effect.specs.declared.finds.Found.TheVariants as found_of;
 ghost use Rattle.page_cache.specs.PageCache.{frame_of};
+ghost use Rattle.compute_blade.specs.Messages.{same_need as same_need_of, needs_just as needs_just_of};
 ghost use Rattle.compute_blade.specs.Steps.{need_at as need_at_of, need_of as need_of_act, need_in as need_in_found, writes as writes_of, writes_at_once as writes_at_once_of, serves as serves_of};
 
 use crate::kept::Need;
 use hart_core::{Act, LockedKind, load_size};
 use hart_effect::{Found, may_write};
-use mind_base::Page;
+use mind_base::{Page, Place};
 use page_cache::PageCache;
 
 /// What an access needs; nothing at an address that is no multiple of its size.
@@ -21,7 +22,7 @@ fn need_at(write: bool, domain: u8, address: u32, size: u8) -> Option<Need>
     if address % u32::from(size) != 0 {
         return None;
     }
-    let page = Page::of(domain, address);
+    let page = Place::of(domain, address).page();
     Some(Need { page, write })
 }
 
@@ -57,6 +58,22 @@ pub fn need_in(found: Found, domain: u8) -> Option<Need>
         Found::Outside => None,
         Found::Unknown { .. } => None,
         Found::Asks { asked } => need_of(asked, domain),
+    }
+}
+
+fn same_need(a: Need, b: Need) -> bool
+    ensures { result ≡ same_need_of a b }
+{
+    a.page == b.page && a.write == b.write
+}
+
+/// Whether an instruction needs just what was asked for.
+pub fn needs_just(asked: Need, need: Option<Need>) -> bool
+    ensures { result ≡ needs_just_of asked need }
+{
+    match need {
+        None => false,
+        Some(need) => same_need(asked, need),
     }
 }
 

@@ -1,21 +1,40 @@
 //! What the blade does when a message of the switch comes.
 
-ghost use Rattle.std.specs.Prelude.{◌≡◌, ◌≤◌, not, filter, length, Some, Err, OnOk, OnErr};
+ghost use Rattle.std.specs.Prelude.{◌≡◌, ◌≤◌, not, filter, length, Some, Err, OnOk, OnErr, ◌↔◌, IsTrue, IsSomeAnd};
+ghost use Rattle.mind_base.specs.Fit.{FitImages};
 ghost use Rattle.mind_base.specs.declared.failures.Stop.TheVariants.{Spent};
 ghost use Rattle.page_cache.specs.PageCache.{same_page};
 ghost use Rattle.wire_msg.specs.declared.msgs.Msg.TheVariants.{Fill};
-ghost use Rattle.compute_blade.specs.Blade.{Did, BeginsWith, Keeps, SomeSpent};
-ghost use Rattle.compute_blade.specs.Messages.{BringsNothing, acknowledging, after_message};
+ghost use Rattle.compute_blade.specs.Blade.{Did, BeginsWith, Keeps, HasSpent, request_for as request_for_of};
+ghost use Rattle.compute_blade.specs.Messages.{BringsNothing, FitsFill, MayCome, acknowledging, after_message, request_of};
+ghost use Rattle.compute_blade.specs.declared.kept.Waits.TheVariants.{Step};
 ghost use Rattle.compute_blade.specs.Pages.{given_up, lowered, held_in, writable_in, spared as spared_of};
 
 use crate::blades::ComputeBlade;
 use crate::blades::pages::span_of;
 use crate::kept::Answer;
+use crate::requests::request_for;
+use crate::{Asked, Waits};
 use mind_base::{Image, Log, NoMemory, Page, Perm, Range, Stop};
 use page_image::PageImage;
 use wire_msg::Msg;
 
 impl ComputeBlade {
+    /// Whether the message may come to the blade as it is: one that answers a request answers one that is
+    /// out, brings a page to be written where one was asked for, and denies no drain.
+    pub fn may_receive(&self, msg: &Msg) -> bool
+        ensures { IsTrue result ↔ MayCome self.now msg.now }
+    {
+        match msg {
+            Msg::Fill { page, writable, .. } => {
+                fits_fill(request_for(self.requests.as_slice(), *page), *writable)
+            }
+            Msg::Deny { page } => fits_deny(request_for(self.requests.as_slice(), *page)),
+            Msg::Inv { .. } | Msg::Lower { .. } => true,
+            _ => false,
+        }
+    }
+
     /// Takes a message of the switch. A `Fill` brings the page that a step or a drain waited for, and it
     /// is performed; a `Deny` lets the step that waited fault; `Inv` and `Lower` take pages of a range
     /// away, or the leave to write them, and are acknowledged. `Spent` comes where a store would be its
@@ -27,10 +46,12 @@ impl ComputeBlade {
         out: &mut Vec<Msg>,
         log: &mut Log,
     ) -> Result<(), Stop>
+        requires may_come { MayCome self.old msg }
+        requires images { FitImages self.old.plan.images images.now }
         ensures ok { OnOk result (Did (after_message images.now msg self.old) self.new out.old.items out.new.items log.old.notes log.new.notes) }
-        ensures keeps { OnOk result (Keeps self.old self.new) }
-        ensures spent { result ≡ Err Spent → SomeSpent self.old × SomeSpent self.new }
+        ensures spent { result ≡ Err Spent → IsSomeAnd (request_of msg self.old.requests) (λ asked. HasSpent asked.hart self.old × HasSpent asked.hart self.new) }
         ensures err { OnErr result (BeginsWith out.old.items out.new.items × BeginsWith log.old.notes log.new.notes) }
+        ensures keeps { Keeps self.old self.new }
     {
         match msg {
             Msg::Fill {
@@ -51,10 +72,12 @@ impl ComputeBlade {
         out: &mut Vec<Msg>,
         log: &mut Log,
     ) -> Result<(), Stop>
-        requires { BringsNothing msg.now }
+        requires brings { BringsNothing msg.now }
+        requires may_come { MayCome self.old msg.now }
         ensures ok { OnOk result (Did (after_message images.now msg.now self.old) self.new out.old.items out.new.items log.old.notes log.new.notes) }
-        ensures spent { result ≡ Err Spent → SomeSpent self.old × SomeSpent self.new }
+        ensures spent { result ≡ Err Spent → IsSomeAnd (request_of msg.now self.old.requests) (λ asked. HasSpent asked.hart self.old × HasSpent asked.hart self.new) }
         ensures err { OnErr result (BeginsWith out.old.items out.new.items × BeginsWith log.old.notes log.new.notes) }
+        ensures keeps { Keeps self.old self.new }
     {
         match msg {
             Msg::Deny { page } => self.resume(Answer::Denied, *page, images, out, log)?,
@@ -68,7 +91,17 @@ impl ComputeBlade {
                 range,
                 asked,
             } => self.lower_range(*number, *range, *asked, out, log)?,
-            _ => {}
+            Msg::Fill { .. }
+            | Msg::Get { .. }
+            | Msg::Back { .. }
+            | Msg::Ack { .. }
+            | Msg::Close { .. }
+            | Msg::Closed { .. }
+            | Msg::Reopen { .. }
+            | Msg::Read { .. }
+            | Msg::Image { .. }
+            | Msg::Write { .. }
+            | Msg::Zero { .. } => unreachable!(),
         }
         Ok(())
     }
@@ -85,8 +118,9 @@ impl ComputeBlade {
         log: &mut Log,
     ) -> Result<(), Stop>
         ensures ok { OnOk result (Did (after_message images.now (Fill page perm writable image) self.old) self.new out.old.items out.new.items log.old.notes log.new.notes) }
-        ensures spent { result ≡ Err Spent → SomeSpent self.old × SomeSpent self.new }
+        ensures spent { result ≡ Err Spent → IsSomeAnd (request_for_of page self.old.requests) (λ asked. HasSpent asked.hart self.old × HasSpent asked.hart self.new) }
         ensures err { OnErr result (BeginsWith out.old.items out.new.items × BeginsWith log.old.notes log.new.notes) }
+        ensures keeps { Keeps self.old self.new }
     {
         self.take(page, perm, writable, image, out, log)?;
         self.resume(Answer::Filled, page, images, out, log)?;
@@ -105,11 +139,12 @@ impl ComputeBlade {
     ) -> Result<(), NoMemory>
         ensures ok { OnOk result (Did (acknowledging given_up (held_in range self.old) number asked self.old) self.new out.old.items out.new.items log.old.notes log.new.notes) }
         ensures err { OnErr result (BeginsWith out.old.items out.new.items × BeginsWith log.old.notes log.new.notes) }
+        ensures keeps { Keeps self.old self.new }
     {
         let alloc = *self.harts.allocator();
         let pages = self.cache.pages_in(alloc, &span_of(range))?;
         let count = spared(asked, pages.as_slice());
-        self.evict_each(pages.as_slice(), out, log)?;
+        self.give_up_each(pages.as_slice(), out, log)?;
         out.push(Msg::Ack { number, count })?;
         Ok(())
     }
@@ -126,6 +161,7 @@ impl ComputeBlade {
     ) -> Result<(), NoMemory>
         ensures ok { OnOk result (Did (acknowledging lowered (writable_in range self.old) number (Some asked) self.old) self.new out.old.items out.new.items log.old.notes log.new.notes) }
         ensures err { OnErr result (BeginsWith out.old.items out.new.items × BeginsWith log.old.notes log.new.notes) }
+        ensures keeps { Keeps self.old self.new }
     {
         let alloc = *self.harts.allocator();
         let pages = self.cache.writable_pages_in(alloc, &span_of(range))?;
@@ -133,6 +169,24 @@ impl ComputeBlade {
         self.lower_each(pages.as_slice(), out, log)?;
         out.push(Msg::Ack { number, count })?;
         Ok(())
+    }
+}
+
+fn fits_fill(asked: Option<Asked>, writable: bool) -> bool
+    ensures { IsTrue result ↔ IsSomeAnd asked (FitsFill writable) }
+{
+    match asked {
+        None => false,
+        Some(asked) => !asked.write || writable,
+    }
+}
+
+fn fits_deny(asked: Option<Asked>) -> bool
+    ensures { IsTrue result ↔ IsSomeAnd asked (λ asked. asked.waits ≡ Step) }
+{
+    match asked {
+        None => false,
+        Some(asked) => asked.waits == Waits::Step,
     }
 }
 

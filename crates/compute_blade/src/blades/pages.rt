@@ -1,8 +1,8 @@
 //! Pages that the blade gives up, may write no longer, or takes.
 
 ghost use Rattle.std.specs.Prelude.{◌≡◌, ◌<◌, ◌≤◌, ◌+◌, [], ◌∷◌, ◌++◌, vec_len, vec_capacity, IfOk, OnOk, OnErr};
-ghost use Rattle.compute_blade.specs.Blade.{Did, BeginsWith, Keeps};
-ghost use Rattle.compute_blade.specs.Pages.{given_up, lowered, back_of, each_in, taken, sent_out, noted_out, span_of as span_of_range};
+ghost use Rattle.compute_blade.specs.Blade.{Did, BeginsWith, IsBlade, Keeps};
+ghost use Rattle.compute_blade.specs.Pages.{evicted, given_up, lowered, back_of, each_in, taken, sent_out, noted_out, span_of as span_of_range};
 
 use crate::blades::ComputeBlade;
 use mind_base::{Log, NoMemory, Note, Page, Perm, Range, Span};
@@ -13,8 +13,17 @@ use wire_msg::Msg;
 impl ComputeBlade {
     /// Gives a page up where it is held; if it is dirty, its image goes back to the switch.
     pub fn evict(&mut self, page: Page, out: &mut Vec<Msg>, log: &mut Log) -> Result<(), NoMemory>
+        ensures ok { OnOk result (Did (evicted page self.old) self.new out.old.items out.new.items log.old.notes log.new.notes) }
+        ensures keeps { Keeps self.old self.new }
+        ensures err { OnErr result (BeginsWith out.old.items out.new.items × BeginsWith log.old.notes log.new.notes) }
+    {
+        self.give_up(page, out, log)?;
+        Ok(())
+    }
+
+    fn give_up(&mut self, page: Page, out: &mut Vec<Msg>, log: &mut Log) -> Result<(), NoMemory>
         ensures ok { OnOk result (Did (given_up page self.old) self.new out.old.items out.new.items log.old.notes log.new.notes) }
-        ensures keeps { OnOk result (Keeps self.old self.new) }
+        ensures keeps { Keeps self.old self.new }
         ensures err { OnErr result ((out.new.items ≡ out.old.items) × (log.new.notes ≡ log.old.notes)) }
     {
         let blade = self.number;
@@ -32,6 +41,7 @@ impl ComputeBlade {
     fn lower(&mut self, page: Page, out: &mut Vec<Msg>, log: &mut Log) -> Result<(), NoMemory>
         ensures ok { OnOk result (Did (lowered page self.old) self.new out.old.items out.new.items log.old.notes log.new.notes) }
         ensures err { OnErr result ((out.new.items ≡ out.old.items) × (log.new.notes ≡ log.old.notes)) }
+        ensures keeps { Keeps self.old self.new }
     {
         let blade = self.number;
         let Some(frame) = self.cache.find(page) else {
@@ -46,17 +56,19 @@ impl ComputeBlade {
     }
 
     /// Gives up these pages, one after another.
-    pub(crate) fn evict_each(
+    pub(crate) fn give_up_each(
         &mut self,
         pages: &[Page],
         out: &mut Vec<Msg>,
         log: &mut Log,
     ) -> Result<(), NoMemory>
+        requires { IsBlade self.old }
         ensures ok { OnOk result (Did (each_in given_up pages.now self.old) self.new out.old.items out.new.items log.old.notes log.new.notes) }
         ensures err { OnErr result (BeginsWith out.old.items out.new.items × BeginsWith log.old.notes log.new.notes) }
+        ensures keeps { Keeps self.old self.new }
     {
         for page in pages {
-            self.evict(*page, out, log)?;
+            self.give_up(*page, out, log)?;
         }
         Ok(())
     }
@@ -68,8 +80,10 @@ impl ComputeBlade {
         out: &mut Vec<Msg>,
         log: &mut Log,
     ) -> Result<(), NoMemory>
+        requires { IsBlade self.old }
         ensures ok { OnOk result (Did (each_in lowered pages.now self.old) self.new out.old.items out.new.items log.old.notes log.new.notes) }
         ensures err { OnErr result (BeginsWith out.old.items out.new.items × BeginsWith log.old.notes log.new.notes) }
+        ensures keeps { Keeps self.old self.new }
     {
         for page in pages {
             self.lower(*page, out, log)?;
@@ -90,6 +104,7 @@ impl ComputeBlade {
     ) -> Result<(), NoMemory>
         ensures ok { OnOk result (Did (taken page perm writable image self.old) self.new out.old.items out.new.items log.old.notes log.new.notes) }
         ensures err { OnErr result ((out.new.items ≡ out.old.items) × (log.new.notes ≡ log.old.notes)) }
+        ensures keeps { Keeps self.old self.new }
     {
         let blade = self.number;
         out.reserve(1)?;

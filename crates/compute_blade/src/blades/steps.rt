@@ -4,20 +4,17 @@ ghost use Rattle.std.specs.Prelude.{◌≡◌, ◌<◌, ◌++◌, [], true, fals
 ghost use Rattle.hart_effect.specs.Deed.{AsksWellFormed, drains_first as drains_first_of};
 ghost use Rattle.mind_base.specs.Fit.{FitImages};
 ghost use Rattle.mind_base.specs.declared.failures.Stop.TheVariants.{Spent};
-ghost use Rattle.compute_blade.specs.Blade.{Did, DidSome, Keeps, Notes, Sends, HasSpent, hart_of};
-ghost use Rattle.compute_blade.specs.Frames.{around_held};
-ghost use Rattle.compute_blade.specs.Messages.{around_denied};
-ghost use Rattle.compute_blade.specs.Steps.{performed, performed_in, asking, drained, draining_by, drain_of, stepping_by, step_at, after_step, after_drain};
+ghost use Rattle.compute_blade.specs.Blade.{BeginsWith, Did, DidSome, IsBlade, Keeps, Notes, Sends, HasSpent, hart_of, with_hart};
+ghost use Rattle.compute_blade.specs.Steps.{performed, asking, drained, draining_by, drain_of, stepping_by, step_at, waiting, after_step, after_drain};
 
 use crate::blades::{ComputeBlade, image_for};
 use crate::frames::is_writable;
-use crate::harts::Here;
 use crate::kept::Need;
 use crate::needs::{need_in, serves};
 use crate::requests::is_asked;
 use crate::{Asked, Waits};
-use hart_effect::{Found, find};
-use mind_base::{End, Image, Log, NoMemory, Note, Page, Pending, Stop, ThreadPlan};
+use hart_effect::{Found, Here, find};
+use mind_base::{End, Image, Log, NoMemory, Note, Pending, Place, Stop, ThreadPlan};
 use wire_msg::Msg;
 
 impl ComputeBlade {
@@ -35,9 +32,9 @@ impl ComputeBlade {
         requires own { IsSome (hart_of self.old hart) }
         requires images { FitImages self.old.plan.images images.now }
         ensures ok { OnOk result (DidSome (after_step images.now hart self.old) self.new out.old.items out.new.items log.old.notes log.new.notes) }
-        ensures keeps { OnOk result (Keeps self.old self.new) }
         ensures spent { result ≡ Err Spent → HasSpent hart self.old × (self.new ≡ self.old) }
-        ensures err { OnErr result ((out.new.items ≡ out.old.items) × (log.new.notes ≡ log.old.notes)) }
+        ensures err { OnErr result (BeginsWith out.old.items out.new.items × BeginsWith log.old.notes log.new.notes) }
+        ensures keeps { Keeps self.old self.new }
     {
         let Some(plan) = self.thread(hart) else {
             return Ok(());
@@ -55,9 +52,9 @@ impl ComputeBlade {
     pub fn drain(&mut self, hart: u8, out: &mut Vec<Msg>, log: &mut Log) -> Result<(), Stop>
         requires { IsSome (hart_of self.old hart) }
         ensures ok { OnOk result (DidSome (after_drain hart self.old) self.new out.old.items out.new.items log.old.notes log.new.notes) }
-        ensures keeps { OnOk result (Keeps self.old self.new) }
         ensures spent { result ≡ Err Spent → HasSpent hart self.old × (self.new ≡ self.old) }
-        ensures err { OnErr result ((out.new.items ≡ out.old.items) × (log.new.notes ≡ log.old.notes)) }
+        ensures err { OnErr result (BeginsWith out.old.items out.new.items × BeginsWith log.old.notes log.new.notes) }
+        ensures keeps { Keeps self.old self.new }
     {
         let Some(plan) = self.thread(hart) else {
             return Ok(());
@@ -81,6 +78,7 @@ impl ComputeBlade {
             Did (step_at hart.end h plan image.now self.old hart) self.new out.old.items out.new.items log.old.notes log.new.notes)) }
         ensures spent { result ≡ Err Spent → HasSpent h self.old × (self.new ≡ self.old) }
         ensures err { OnErr result ((out.new.items ≡ out.old.items) × (log.new.notes ≡ log.old.notes)) }
+        ensures keeps { Keeps self.old self.new }
     {
         let Some(mover) = self.hart(h) else {
             return Ok(());
@@ -91,7 +89,7 @@ impl ComputeBlade {
         if mover.is_stepping() {
             return Ok(());
         }
-        let found = find(image, &mover.regs(), pc);
+        let found = find(image, mover.regs(), pc);
         self.step_by(h, plan, found, pc, out, log)?;
         Ok(())
     }
@@ -113,6 +111,7 @@ impl ComputeBlade {
             Did (stepping_by h plan found pc self.old hart) self.new out.old.items out.new.items log.old.notes log.new.notes)) }
         ensures spent { result ≡ Err Spent → HasSpent h self.old × (self.new ≡ self.old) }
         ensures err { OnErr result ((out.new.items ≡ out.old.items) × (log.new.notes ≡ log.old.notes)) }
+        ensures keeps { Keeps self.old self.new }
     {
         if self.drains_first(h, found) {
             self.drain_of(h, plan, out, log)?;
@@ -142,6 +141,7 @@ impl ComputeBlade {
             Did (drain_of h plan self.old hart) self.new out.old.items out.new.items log.old.notes log.new.notes)) }
         ensures spent { result ≡ Err Spent → HasSpent h self.old × (self.new ≡ self.old) }
         ensures err { OnErr result ((out.new.items ≡ out.old.items) × (log.new.notes ≡ log.old.notes)) }
+        ensures keeps { Keeps self.old self.new }
     {
         if self.is_draining(h) {
             return Ok(());
@@ -167,6 +167,7 @@ impl ComputeBlade {
         ensures ok { OnOk result (IfSome (hart_of self.old h) (λ hart. Notes (performed h plan found pc self.old hart) self.new log.old.notes log.new.notes)) }
         ensures spent { result ≡ Err Spent → HasSpent h self.old × (self.new ≡ self.old) }
         ensures err { OnErr result (log.new.notes ≡ log.old.notes) }
+        ensures keeps { Keeps self.old self.new }
     {
         let hart = h;
         let here = Here {
@@ -182,36 +183,6 @@ impl ComputeBlade {
         Ok(())
     }
 
-    /// The same where the domain may do nothing with any page.
-    pub(crate) fn refuse(
-        &mut self,
-        h: u8,
-        plan: ThreadPlan,
-        found: Found,
-        pc: u32,
-        log: &mut Log,
-    ) -> Result<(), NoMemory>
-        requires well_formed { AsksWellFormed found }
-        requires own { IsSome (hart_of self.old h) }
-        requires ready { IfSome (hart_of self.old h) (λ hart. drains_first_of found hart.queue.stores hart.queue.capacity ≡ false) }
-        ensures ok { OnOk result (IfSome (hart_of self.old h) (λ hart.
-            Notes (performed_in (around_denied (around_held self.old.cache.entries h plan.domain)) h plan found pc self.old hart) self.new log.old.notes log.new.notes)) }
-        ensures err { OnErr result (log.new.notes ≡ log.old.notes) }
-    {
-        let hart = h;
-        let here = Here {
-            hart,
-            domain: plan.domain,
-            pc,
-        };
-        let Some(mover) = &mut self.harts[usize::from(h)] else {
-            return Ok(());
-        };
-        mover.deny(found, here)?;
-        log.add(Note::Exec { hart })?;
-        Ok(())
-    }
-
     /// The oldest store of hart `h` leaves its queue and takes effect.
     fn drain_oldest(&mut self, h: u8, plan: ThreadPlan, log: &mut Log) -> Result<(), Stop>
         requires hart { h < 64 }
@@ -221,6 +192,7 @@ impl ComputeBlade {
             Notes (drained h plan oldest (drop 1 hart.queue.stores) self.old hart) self.new log.old.notes log.new.notes))) }
         ensures spent { result ≡ Err Spent → HasSpent h self.old × (self.new ≡ self.old) }
         ensures err { OnErr result (log.new.notes ≡ log.old.notes) }
+        ensures keeps { Keeps self.old self.new }
     {
         let hart = h;
         let Some(mover) = &mut self.harts[usize::from(h)] else {
@@ -234,14 +206,16 @@ impl ComputeBlade {
     /// The oldest store that hart `h` has in its queue.
     fn oldest(&self, h: u8) -> Option<Pending>
         requires { IsSome (hart_of self.now h) }
-        ensures { IfSome (hart_of self.now h) (λ hart. result ≡ slice_get hart.queue.stores 0) }
+        ensures oldest { IfSome (hart_of self.now h) (λ hart. result ≡ slice_get hart.queue.stores 0) }
+        ensures shape { IsBlade self.now }
     {
         self.hart(h)?.oldest()
     }
 
     fn is_draining(&self, h: u8) -> bool
         requires { IsSome (hart_of self.now h) }
-        ensures { IfSome (hart_of self.now h) (λ hart. result ≡ hart.draining) }
+        ensures draining { IfSome (hart_of self.now h) (λ hart. result ≡ hart.draining) }
+        ensures shape { IsBlade self.now }
     {
         match self.hart(h) {
             None => false,
@@ -252,7 +226,8 @@ impl ComputeBlade {
     /// Whether the oldest store of hart `h` must drain before the hart does what it found.
     pub(crate) fn drains_first(&self, h: u8, found: Found) -> bool
         requires { IsSome (hart_of self.now h) }
-        ensures { IfSome (hart_of self.now h) (λ hart. result ≡ drains_first_of found hart.queue.stores hart.queue.capacity) }
+        ensures first { IfSome (hart_of self.now h) (λ hart. result ≡ drains_first_of found hart.queue.stores hart.queue.capacity) }
+        ensures shape { IsBlade self.now }
     {
         match self.hart(h) {
             None => false,
@@ -276,11 +251,12 @@ impl ComputeBlade {
             Did (draining_by h plan hart.queue.stores self.old hart) self.new out.old.items out.new.items log.old.notes log.new.notes)) }
         ensures spent { result ≡ Err Spent → HasSpent h self.old × (self.new ≡ self.old) }
         ensures err { OnErr result ((out.new.items ≡ out.old.items) × (log.new.notes ≡ log.old.notes)) }
+        ensures keeps { Keeps self.old self.new }
     {
         let Some(oldest) = self.oldest(h) else {
             return Ok(());
         };
-        let page = Page::of(plan.domain, oldest.address);
+        let page = Place::of(plan.domain, oldest.address).page();
         if is_writable(&self.cache, page) {
             self.drain_oldest(h, plan, log)?;
         } else {
@@ -294,6 +270,7 @@ impl ComputeBlade {
         requires own { IsSome (hart_of self.old h) }
         ensures ok { OnOk result (IfSome (hart_of self.old h) (λ hart. Sends (asking h waits need self.old hart) self.new out.old.items out.new.items)) }
         ensures err { OnErr result (out.new.items ≡ out.old.items) }
+        ensures keeps { Keeps self.old self.new }
     {
         let Need { page, write } = need;
         if is_asked(self.requests.as_slice(), page) {
@@ -306,10 +283,19 @@ impl ComputeBlade {
             hart,
             waits,
         })?;
-        if let Some(hart) = &mut self.harts[usize::from(h)] {
-            hart.wait(waits);
-        }
+        self.wait(h, waits);
         out.push(Msg::Get { page, write })?;
         Ok(())
+    }
+
+    fn wait(&mut self, h: u8, waits: Waits)
+        requires { IsSome (hart_of self.old h) }
+        ensures done { IfSome (hart_of self.old h) (λ hart. self.new ≡ with_hart h (waiting waits hart) self.old) }
+        ensures keeps { Keeps self.old self.new }
+    {
+        let Some(hart) = &mut self.harts[usize::from(h)] else {
+            return;
+        };
+        hart.wait(waits);
     }
 }

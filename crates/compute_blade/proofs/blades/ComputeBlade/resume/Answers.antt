@@ -7,7 +7,8 @@ pub returns-in_err-resume_by-clause-spent : goal.returns-in_err-resume_by-clause
 returns-in_err-resume_by-clause-spent c = λ err.
     let woken : IsWoken c.args.self.now c.wake.new.self c.in-Some.asked = record { own = search rules; awake = c.wake.ensures.awake } in
     let spent : HasSpent c.in-Some.asked.hart c.wake.new.self × (c.resume_by.new.self ≡ c.wake.new.self) = search rules in
-    spent_before c.args.self.now c.wake.new.self _ c.in-Some.asked woken spent
+    let asked : Some c.in-Some.asked ≡ request_for c.args.page c.args.self.now.requests = search rules in
+    spent_before c.args.page c.args.self.now c.wake.new.self _ c.in-Some.asked woken asked spent
 
 pub returns-clause-ok : goal.returns-clause-ok
 returns-clause-ok c =

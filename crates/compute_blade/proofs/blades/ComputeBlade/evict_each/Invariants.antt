@@ -1,7 +1,0 @@
-use Rattle.std.proofs.Common.{drop}
-use Rattle.compute_blade.specs.Pages.{given_up, each_in}
-use Rattle.compute_blade.proofs.Chains.{Continues}
-use Rattle.compute_blade.proofs.blades.ComputeBlade.evict_each.Given as goal
-
-abbrev pub invariant-loop-page : goal.invariant-loop-page
-invariant-loop-page l = Continues (each_in given_up (drop l.page-index l.pages) l.self) (each_in given_up l.pages l.initial.self) l.out.items l.initial.out.items l.log.notes l.initial.log.notes
