@@ -6,6 +6,7 @@ use Rattle.std.proofs.lemmas.List.Folds.{Any-from_list_any, list_any-from_Any}
 use Rattle.std.proofs.lemmas.List.Quantifiers.{position-Some}
 use Rattle.std.proofs.lemmas.List.Sums.{prefix_len_passes}
 use Rattle.mind_base.specs.Page.{PageView}
+use Rattle.region_directory.specs.Directory.{DirectoryView}
 use Rattle.region_directory.specs.Room.{is_droppable, is_for_room, is_evictable, first_rule, room_of, MustWait}
 use Rattle.region_directory.specs.declared.entries.Entry.{Entry}
 use Rattle.region_directory.specs.declared.rooms.Room.TheVariants.{Wait}
@@ -49,8 +50,8 @@ because : (es : List Entry) (pages : List PageView) → Any (λ e. is_for_room e
 because es pages (inl some) = inl (list_any-from_Any (λ e. is_for_room e.busy) es some)
 because es pages (inr all) = inr (fails-None (is_evictable pages) es (position (is_evictable pages) es) blank refl all)
 
-pub room-waits : (es : List Entry) (pages : List PageView) → (room_of es pages ≡ Wait) ↔ MustWait es pages
-room-waits es pages = (
+pub room-waits : (d : DirectoryView) (pages : List PageView) → (room_of d pages ≡ Wait) ↔ MustWait d pages
+room-waits d pages = let es = d.entries in (
   λ e.
       let f = first-waits (position is_droppable es) (list_any (λ e. is_for_room e.busy) es) (position (is_evictable pages) es) e in
       (all-fail is_droppable es f.0, why es pages f.1),

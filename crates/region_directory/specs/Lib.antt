@@ -1,4 +1,6 @@
 pub mod Block
 pub mod Directory
 pub mod Entry
+pub mod Merge
 pub mod Room
+pub mod Split

@@ -5,6 +5,7 @@ use Rattle.mind_base.specs.Page.{PageView}
 use Rattle.mind_base.specs.declared.notes.State.{State}
 use Rattle.mind_base.specs.declared.notes.State.TheVariants.{I, S, M}
 use Rattle.mind_base.specs.Range.{in_range}
+use Rattle.region_directory.specs.Directory.{DirectoryView}
 use Rattle.region_directory.specs.declared.entries.Busy.{Busy}
 use Rattle.region_directory.specs.declared.entries.Entry.{Entry}
 use Rattle.region_directory.specs.declared.rooms.Room.{Room}
@@ -37,14 +38,15 @@ first_rule None true evictable = Wait
 first_rule None false (Some i) = Evict i
 first_rule None false None = Wait
 
--- what makes room among these entries while these pages are being fetched
-abbrev pub room_of : List Entry → List PageView → Room
-room_of entries fetching = first_rule
-    (position is_droppable entries)
-    (list_any (λ entry. is_for_room entry.busy) entries)
-    (position (is_evictable fetching) entries)
+-- what makes room in a full directory while these pages are being fetched
+abbrev pub room_of : DirectoryView → List PageView → Room
+room_of directory fetching = first_rule
+    (position is_droppable directory.entries)
+    (list_any (λ entry. is_for_room entry.busy) directory.entries)
+    (position (is_evictable fetching) directory.entries)
 
 -- no entry can be dropped, and a transition that makes room is under way or no entry can be taken from its holders
-abbrev pub MustWait : List Entry → List PageView → Type 0
-MustWait entries fetching =
-    All (λ entry. is_droppable entry ≡ false) entries × (Any (λ entry. is_for_room entry.busy ≡ true) entries ⊎ All (λ entry. is_evictable fetching entry ≡ false) entries)
+abbrev pub MustWait : DirectoryView → List PageView → Type 0
+MustWait directory fetching =
+    All (λ entry. is_droppable entry ≡ false) directory.entries
+    × (Any (λ entry. is_for_room entry.busy ≡ true) directory.entries ⊎ All (λ entry. is_evictable fetching entry ≡ false) directory.entries)

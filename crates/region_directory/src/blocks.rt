@@ -16,8 +16,7 @@ fn pages_of(range: &Range) -> u32
 pub fn has_page(range: &Range, page: &Page) -> bool
     ensures { result ≡ in_range range.now page.now }
 {
-    let pages = pages_of(range);
-    page.domain == range.domain && page.number >= range.base && page.number < range.base + pages
+    range.has(*page)
 }
 
 /// Whether the first block stands before the second, by domain and first page.

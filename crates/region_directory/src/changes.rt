@@ -1,4 +1,4 @@
-ghost use Rattle.std.specs.Prelude.{◌≡◌, ◌<◌, ◌≤◌, map, insert, vec_len, vec_capacity};
+ghost use Rattle.std.specs.Prelude.{◌≡◌, ◌+◌, ◌<◌, ◌≤◌, ◌∷◌, ◌++◌, map, insert, take, drop, vec_len, vec_capacity};
 ghost use Rattle.region_directory.specs.Entry.{in_state, with_busy, with_hits, plus_hits, changed_at};
 
 use crate::{Busy, Entry};
@@ -12,6 +12,29 @@ pub fn put_at(entries: &mut Vec<Entry>, place: usize, entry: Entry)
     ensures capacity { vec_capacity entries.old ≤ vec_capacity entries.new }
 {
     let _ = entries.insert(place, entry);
+}
+
+/// Puts two entries in the place of one, where there is memory for one more.
+pub fn put_two(entries: &mut Vec<Entry>, i: usize, lower: Entry, upper: Entry)
+    requires place { i < vec_len entries.old }
+    requires space { vec_len entries.old < vec_capacity entries.old }
+    ensures entries { entries.new.items
+        ≡ take i entries.old.items ++ lower ∷ upper ∷ drop (i + 1) entries.old.items }
+    ensures capacity { vec_capacity entries.old ≤ vec_capacity entries.new }
+{
+    entries[i] = lower;
+    put_at(entries, i + 1, upper);
+}
+
+/// Puts one entry in the place of two.
+pub fn put_one(entries: &mut Vec<Entry>, i: usize, whole: Entry)
+    requires { i + 1 < vec_len entries.old }
+    ensures entries { entries.new.items
+        ≡ take i entries.old.items ++ whole ∷ drop (i + 2) entries.old.items }
+    ensures capacity { vec_capacity entries.new ≡ vec_capacity entries.old }
+{
+    entries[i] = whole;
+    let _ = entries.remove(i + 1);
 }
 
 pub fn put_state(entries: &mut Vec<Entry>, i: usize, state: State)

@@ -1,12 +1,16 @@
-ghost use Rattle.std.specs.Prelude.{◌≡◌, ◌↔◌, ◌+◌, ◌<◌, ◌≤◌, ℕ, [], length, map, insert, remove, position, slice_get, Some, IsTrue, IsNone, IfSome, IfOk};
+ghost use Rattle.std.specs.Prelude.{◌≡◌, ◌↔◌, ◌+◌, ◌<◌, ◌≤◌, ◌⊎◌, ℕ, [], length, map, insert, remove, position, slice_get, Some, IsTrue, IsNone, IsSomeAnd, is_some, option_map, IfSome, IfOk, false};
 ghost use Rattle.mind_base.specs.Range.{RangeView, IsRange, InRange, in_range};
 ghost use Rattle.region_directory.specs.Entry.{HasPage, NoneHas, MeetsNone, largest_free, place_of, fresh_entry, in_state, with_busy, with_hits, plus_hits, changed_at};
 ghost use Rattle.region_directory.specs.Directory.{DirectoryView, IsDirectory};
+ghost use Rattle.region_directory.specs.Merge.{merge_of, with_merge};
 ghost use Rattle.region_directory.specs.Room.{room_of, MustWait};
+ghost use Rattle.region_directory.specs.Split.{split_of, with_split};
 
-use crate::changes::{count_hits, put_at, put_busy, put_state, reset_hits};
+use crate::changes::{count_hits, put_at, put_busy, put_one, put_state, put_two, reset_hits};
+use crate::merges::merged_pair;
 use crate::rooms::room_among;
 use crate::searches::{entry_with, largest_free, place_for};
+use crate::splits::split_entry;
 use crate::{Busy, Entry, Room};
 use mind_base::{NoMemory, Page, Range, State};
 use std::alloc::Global;
@@ -132,8 +136,8 @@ impl Directory {
     /// What makes room in a full directory, while these pages are being fetched.
     pub fn room(&self, fetching: &[Page]) -> Room
         requires { length self.now.entries ≡ self.now.slots }
-        ensures room { result ≡ room_of self.now.entries fetching.now }
-        ensures waits { (result ≡ Room.Wait) ↔ MustWait self.now.entries fetching.now }
+        ensures room { result ≡ room_of self.now fetching.now }
+        ensures waits { (result ≡ Room.Wait) ↔ MustWait self.now fetching.now }
         ensures valid { IsDirectory self.now }
     {
         room_among(self.entries.as_slice(), fetching)
@@ -172,6 +176,60 @@ impl Directory {
         ensures valid { IsDirectory self.new }
     {
         let _ = self.entries.remove(i as usize);
+    }
+
+    /// Puts an entry for each half of the block in the place of the entry with this index: both in its
+    /// state and in its transition, if one is under way, and with no hits. False, and nothing changes,
+    /// exactly where every slot has an entry or the block is one page.
+    pub fn split(&mut self, i: u32) -> bool
+        requires { i < length self.old.entries }
+        ensures split { result ≡ is_some (split_of self.old i) }
+        ensures none { (result ≡ false) ↔ ((length self.old.entries ≡ self.old.slots)
+            ⊎ IsSomeAnd (slice_get self.old.entries i) (λ entry. entry.range.log ≡ 0)) }
+        ensures changed { self.new ≡ record self.old {
+          entries = with_split i (split_of self.old i) self.old.entries;
+        } }
+        ensures valid { IsDirectory self.new }
+    {
+        if self.entries.len() == self.slots as usize {
+            return false;
+        }
+        let i = i as usize;
+        let Some((lower, upper)) = split_entry(&self.entries[i]) else {
+            return false;
+        };
+        put_two(&mut self.entries, i, lower, upper);
+        true
+    }
+
+    /// Whether the entry with this index and the next one may become one. They are the halves of one
+    /// block of at most 2^`most` pages, neither has a transition, and not both name blades, unless
+    /// both are S, or one is M and the other names its owner alone.
+    pub fn mergeable(&self, i: u32) -> bool
+        requires { i < length self.now.entries }
+        ensures { result ≡ is_some (merge_of self.now i) }
+    {
+        merged_pair(self.most, self.entries.as_slice(), i as usize).is_some()
+    }
+
+    /// Makes one entry of the entry with this index and the next one, and gives its block: in M if
+    /// either was, else in S with the sharers of both, else in I; the hits are added, up to the
+    /// greatest u32. None, and nothing changes, exactly where they may not become one.
+    pub fn merge(&mut self, i: u32) -> Option<Range>
+        requires { i < length self.old.entries }
+        ensures block { result ≡ option_map (λ whole. whole.range) (merge_of self.old i) }
+        ensures changed { self.new ≡ record self.old {
+          entries = with_merge i (merge_of self.old i) self.old.entries;
+        } }
+        ensures valid { IsDirectory self.new }
+    {
+        let i = i as usize;
+        let Some(whole) = merged_pair(self.most, self.entries.as_slice(), i) else {
+            return None;
+        };
+        let range = whole.range;
+        put_one(&mut self.entries, i, whole);
+        Some(range)
     }
 
     /// Gives the entry with this index another state.

@@ -6,8 +6,10 @@ mod blocks;
 mod changes;
 mod directories;
 mod entries;
+mod merges;
 mod rooms;
 mod searches;
+mod splits;
 
 pub use directories::Directory;
 pub use entries::{Busy, Entry};

@@ -1,7 +1,7 @@
 ghost use Rattle.std.specs.Prelude.{◌≡◌, ◌<◌, ◌≤◌, ◌^◌, length, position, IfSome};
 ghost use Rattle.std.specs.List.{list_any};
 ghost use Rattle.mind_base.specs.Range.{in_range};
-ghost use Rattle.region_directory.specs.Room.{is_droppable, is_for_room, is_evictable, room_of};
+ghost use Rattle.region_directory.specs.Room.{is_droppable, is_for_room, is_evictable, first_rule};
 
 use crate::Entry;
 use crate::blocks::has_page;
@@ -68,7 +68,9 @@ fn first_evictable(entries: &[Entry], fetching: &[Page]) -> Option<usize>
 /// What makes room among these entries while these pages are being fetched.
 pub fn room_among(entries: &[Entry], fetching: &[Page]) -> Room
     requires { length entries.now < 2 ^ 32 }
-    ensures { result ≡ room_of entries.now fetching.now }
+    ensures { result ≡ first_rule (position is_droppable entries.now)
+        (list_any (λ entry. is_for_room entry.busy) entries.now)
+        (position (is_evictable fetching.now) entries.now) }
 {
     if let Some(index) = first_droppable(entries) {
         let index = index as u32;

@@ -100,3 +100,88 @@ fn changes_one_entry(rt: HostRuntime) -> Result<(), Fail> {
     assert_eq!(rt; directory.find(page(6)), Some(0));
     Ok(())
 }
+
+/// The state of the entry that these two become, where they may, in a directory with blocks of up to
+/// two pages.
+fn merged(rt: &HostRuntime, lower: State, upper: State) -> Result<Option<State>, Fail> {
+    let mut directory = Directory::new(rt.alloc(), 2, 1)?;
+    let _ = put(&mut directory, 6, 0);
+    let _ = put(&mut directory, 7, 0);
+    let _ = enter(&mut directory, 0, lower);
+    let _ = enter(&mut directory, 1, upper);
+    if directory.is_empty() || directory.merge(0).is_none() || directory.is_empty() {
+        return Ok(None);
+    }
+    Ok(Some(directory.entry(0).state))
+}
+
+fn shared(sharers: u8) -> State {
+    State::S { sharers }
+}
+
+fn owned(owner: u8) -> State {
+    State::M { owner }
+}
+
+#[test]
+fn merges_states_that_go_together(rt: HostRuntime) -> Result<(), Fail> {
+    let rows = [
+        (State::I, State::I, Some(State::I)),
+        (State::I, shared(0b110), Some(shared(0b110))),
+        (owned(3), State::I, Some(owned(3))),
+        (shared(0b01), shared(0b11), Some(shared(0b11))),
+        (shared(0b10), owned(1), Some(owned(1))),
+        (shared(0b11), owned(1), None),
+        (owned(1), shared(0b100), None),
+        (owned(2), owned(2), Some(owned(2))),
+        (owned(2), owned(1), None),
+    ];
+    for (lower, upper, both) in &rows {
+        assert_eq!(rt; merged(&rt, *lower, *upper)?, *both);
+    }
+    Ok(())
+}
+
+#[test]
+fn splits_a_busy_entry_and_merges_its_halves(rt: HostRuntime) -> Result<(), Fail> {
+    let mut directory = Directory::new(rt.alloc(), 3, 1)?;
+    assert_eq!(rt; put(&mut directory, 2, 1), Some((2, 1)));
+    assert!(rt; enter(&mut directory, 0, owned(1)));
+    let busy = Busy {
+        number: 3,
+        waiting: 2,
+        target: State::I,
+        for_room: false,
+    };
+    assert!(rt; 0 < directory.len());
+    directory.set_busy(0, Some(busy));
+    assert!(rt; 0 < directory.len());
+    directory.add_hits(0, 5);
+    assert!(rt; 0 < directory.len());
+    assert!(rt; directory.split(0));
+    assert!(rt; 1 < directory.len());
+    let (lower, upper) = (directory.entry(0), directory.entry(1));
+    assert_eq!(rt; (lower.range.base, lower.range.log), (2, 0));
+    assert_eq!(rt; (upper.range.base, upper.range.log), (3, 0));
+    assert_eq!(rt; (lower.state, upper.state), (owned(1), owned(1)));
+    assert_eq!(rt; (lower.busy, upper.busy), (Some(busy), Some(busy)));
+    assert_eq!(rt; (lower.hits, upper.hits), (0, 0));
+    assert!(rt; !directory.split(0));
+    assert!(rt; 1 < directory.len());
+    assert!(rt; !directory.mergeable(0));
+    directory.set_busy(0, None);
+    assert!(rt; 1 < directory.len());
+    directory.set_busy(1, None);
+    assert!(rt; 1 < directory.len());
+    assert!(rt; directory.mergeable(0) && !directory.mergeable(1));
+    directory.add_hits(0, 4_294_967_290);
+    assert!(rt; 1 < directory.len());
+    directory.add_hits(1, 6);
+    assert!(rt; 1 < directory.len());
+    let block = directory.merge(0).map(|range| (range.base, range.log));
+    assert_eq!(rt; block, Some((2, 1)));
+    assert_eq!(rt; directory.len(), 1);
+    assert!(rt; 0 < directory.len());
+    assert_eq!(rt; directory.entry(0).hits, 4_294_967_295);
+    Ok(())
+}

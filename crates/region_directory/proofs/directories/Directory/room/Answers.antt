@@ -1,6 +1,7 @@
-use Rattle.std.proofs.Common.{◌≡◌, ◌↔◌, ap, subst, sym, ◌∙◌, arith}
+use Rattle.std.proofs.Common.{◌≡◌, ◌↔◌, List, ap, subst, sym, ◌∙◌, arith}
 use Rattle.region_directory.specs.Directory.{DirectoryView}
 use Rattle.region_directory.specs.Room.{room_of, MustWait}
+use Rattle.region_directory.specs.declared.entries.Entry.{Entry}
 use Rattle.region_directory.specs.declared.rooms.Room.{Room}
 use Rattle.region_directory.specs.declared.rooms.Room.TheVariants.{Wait}
 use Rattle.region_directory.proofs.RoomLemmas.{room-waits}
@@ -12,6 +13,7 @@ room_among-requires c =
 
 pub returns-clause-waits : goal.returns-clause-waits
 returns-clause-waits c =
-    let same : c.as_slice.result.now ≡ c.args.self.now.entries = c.as_slice.ensures.value ∙ ap (λ (v : DirectoryView). v.entries) c.self.view_is in
-    let room : c.room_among.result ≡ room_of c.args.self.now.entries c.args.fetching.now = c.room_among.ensures ∙ ap (λ es. room_of es c.args.fetching.now) same in
-    subst (λ (r : Room). (r ≡ Wait) ↔ MustWait c.args.self.now.entries c.args.fetching.now) (sym room) (room-waits c.args.self.now.entries c.args.fetching.now)
+    let made : List Entry → DirectoryView = λ (es : List Entry). record { slots = c.self.inside.slots; most = c.self.inside.most; entries = es } in
+    let room : c.room_among.result ≡ room_of c.args.self.now c.args.fetching.now =
+    c.room_among.ensures ∙ ap (λ (es : List Entry). room_of (made es) c.args.fetching.now) c.as_slice.ensures.value ∙ ap (λ (v : DirectoryView). room_of v c.args.fetching.now) c.self.view_is in
+    subst (λ (r : Room). (r ≡ Wait) ↔ MustWait c.args.self.now c.args.fetching.now) (sym room) (room-waits c.args.self.now c.args.fetching.now)
