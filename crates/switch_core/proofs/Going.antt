@@ -54,7 +54,7 @@ abbrev pub is_full : SwitchView → Bool
 is_full s = length s.directory.entries == s.directory.slots
 
 abbrev pub room_in : SwitchView → Room
-room_in s = room_of s.directory.entries (fetched_pages s.requests)
+room_in s = room_of s.directory (fetched_pages s.requests)
 
 abbrev pub unless-denied : Request → Bool → Pass → Pass
 unless-denied r b pass = cond b (does (denied r) pass) (for_entry r (entry_for r.page pass.done.switch.directory.entries) pass)

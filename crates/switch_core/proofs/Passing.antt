@@ -14,6 +14,7 @@ use Rattle.mind_base.specs.declared.notes.State.{State}
 use Rattle.mind_base.specs.declared.notes.State.TheVariants.{I, S, M}
 use Rattle.mind_base.specs.declared.plans.RackPlan.{RackPlan}
 use Rattle.invalidate_multicast.specs.Blades.{without_blade}
+use Rattle.region_directory.specs.Directory.{DirectoryView}
 use Rattle.region_directory.specs.Room.{room_of, first_rule, is_unheld, is_droppable, is_evictable}
 use Rattle.region_directory.specs.declared.entries.Busy.{Busy}
 use Rattle.region_directory.specs.declared.entries.Entry.{Entry}
@@ -174,15 +175,17 @@ passed : (p : Entry → Bool) (es : List Entry) (i : ℕ) (e : Entry) → positi
 passed p es i e found at = ap p (sym (get_or_from_slice_get es i e e at)) ∙ (position-Some p es i e found).1
 
 -- the entry that is dropped has no transition
-pub dropped-idle : (es : List Entry) (pages : List PageView) (i : ℕ) (e : Entry) → room_of es pages ≡ Drop i → slice_get es i ≡ Some e → e.busy ≡ None
-dropped-idle es pages i e h at =
+pub dropped-idle : (d : DirectoryView) (pages : List PageView) (i : ℕ) (e : Entry) → room_of d pages ≡ Drop i → slice_get d.entries i ≡ Some e → e.busy ≡ None
+dropped-idle d pages i e h at =
+    let es : List Entry = d.entries in
     let first : position is_droppable es ≡ Some i = first-drop _ _ _ i h in
     let test : is_droppable e ≡ true = passed is_droppable es i e first at in
     none-of e.busy (both _ (is_none e.busy) test).1
 
 -- the entry that is taken from its holders has no transition, and is not in I
-pub evicted-idle : (es : List Entry) (pages : List PageView) (i : ℕ) (e : Entry) → room_of es pages ≡ Evict i → slice_get es i ≡ Some e → e.busy ≡ None
-evicted-idle es pages i e h at =
+pub evicted-idle : (d : DirectoryView) (pages : List PageView) (i : ℕ) (e : Entry) → room_of d pages ≡ Evict i → slice_get d.entries i ≡ Some e → e.busy ≡ None
+evicted-idle d pages i e h at =
+    let es : List Entry = d.entries in
     let first : position (is_evictable pages) es ≡ Some i = (first-evict _ _ _ i h).1 in
     let test : is_evictable pages e ≡ true = passed (is_evictable pages) es i e first at in
     none-of e.busy (both (is_none e.busy) _ test).0
@@ -191,12 +194,13 @@ droppable-I : (e : Entry) → e.state ≡ I → e.busy ≡ None → is_droppable
 droppable-I e s b =
     ap (λ (x : State). is_unheld x && is_none e.busy) s ∙ ap (λ (x : Option Busy). true && is_none x) b
 
-pub evicted-held : (es : List Entry) (pages : List PageView) (i : ℕ) (e : Entry) → room_of es pages ≡ Evict i → slice_get es i ≡ Some e → e.state ≢ I
-evicted-held es pages i e h at =
+pub evicted-held : (d : DirectoryView) (pages : List PageView) (i : ℕ) (e : Entry) → room_of d pages ≡ Evict i → slice_get d.entries i ≡ Some e → e.state ≢ I
+evicted-held d pages i e h at =
+    let es : List Entry = d.entries in
     let none : position is_droppable es ≡ None = (first-evict _ _ _ i h).0 in
     let fails : is_droppable (get_or es i e) ≡ false = all-fail is_droppable es none i e (slice_get_within es i e at) in
     let here : is_droppable e ≡ false = ap is_droppable (sym (get_or_from_slice_get es i e e at)) ∙ fails in
-    λ s. absurd (false≢true (sym here ∙ droppable-I e s (evicted-idle es pages i e h at)))
+    λ s. absurd (false≢true (sym here ∙ droppable-I e s (evicted-idle d pages i e h at)))
 
 pub all-left : (P : Entry → Type 0) (es : List Entry) (i : ℕ) → All P es → All P (remove es i)
 all-left P [] zero h k d lt = absurd (omega arith)

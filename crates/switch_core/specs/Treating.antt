@@ -227,7 +227,7 @@ abbrev pub without_entry : Request → Pass → Pass
 without_entry r pass =
     if pass.blocked then waits pass
     else (if length pass.done.switch.directory.entries == pass.done.switch.directory.slots
-    then with_room r (room_of pass.done.switch.directory.entries (fetched_pages pass.done.switch.requests)) pass
+    then with_room r (room_of pass.done.switch.directory (fetched_pages pass.done.switch.requests)) pass
     else enters r pass)
 
 -- ---- the request

@@ -172,7 +172,7 @@ impl SwitchCore {
         requires allowed { allows r.now.write (permission_at self.old.protect r.now.page) ≡ true }
         requires none { NoneHas self.old.directory.entries r.now.page }
         requires full { length self.old.directory.entries ≡ self.old.directory.slots }
-        ensures goes_on { OnOk result (GoesOn (with_room r.now (room_of self.old.directory.entries (fetched_pages self.old.requests))) self.old stand.old out.old.items log.old.notes self.new stand.new out.new.items log.new.notes) }
+        ensures goes_on { OnOk result (GoesOn (with_room r.now (room_of self.old.directory (fetched_pages self.old.requests))) self.old stand.old out.old.items log.old.notes self.new stand.new out.new.items log.new.notes) }
         ensures keeps { Keeps (start_at self.old out.old.items log.old.notes) self.new out.new.items log.new.notes }
         ensures spent { result ≡ Err Spent → IsSpent self.new }
     {

@@ -45,8 +45,8 @@ clear-requires-clause-idle c =
     let i : ℕ = c.in-Evict.index in
     let entry : Entry = c.entry-entry-in-Evict.result in
     let found : slice_get s.directory.entries i ≡ Some entry = subst (λ (v : SwitchView). slice_get v.directory.entries i ≡ Some entry) c.self.view_is c.entry-entry-in-Evict.ensures.entry in
-    let room : room_in s ≡ Evict i = sym (c.in-Evict.ensures.room ∙ ap (room_of c.self.inside.directory.entries) c.fetching_pages.ensures.pages ∙ ap room_in c.self.view_is) in
-    let idle : entry.busy ≡ None = evicted-idle s.directory.entries (fetched_pages s.requests) i entry room found in
+    let room : room_in s ≡ Evict i = sym (c.in-Evict.ensures.room ∙ ap (room_of c.self.inside.directory) c.fetching_pages.ensures.pages ∙ ap room_in c.self.view_is) in
+    let idle : entry.busy ≡ None = evicted-idle s.directory (fetched_pages s.requests) i entry room found in
     idle
 
 pub clear-requires-clause-held : goal.clear-requires-clause-held
@@ -55,9 +55,9 @@ clear-requires-clause-held c =
     let i : ℕ = c.in-Evict.index in
     let entry : Entry = c.entry-entry-in-Evict.result in
     let found : slice_get s.directory.entries i ≡ Some entry = subst (λ (v : SwitchView). slice_get v.directory.entries i ≡ Some entry) c.self.view_is c.entry-entry-in-Evict.ensures.entry in
-    let room : room_in s ≡ Evict i = sym (c.in-Evict.ensures.room ∙ ap (room_of c.self.inside.directory.entries) c.fetching_pages.ensures.pages ∙ ap room_in c.self.view_is) in
-    let idle : entry.busy ≡ None = evicted-idle s.directory.entries (fetched_pages s.requests) i entry room found in
-    let some : entry.state ≢ I = evicted-held s.directory.entries (fetched_pages s.requests) i entry room found in
+    let room : room_in s ≡ Evict i = sym (c.in-Evict.ensures.room ∙ ap (room_of c.self.inside.directory) c.fetching_pages.ensures.pages ∙ ap room_in c.self.view_is) in
+    let idle : entry.busy ≡ None = evicted-idle s.directory (fetched_pages s.requests) i entry room found in
+    let some : entry.state ≢ I = evicted-held s.directory (fetched_pages s.requests) i entry room found in
     let n = length c.self.inside.plan.frames in
     holders-some n entry.state (all-at (IsFitEntry n) c.self.inside.directory.entries i entry c.self.invariant.entries c.entry-entry-in-Evict.ensures.entry).state some
 
@@ -67,8 +67,8 @@ returns-in_ok-remove_entry-in-Drop-clause-goes_on c =
     let i : ℕ = c.in-Drop.index in
     let entry : Entry = c.entry-entry.result in
     let found : slice_get s.directory.entries i ≡ Some entry = subst (λ (v : SwitchView). slice_get v.directory.entries i ≡ Some entry) c.self.view_is c.entry-entry.ensures.entry in
-    let room : room_in s ≡ Drop i = sym (c.in-Drop.ensures.room ∙ ap (room_of c.self.inside.directory.entries) c.fetching_pages.ensures.pages ∙ ap room_in c.self.view_is) in
-    let idle : entry.busy ≡ None = dropped-idle s.directory.entries (fetched_pages s.requests) i entry room found in
+    let room : room_in s ≡ Drop i = sym (c.in-Drop.ensures.room ∙ ap (room_of c.self.inside.directory) c.fetching_pages.ensures.pages ∙ ap room_in c.self.view_is) in
+    let idle : entry.busy ≡ None = dropped-idle s.directory (fetched_pages s.requests) i entry room found in
     on_ok_weaker c.treat_new.result
     (λ goes start pass h.
     let s1 : SwitchView = c.remove_entry.new.self in
@@ -85,8 +85,8 @@ returns-in_ok-remove_entry-in-Drop-clause-keeps c =
     let i : ℕ = c.in-Drop.index in
     let entry : Entry = c.entry-entry.result in
     let found : slice_get s.directory.entries i ≡ Some entry = subst (λ (v : SwitchView). slice_get v.directory.entries i ≡ Some entry) c.self.view_is c.entry-entry.ensures.entry in
-    let room : room_in s ≡ Drop i = sym (c.in-Drop.ensures.room ∙ ap (room_of c.self.inside.directory.entries) c.fetching_pages.ensures.pages ∙ ap room_in c.self.view_is) in
-    let idle : entry.busy ≡ None = dropped-idle s.directory.entries (fetched_pages s.requests) i entry room found in
+    let room : room_in s ≡ Drop i = sym (c.in-Drop.ensures.room ∙ ap (room_of c.self.inside.directory) c.fetching_pages.ensures.pages ∙ ap room_in c.self.view_is) in
+    let idle : entry.busy ≡ None = dropped-idle s.directory (fetched_pages s.requests) i entry room found in
     keeps-then s c.remove_entry.new.self c.treat_new.new.self c.args.out.now.items c.args.out.now.items c.treat_new.new.out.items c.args.log.now.notes c.remove_entry.new.log.notes c.treat_new.new.log.notes
     (keeps-done s c.remove_entry.new.self (dropped i entry s) c.args.out.now.items c.args.out.now.items c.args.log.now.notes c.remove_entry.new.log.notes
     (safe-dropped s i entry c.in_ok-remove_entry-in-Drop.ensures.was found idle) c.in_ok-remove_entry-in-Drop.ensures.switch (sym (append-nil c.args.out.now.items)) c.in_ok-remove_entry-in-Drop.ensures.noted)
@@ -98,8 +98,8 @@ returns-in_ok-clear-in-Evict-clause-goes_on c = λ start pass h.
     let i : ℕ = c.in-Evict.index in
     let entry : Entry = c.entry-entry-in-Evict.result in
     let found : slice_get s.directory.entries i ≡ Some entry = subst (λ (v : SwitchView). slice_get v.directory.entries i ≡ Some entry) c.self.view_is c.entry-entry-in-Evict.ensures.entry in
-    let room : room_in s ≡ Evict i = sym (c.in-Evict.ensures.room ∙ ap (room_of c.self.inside.directory.entries) c.fetching_pages.ensures.pages ∙ ap room_in c.self.view_is) in
-    let idle : entry.busy ≡ None = evicted-idle s.directory.entries (fetched_pages s.requests) i entry room found in
+    let room : room_in s ≡ Evict i = sym (c.in-Evict.ensures.room ∙ ap (room_of c.self.inside.directory) c.fetching_pages.ensures.pages ∙ ap room_in c.self.view_is) in
+    let idle : entry.busy ≡ None = evicted-idle s.directory (fetched_pages s.requests) i entry room found in
     let stand : Stand = c.args.stand.now in
     let now : c.block.new.self ≡ record stand { at = stand.at + 1; blocked = true; changed = true } = c.block.ensures ∙ ap (λ (x : Stand). record x { at = x.at + 1; blocked = true }) c.change-in-Evict.ensures in
     subst (λ (x : Stand). InPass start (with_room c.args.r.now (room_in s) pass) c.clear.new.self x c.clear.new.out.items c.args.log.now.notes) (sym now)
@@ -112,8 +112,8 @@ returns-in_ok-clear-in-Evict-clause-keeps c =
     let i : ℕ = c.in-Evict.index in
     let entry : Entry = c.entry-entry-in-Evict.result in
     let found : slice_get s.directory.entries i ≡ Some entry = subst (λ (v : SwitchView). slice_get v.directory.entries i ≡ Some entry) c.self.view_is c.entry-entry-in-Evict.ensures.entry in
-    let room : room_in s ≡ Evict i = sym (c.in-Evict.ensures.room ∙ ap (room_of c.self.inside.directory.entries) c.fetching_pages.ensures.pages ∙ ap room_in c.self.view_is) in
-    let idle : entry.busy ≡ None = evicted-idle s.directory.entries (fetched_pages s.requests) i entry room found in
+    let room : room_in s ≡ Evict i = sym (c.in-Evict.ensures.room ∙ ap (room_of c.self.inside.directory) c.fetching_pages.ensures.pages ∙ ap room_in c.self.view_is) in
+    let idle : entry.busy ≡ None = evicted-idle s.directory (fetched_pages s.requests) i entry room found in
     keeps-done s c.clear.new.self (cleared i entry s) c.args.out.now.items c.clear.new.out.items c.args.log.now.notes c.args.log.now.notes
     (safe-cleared s i entry c.in_ok-clear-in-Evict.ensures.was found idle)
     c.in_ok-clear-in-Evict.ensures.switch c.in_ok-clear-in-Evict.ensures.sent (sym (append-nil c.args.log.now.notes))
@@ -122,7 +122,7 @@ pub returns-in-Merge-clause-goes_on : goal.returns-in-Merge-clause-goes_on
 returns-in-Merge-clause-goes_on c = λ start pass h.
     let s : SwitchView = c.args.self.now in
     let stand : Stand = c.args.stand.now in
-    let room : room_in s ≡ c.room.result = sym (c.room.ensures.room ∙ ap (room_of c.self.inside.directory.entries) c.fetching_pages.ensures.pages ∙ ap room_in c.self.view_is) in
+    let room : room_in s ≡ c.room.result = sym (c.room.ensures.room ∙ ap (room_of c.self.inside.directory) c.fetching_pages.ensures.pages ∙ ap room_in c.self.view_is) in
     let blocked : InPass start (with_room c.args.r.now (room_in s) pass) s (record stand { at = stand.at + 1; blocked = true }) c.args.out.now.items c.args.log.now.notes =
     elim c.in-Merge.is [
       | inl merge ↦ goes-merged start pass s stand c.args.out.now.items c.args.log.now.notes h c.args.r.now (room_in s) merge.0 (room ∙ merge.1)
