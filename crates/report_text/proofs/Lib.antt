@@ -1,5 +1,6 @@
 pub mod CommandLines
 pub mod FirstMoves
+pub mod Keeping
 pub mod Lines
 pub mod Peaks
 pub mod Samples

@@ -1,85 +1,97 @@
-ghost use Rattle.std.specs.Prelude.{◌≡◌, IfOk, OnOk};
-ghost use Rattle.mind_base.specs.Range.{halves_of};
-ghost use Rattle.report_text.specs.Force.{is_same, has_block, without, entered, split_into, merged_from, after_note, peak};
+ghost use Rattle.std.specs.Prelude.{◌≡◌, [], List, IfOk, OnOk};
+ghost use Rattle.mind_base.specs.Range.{RangeView, halves_of};
+ghost use Rattle.report_text.specs.Force.{has_block, without, entered, split_into, merged_from, after_note, peak};
+ghost use Rattle.report_text.specs.Kept.{key_of, Keeps};
 
 use mind_base::{Log, NoMemory, Note, Range};
 use std::alloc::Global;
+use std::collections::BTreeSet;
 
-fn is_equal(a: &Range, b: &Range) -> bool
-    ensures { result ≡ is_same a.now b.now }
+/// A block as a key: ordered by domain, then by first page, then by size.
+#[derive(Clone, Copy, Debug, PartialEq, Eq, PartialOrd, Ord)]
+struct BlockKey {
+    domain: u8,
+    base: u32,
+    log: u8,
+}
+
+fn make_key(range: Range) -> BlockKey
+    ensures { result ≡ key_of range }
 {
-    a.domain == b.domain && a.base == b.base && a.log == b.log
+    BlockKey {
+        domain: range.domain,
+        base: range.base,
+        log: range.log,
+    }
 }
 
 /// Whether the block is among these.
-fn has(blocks: &[Range], range: &Range) -> bool
-    ensures { result ≡ has_block range.now blocks.now }
+fn has(kept: &BTreeSet<BlockKey>, range: Range) -> bool
+    ensures { (blocks : List RangeView) → Keeps kept.now blocks → result ≡ has_block range blocks }
 {
-    blocks.iter().any(|block| is_equal(range, block))
+    kept.contains(&make_key(range))
 }
 
 /// Takes the block out, if it is there.
-fn remove(blocks: &mut Vec<Range>, range: &Range)
-    ensures { blocks.new.items ≡ without range.now blocks.old.items }
+fn remove(kept: &mut BTreeSet<BlockKey>, range: Range)
+    ensures { (blocks : List RangeView) → Keeps kept.old blocks → Keeps kept.new (without range blocks) }
 {
-    blocks.retain(|block| !is_equal(range, block));
+    kept.remove(&make_key(range));
 }
 
 /// Puts the block in, if it is not there yet.
-fn enter(blocks: &mut Vec<Range>, range: Range) -> Result<(), NoMemory>
-    ensures { OnOk result (blocks.new.items ≡ entered range blocks.old.items) }
+fn enter(kept: &mut BTreeSet<BlockKey>, range: Range) -> Result<(), NoMemory>
+    ensures { OnOk result ((blocks : List RangeView) → Keeps kept.old blocks → Keeps kept.new (entered range blocks)) }
 {
-    if !has(blocks, &range) {
-        blocks.push(range)?;
-    }
+    kept.insert(make_key(range))?;
     Ok(())
 }
 
 /// Puts the two halves of a block in its place, where it is there and has more than one page.
-fn split(blocks: &mut Vec<Range>, range: Range) -> Result<(), NoMemory>
-    ensures { OnOk result (blocks.new.items ≡ split_into range blocks.old.items (halves_of range)) }
+fn split(kept: &mut BTreeSet<BlockKey>, range: Range) -> Result<(), NoMemory>
+    ensures { OnOk result ((blocks : List RangeView) → Keeps kept.old blocks → Keeps kept.new (split_into range blocks (halves_of range))) }
 {
     let Some((lower, upper)) = range.halves() else {
         return Ok(());
     };
-    if !has(blocks, &range) {
+    if !has(kept, range) {
         return Ok(());
     }
-    remove(blocks, &range);
-    enter(blocks, lower)?;
-    enter(blocks, upper)
+    remove(kept, range);
+    enter(kept, lower)?;
+    enter(kept, upper)
 }
 
 /// Puts a block in the place of its two halves, where both are there.
-fn merge(blocks: &mut Vec<Range>, range: Range) -> Result<(), NoMemory>
-    ensures { OnOk result (blocks.new.items ≡ merged_from range blocks.old.items (halves_of range)) }
+fn merge(kept: &mut BTreeSet<BlockKey>, range: Range) -> Result<(), NoMemory>
+    ensures { OnOk result ((blocks : List RangeView) → Keeps kept.old blocks → Keeps kept.new (merged_from range blocks (halves_of range))) }
 {
     let Some((lower, upper)) = range.halves() else {
         return Ok(());
     };
-    if !has(blocks, &lower) {
+    if !has(kept, lower) {
         return Ok(());
     }
-    if !has(blocks, &upper) {
+    if !has(kept, upper) {
         return Ok(());
     }
-    remove(blocks, &lower);
-    remove(blocks, &upper);
-    enter(blocks, range)
+    remove(kept, lower);
+    remove(kept, upper);
+    enter(kept, range)
 }
 
 /// Takes one note over.
-fn take_note(blocks: &mut Vec<Range>, note: Note) -> Result<(), NoMemory>
-    ensures { OnOk result (blocks.new.items ≡ after_note blocks.old.items note) }
+fn take_note(kept: &mut BTreeSet<BlockKey>, note: Note) -> Result<(), NoMemory>
+    ensures { OnOk result ((blocks : List RangeView) → Keeps kept.old blocks → Keeps kept.new (after_note blocks note)) }
 {
     match note {
-        Note::Region { range, .. } => enter(blocks, range),
+        Note::Region { range, .. } => enter(kept, range),
         Note::Gone { range } => {
-            remove(blocks, &range);
+            remove(kept, range);
             Ok(())
         }
-        Note::Split { range } => split(blocks, range),
-        Note::Merge { range } => merge(blocks, range),
+        Note::Split { range } => split(kept, range),
+        Note::Merge { range } => merge(kept, range),
         Note::Event { .. }
         | Note::Exec { .. }
         | Note::Drain { .. }
@@ -91,15 +103,22 @@ fn take_note(blocks: &mut Vec<Range>, note: Note) -> Result<(), NoMemory>
     }
 }
 
+/// A set that keeps no block.
+fn make_empty(alloc: Global) -> BTreeSet<BlockKey>
+    ensures { Keeps result [] }
+{
+    BTreeSet::new(alloc)
+}
+
 /// The greatest number of directory entries in force at any point of a log.
 pub fn peak_in(alloc: Global, log: &Log) -> Result<usize, NoMemory>
     ensures { IfOk result (λ most. most ≡ peak log.now.notes) }
 {
-    let mut blocks = Vec::new(alloc);
+    let mut kept = make_empty(alloc);
     let mut most = 0;
     for i in 0..log.len() {
-        take_note(&mut blocks, log.get(i))?;
-        most = most.max(blocks.len());
+        take_note(&mut kept, log.get(i))?;
+        most = most.max(kept.len());
     }
     Ok(most)
 }
