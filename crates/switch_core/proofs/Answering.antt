@@ -1,11 +1,13 @@
 -- What a blade's acknowledgement and a fetched page make of the switch.
-use Rattle.std.proofs.Common.{◌≡◌, ℕ, ◌+◌, ◌<◌, ◌≤◌, Bool, true, false, cond, not, ◌&&◌, ◌==◌, Option, Some, None, List, [], ◌∷◌, ◌++◌, length, map, filter, refl, ap, sym, subst, ◌∙◌, inl, inr, zero, suc, arith, append_assoc}
-use Rattle.std.specs.List.{AllByRecursion, Any, find, flat_map, slice_index_or}
-use Rattle.std.specs.Option.{option_map, IfSome}
+use Rattle.std.proofs.Common.{◌≡◌, ℕ, ◌+◌, ◌<◌, ◌≤◌, Bool, true, false, cond, not, ◌&&◌, ◌==◌, Option, Some, None, List, [], ◌∷◌, ◌++◌, length, map, filter, take, refl, ap, sym, subst, ◌∙◌, inl, inr, zero, suc, arith, append_assoc}
+use Rattle.std.specs.List.{AllByRecursion, Any, find, flat_map, slice_get, slice_index_or}
+use Rattle.std.specs.Option.{is_some, option_map, IfSome}
 use Rattle.std.specs.Prelude.{Result, Ok, Err, OnOk}
 use Rattle.mind_base.specs.declared.failures.Stop.{Stop}
 use Rattle.std.proofs.lemmas.Bool.{cases_Bool, eqb-true, false≢true}
-use Rattle.std.proofs.lemmas.List.{append-nil}
+use Rattle.std.proofs.lemmas.Grind.{flat_map-append}
+use Rattle.std.proofs.lemmas.List.{append-nil, take_more}
+use Rattle.std.proofs.lemmas.Option.{get_or_from_slice_get, slice_get_within}
 use Rattle.mind_base.specs.Page.{PageView}
 use Rattle.mind_base.specs.Range.{RangeView}
 use Rattle.mind_base.specs.declared.commands.Perm.{Perm}
@@ -28,14 +30,15 @@ use Rattle.request_list.specs.declared.requests.Request.{Request}
 use Rattle.wire_msg.specs.WellFormed.{CanFill}
 use Rattle.wire_msg.specs.declared.msgs.Msg.{Msg}
 use Rattle.wire_msg.specs.declared.msgs.Msg.TheVariants.{Fill}
-use Rattle.switch_core.specs.Handling.{ended, noted_end, filled, filling, handled_from, went_back, writing, Received}
+use Rattle.switch_core.specs.Handling.{all_ended, answered, asked, ended, noted_end, filled, filling, handled_from, went_back, writing, Received}
 use Rattle.switch_core.specs.Invariant.{IsFitState, IsFitTarget, IsFitEntry, IsFitRequest, IsSpent, IsSwitch}
-use Rattle.switch_core.specs.Sending.{IsSendable, Start, Comes, Begins, Stays, start_at}
+use Rattle.switch_core.specs.Sending.{AreFetchesAllowed, IsSendable, Start, Comes, Begins, Stays, start_at}
 use Rattle.switch_core.specs.Serving.{Serves}
 use Rattle.switch_core.specs.Switch.{SwitchView, Effect, with_requests, place_in, to_blade}
 use Rattle.switch_core.specs.Treating.{allows, without_request}
-use Rattle.switch_core.proofs.Lists.{under-le-length}
-use Rattle.switch_core.proofs.Safety.{place-in-rack}
+use Rattle.switch_core.proofs.EachEnding.{answered-is}
+use Rattle.switch_core.proofs.Lists.{all-append, all-filter, under-le-length}
+use Rattle.switch_core.proofs.Safety.{IsAllowed, place-in-rack}
 
 -- ---- transitions that wait for nobody end one after another
 
@@ -97,6 +100,22 @@ ends-first (e ∷ es) x h =
           let found : first_ended (e ∷ es) ≡ first_ended es =
           ap (λ (b : Bool). option_map {T = Entry} {U = RangeView × State} (λ y. (y.range, target_of y y.busy)) (cond b (Some e) (find (λ y. is_answered y.busy) es))) f in
           step-later e es x f (ends-first es x (sym found ∙ h))
+    ]
+
+-- none waits for nobody
+pub none-answered : (es : List Entry) → first_ended es ≡ None → AllByRecursion (λ e. is_answered e.busy ≡ false) es
+none-answered [] h = tt
+none-answered (e ∷ es) h =
+    elim (cases_Bool (is_answered e.busy)) [
+      | inl t ↦
+          let found : first_ended (e ∷ es) ≡ Some (e.range, target_of e e.busy) =
+          ap (λ (b : Bool). option_map {T = Entry} {U = RangeView × State} (λ y. (y.range, target_of y y.busy)) (cond b (Some e) (find (λ y. is_answered y.busy) es))) t in
+          let clash : Some (e.range, target_of e e.busy) ≡ None = sym found ∙ h in
+          absurd (cc)
+      | inr f ↦
+          let found : first_ended (e ∷ es) ≡ first_ended es =
+          ap (λ (b : Bool). option_map {T = Entry} {U = RangeView × State} (λ y. (y.range, target_of y y.busy)) (cond b (Some e) (find (λ y. is_answered y.busy) es))) f in
+          (f, none-answered es (sym found ∙ h))
     ]
 
 record EndsNone (es : List Entry) : Type 0 where
@@ -169,58 +188,58 @@ fit-acknowledged n number blade count es h =
 -- ---- the loop over the endings
 
 -- how far it has come: what is left to end leads to the same end
-pub record Ending (first now : DirectoryView) (notes notes' : List Note) : Type 0 where
+pub record Ending (first now : DirectoryView) : Type 0 where
   pub same : map ended now.entries ≡ map ended first.entries
-  pub noted : notes' ++ flat_map noted_end now.entries ≡ notes ++ flat_map noted_end first.entries
   pub slots : now.slots ≡ first.slots
   pub most : now.most ≡ first.most
   pub count : length now.entries ≡ length first.entries
   pub fit : (n : ℕ) → AllByRecursion (IsFitEntry n) first.entries → AllByRecursion (IsFitEntry n) now.entries
-  pub begins : Begins notes notes'
 
-pub ending-first : (d : DirectoryView) (notes : List Note) → Ending d d notes notes
-ending-first d notes = record { same = refl; noted = refl; slots = refl; most = refl; count = refl; fit = λ n h. h; begins = ([], sym (append-nil notes)) }
+pub ending-first : (d : DirectoryView) → Ending d d
+ending-first d = record { same = refl; slots = refl; most = refl; count = refl; fit = λ n h. h }
 
--- one more entry has ended, before it is noted
-pub ending-fit : (first now d : DirectoryView) (notes notes' : List Note) → Ending first now notes notes' → d ≡ record now { entries = with_first_ended now.entries } → (n : ℕ) → AllByRecursion (IsFitEntry n) first.entries → AllByRecursion (IsFitEntry n) d.entries
-ending-fit first now d notes notes' h e n k =
-    subst (λ (x : DirectoryView). AllByRecursion (IsFitEntry n) x.entries) (sym e) (fit-first n now.entries (h.fit n k))
+-- the first that waits for nobody, if there is one, changes nothing of where the endings lead
+same-ended : (es : List Entry) (o : Option (RangeView × State)) → first_ended es ≡ o → map ended (with_first_ended es) ≡ map ended es
+same-ended es None h = ap (map ended) (ends-none es h).left
+same-ended es (Some x) h = (ends-first es x h).same
 
-pub ending-slots : (first now d : DirectoryView) (notes notes' : List Note) → Ending first now notes notes' → d ≡ record now { entries = with_first_ended now.entries } → d.slots ≡ first.slots
-ending-slots first now d notes notes' h e = ap (λ (x : DirectoryView). x.slots) e ∙ h.slots
+pub ending-more : (first now d : DirectoryView) → Ending first now → d ≡ record now { entries = with_first_ended now.entries } → length d.entries ≡ length now.entries → Ending first d
+ending-more first now d h e same-count = record {
+  same = ap (λ (x : DirectoryView). map ended x.entries) e ∙ same-ended now.entries (first_ended now.entries) refl ∙ h.same;
+  slots = ap (λ (x : DirectoryView). x.slots) e ∙ h.slots;
+  most = ap (λ (x : DirectoryView). x.most) e ∙ h.most;
+  count = same-count ∙ h.count;
+  fit = λ n k. subst (λ (x : DirectoryView). AllByRecursion (IsFitEntry n) x.entries) (sym e) (fit-first n now.entries (h.fit n k));
+}
 
-pub ending-more : (first now d : DirectoryView) (notes notes' notes'' : List Note) (range : RangeView) (state : State) → Ending first now notes notes' → first_ended now.entries ≡ Some (range, state) → d ≡ record now { entries = with_first_ended now.entries } → length d.entries ≡ length now.entries → notes'' ≡ notes' ++ note.Region range state ∷ [] → Ending first d notes notes''
-ending-more first now d notes notes' notes'' range state h found e same-count added =
-    let step = ends-first now.entries (range, state) found in
-    let entries : d.entries ≡ with_first_ended now.entries = ap (λ (x : DirectoryView). x.entries) e in
-    record {
-      same = ap (map ended) entries ∙ step.same ∙ h.same;
-      noted = ap (λ (ns : List Note). ns ++ flat_map noted_end d.entries) added
-          ∙ append_assoc notes' (note.Region range state ∷ []) (flat_map noted_end d.entries)
-          ∙ ap (λ (ys : List Entry). notes' ++ note.Region range state ∷ flat_map noted_end ys) entries
-          ∙ ap (λ (ns : List Note). notes' ++ ns) (sym step.noted)
-          ∙ h.noted;
-      slots = ending-slots first now d notes notes' h e;
-      most = ap (λ (x : DirectoryView). x.most) e ∙ h.most;
-      count = same-count ∙ h.count;
-      fit = ending-fit first now d notes notes' h e;
-      begins = (h.begins.0 ++ note.Region range state ∷ [], added ∙ ap (λ (ns : List Note). ns ++ note.Region range state ∷ []) h.begins.1 ∙ append_assoc notes h.begins.0 (note.Region range state ∷ []));
-    }
+falls-by : (es : List Entry) (o : Option (RangeView × State)) → first_ended es ≡ o → is_some o ≡ true → answered_in (with_first_ended es) < answered_in es
+falls-by es None h t = absurd (false≢true t)
+falls-by es (Some x) h t = omega (arith, (ends-first es x h).fewer)
 
-pub ending-falls : (now d : DirectoryView) (range : RangeView) (state : State) → first_ended now.entries ≡ Some (range, state) → d ≡ record now { entries = with_first_ended now.entries } → answered_in d.entries < answered_in now.entries
-ending-falls now d range state found e =
-    let step = ends-first now.entries (range, state) found in
+pub ending-falls : (now d : DirectoryView) → is_some (first_ended now.entries) ≡ true → d ≡ record now { entries = with_first_ended now.entries } → answered_in d.entries < answered_in now.entries
+ending-falls now d found e =
     let left : answered_in d.entries ≡ answered_in (with_first_ended now.entries) = ap (λ (x : DirectoryView). answered_in x.entries) e in
-    omega (arith, step.fewer, left)
+    omega (arith, falls-by now.entries (first_ended now.entries) refl found, left)
 
 -- none is left to end
-pub ending-end : (first now d : DirectoryView) (notes notes' : List Note) → Ending first now notes notes' → first_ended now.entries ≡ None → d ≡ record now { entries = with_first_ended now.entries } → (d ≡ record first { entries = map ended first.entries }) × (notes' ≡ notes ++ flat_map noted_end first.entries)
-ending-end first now d notes notes' h none e =
+pub ending-end : (first now d : DirectoryView) → Ending first now → first_ended now.entries ≡ None → d ≡ record now { entries = with_first_ended now.entries } → d ≡ record first { entries = map ended first.entries }
+ending-end first now d h none e =
     let rest = ends-none now.entries none in
     let entries : with_first_ended now.entries ≡ map ended first.entries = rest.left ∙ sym rest.same ∙ h.same in
-    let built : record now { entries = with_first_ended now.entries } ≡ record first { entries = map ended first.entries } =
-    ap (λ (ys : List Entry). record now { entries = ys }) entries ∙ ap (λ (k : ℕ). record now { slots = k; entries = map ended first.entries }) h.slots ∙ ap (λ (k : ℕ). record first { most = k; entries = map ended first.entries }) h.most in
-    (e ∙ built, sym (append-nil notes') ∙ ap (λ (ns : List Note). notes' ++ ns) (sym rest.noted) ∙ h.noted)
+    e ∙ ap (λ (ys : List Entry). record now { entries = ys }) entries ∙ ap (λ (k : ℕ). record now { slots = k; entries = map ended first.entries }) h.slots ∙ ap (λ (k : ℕ). record first { most = k; entries = map ended first.entries }) h.most
+
+-- and so no transition waits for nobody
+pub ending-waits : (now d : DirectoryView) → first_ended now.entries ≡ None → d ≡ record now { entries = with_first_ended now.entries } → AllByRecursion (λ e. is_answered e.busy ≡ false) d.entries
+ending-waits now d none e =
+    subst (λ (es : List Entry). AllByRecursion (λ x. is_answered x.busy ≡ false) es) (sym (ap (λ (x : DirectoryView). x.entries) e ∙ (ends-none now.entries none).left)) (none-answered now.entries none)
+
+-- ---- the notes of the endings, one entry more at a time
+
+pub noted-more : (old : List Note) (es : List Entry) (i : ℕ) (e : Entry) → slice_get es i ≡ Some e → (old ++ flat_map noted_end (take i es)) ++ noted_end e ≡ old ++ flat_map noted_end (take (i + 1) es)
+noted-more old es i e at =
+    let more : take (i + 1) es ≡ take i es ++ e ∷ [] = take_more es i e (slice_get_within es i e at) ∙ ap (λ y. take i es ++ y ∷ []) (get_or_from_slice_get es i e e at) in
+    append_assoc old (flat_map noted_end (take i es)) (noted_end e)
+    ∙ ap (λ ns. old ++ ns) (ap (λ ns. flat_map noted_end (take i es) ++ ns) (sym (append-nil (noted_end e))) ∙ sym (flat_map-append noted_end (take i es) (e ∷ [])) ∙ ap (flat_map noted_end) (sym more))
 
 -- ---- a page that was fetched
 
@@ -323,17 +342,18 @@ can-fill write Rw e = (λ q. absurd (cc), λ w. refl)
 pub fill-comes : (s s' : SwitchView) (o o' : List (LinkName × Msg)) (blade : ℕ) (page : PageView) (image : PageImageView) (r : Request) (rs : List Request) → IsSwitch s → AreApart s.requests → Any (IsFetched blade page) s.requests → find (is_of blade page) s.requests ≡ Some r → rs ≡ filter (λ q. not (is_of blade page q)) s.requests → s' ≡ with_requests s rs → o' ≡ o ++ to_blade r.blade (Fill r.page (permission_at s.protect r.page) r.write image) ∷ [] → Comes (start_at s o []) (filled (Some blade) page image s) s' o' []
 fill-comes s s' o o' blade page image r rs h apart fetched found left e f =
     let n = length s.plan.frames in
-    let fit : IsFitRequest n s.protect r = found-all (IsFitRequest n s.protect) blade page s.requests r h.requests found in
+    let fit : IsFitRequest n r = found-all (IsFitRequest n) blade page s.requests r h.requests found in
     let same = is_of-same blade page r (found-is blade page s.requests r found) in
     let gone : rs ≡ without_request r s.requests =
     left ∙ ap (λ (b : ℕ). filter (λ q. not (is_of b page q)) s.requests) same.0 ∙ ap (λ (p : PageView). filter (λ q. not (is_of r.blade p q)) s.requests) same.1 in
-    let allowed : allows r.write (permission_at s.protect r.page) ≡ true = fit.allowed (found-fetched blade page s.requests r apart fetched found) in
+    let may = λ (all : AreFetchesAllowed s). found-all (IsAllowed s) blade page s.requests r all found (found-fetched blade page s.requests r apart fetched found) in
     let one : Comes (start_at s o []) (filling (Some r) image s) s' o' [] = record {
       after = e ∙ ap (λ (q : List Request). with_requests s q) gone;
       sent = f;
       noted = refl;
       plan = ap (λ (v : SwitchView). v.plan) e;
-      sendable = (record { link = fit.blade; fields = can-fill r.write (permission_at s.protect r.page) allowed }, tt);
+      sendable = λ all. (record { link = fit.blade; fields = can-fill r.write (permission_at s.protect r.page) (may all) }, tt);
+      allowed = λ all. subst (λ (x : SwitchView). AreFetchesAllowed x) (sym (e ∙ ap (λ (q : List Request). with_requests s q) gone)) (all-filter (IsAllowed s) _ s.requests all);
     } in
     subst (λ (x : Option Request). Comes (start_at s o []) (filling x image s) s' o' []) (sym found) one
 
@@ -354,8 +374,33 @@ none-length (r ∷ rs) e = absurd (omega arith)
 -- ---- a message is handled, and then the switch serves
 
 pub back-comes : (result : Result (Unit {0}) Stop) (s : SwitchView) (o o' : List (LinkName × Msg)) (n : List Note) (page : PageView) (image : PageImageView) → OnOk result (IsSwitch s) → OnOk result (o' ≡ o ++ (went_back page image s).sent) → OnOk result (Comes (start_at s o n) (went_back page image s) s o' n)
-back-comes (Ok u) s o o' n page image h e = record { after = refl; sent = e; noted = sym (append-nil n); plan = refl; sendable = written-sendable s page image h }
+back-comes (Ok u) s o o' n page image h e = record { after = refl; sent = e; noted = sym (append-nil n); plan = refl; sendable = λ all. written-sendable s page image h; allowed = λ all. all }
 back-comes (Err x) s o o' n page image h e = h
+
+pub asked-comes : (result : Result (Unit {0}) Stop) (s s' : SwitchView) (o : List (LinkName × Msg)) (n : List Note) (blade : ℕ) (page : PageView) (write : Bool) → OnOk result (s' ≡ (asked blade page write s).switch) → OnOk result (Comes (start_at s o n) (asked blade page write s) s' o n)
+asked-comes (Ok u) s s' o n blade page write e = record {
+  after = e;
+  sent = sym (append-nil o);
+  noted = sym (append-nil n);
+  plan = ap (λ (x : SwitchView). x.plan) e;
+  sendable = λ all. tt;
+  allowed = λ all. subst (λ (x : SwitchView). AreFetchesAllowed x) (sym e)
+      (all-append (IsAllowed s) s.requests (record { blade = blade; page = page; write = write; fetching = false } ∷ []) all ((λ t. absurd (false≢true t)), tt));
+}
+asked-comes (Err x) s s' o n blade page write e = e
+
+pub answered-comes : (result : Result (Unit {0}) Stop) (s s' : SwitchView) (o : List (LinkName × Msg)) (n n' : List Note) (number blade count : ℕ) → OnOk result (s' ≡ (all_ended (acknowledged number blade count s.directory.entries) s).switch)
+    → OnOk result (n' ≡ n ++ (all_ended (acknowledged number blade count s.directory.entries) s).noted) → OnOk result (Comes (start_at s o n) (answered number blade count s) s' o n')
+answered-comes (Ok u) s s' o n n' number blade count e f =
+    subst (λ (x : Effect). Comes (start_at s o n) x s' o n') (sym (answered-is number blade count s)) (record {
+      after = e;
+      sent = sym (append-nil o);
+      noted = f;
+      plan = ap (λ (x : SwitchView). x.plan) e;
+      sendable = λ all. tt;
+      allowed = λ all. subst (λ (x : SwitchView). AreFetchesAllowed x) (sym e) all;
+    })
+answered-comes (Err x) s s' o n n' number blade count e f = e
 
 pub received-then : (result : Result (Unit {0}) Stop) (link : LinkName) (message : Msg) (start : Start) (s s' : SwitchView) (o o' : List (LinkName × Msg)) (n n' : List Note) → Comes start (handled_from link.kind link.number message start.switch) s o n → OnOk result ((begin : Start) → (first : Effect) → Comes begin first s o n → (last : Effect) × Serves first last × Comes begin last s' o' n') → Begins start.out o' → Begins start.notes n' → Received result link message start s' o' n'
 received-then (Ok u) link message start s s' o o' n n' h serves b c =

@@ -1,5 +1,5 @@
 -- How a pass goes on, for each thing that it may do with a request.
-use Rattle.std.proofs.Common.{◌≡◌, ℕ, ◌+◌, ◌<◌, ◌≤◌, Bool, true, false, cond, not, ◌==◌, Option, Some, None, List, ◌++◌, length, refl, ap, sym, subst, ◌∙◌, arith}
+use Rattle.std.proofs.Common.{◌≡◌, ℕ, ◌+◌, ◌<◌, ◌≤◌, Bool, true, false, cond, not, ◌≢◌, ◌==◌, Option, Some, None, List, ◌++◌, length, refl, ap, sym, subst, ◌∙◌, arith}
 use Rattle.std.specs.List.{insert, slice_get}
 use Rattle.std.specs.Option.{is_none, option_map, unwrap_or}
 use Rattle.std.proofs.lemmas.List.{append-nil}
@@ -23,7 +23,7 @@ use Rattle.switch_core.specs.Invariant.{IsSwitch}
 use Rattle.switch_core.specs.Sending.{Start}
 use Rattle.switch_core.specs.Standing.{left_to_do, InPass}
 use Rattle.switch_core.specs.Switch.{SwitchView, and_then}
-use Rattle.switch_core.specs.Treating.{Pass, waits, blocks, does, grants, allows, is_denied, denied, granted, changed_for, cleared, is_fetched, with_idle, with_entry, at_entry, entered, new_range, enters, dropped, with_room, without_entry, entry_for, for_entry, treated}
+use Rattle.switch_core.specs.Treating.{Pass, waits, blocks, does, grants, allows, holders, is_denied, denied, granted, changed_for, cleared, is_fetched, with_idle, with_entry, at_entry, entered, new_range, enters, dropped, with_room, without_entry, entry_for, for_entry, treated}
 use Rattle.switch_core.specs.declared.stands.Stand.{Stand}
 use Rattle.switch_core.proofs.Lists.{insert-at}
 use Rattle.switch_core.proofs.Passing.{comes-then, less-on, in-does, in-waits, in-blocks, safe-changed, less-changed}
@@ -160,12 +160,12 @@ module _ (start : Start) (pass : Pass) (s : SwitchView) (stand : Stand) (o : Lis
       subst (λ (x : Option Entry). InPass start (unwrap_or (option_map (λ y. enters r (does (dropped i y) pass)) x) (blocks pass)) s' stand' o' n') (sym (found-there i (Some entry) found)) k in
       subst (λ (x : Room). InPass start (with_room r x pass) s' stand' o' n') (sym e) here
 
-  pub goes-evicted : (s' : SwitchView) (o' : List (LinkName × Msg)) (n' : List Note) (r : Request) (room : Room) (i : ℕ) (entry : Entry) → room ≡ Evict i → IsSwitch s → slice_get s.directory.entries i ≡ Some entry → entry.busy ≡ None → s' ≡ (cleared i entry s).switch → o' ≡ o ++ (cleared i entry s).sent → n' ≡ n ++ (cleared i entry s).noted → InPass start (with_room r room pass) s' (record stand { at = stand.at + 1; blocked = true; changed = true }) o' n'
-  goes-evicted s' o' n' r room i entry e was found idle p q w =
+  pub goes-evicted : (s' : SwitchView) (o' : List (LinkName × Msg)) (n' : List Note) (r : Request) (room : Room) (i : ℕ) (entry : Entry) → room ≡ Evict i → IsSwitch s → slice_get s.directory.entries i ≡ Some entry → entry.busy ≡ None → holders entry.state ≢ 0 → s' ≡ (cleared i entry s).switch → o' ≡ o ++ (cleared i entry s).sent → n' ≡ n ++ (cleared i entry s).noted → InPass start (with_room r room pass) s' (record stand { at = stand.at + 1; blocked = true; changed = true }) o' n'
+  goes-evicted s' o' n' r room i entry e was found idle some p q w =
       let stand' : Stand = record stand { at = stand.at + 1; blocked = true; changed = true } in
       let done : InPass start (blocks (does (cleared i entry) pass)) s' stand' o' n' =
       in-blocks start (does (cleared i entry) pass) s' (record stand { changed = true }) o' n'
-      (in-does start pass (cleared i entry) s s' stand o o' n n' h (safe-cleared s i entry was found idle) (less-cleared s i entry found idle) p q w) in
+      (in-does start pass (cleared i entry) s s' stand o o' n n' h (safe-cleared s i entry was found idle some) (less-cleared s i entry found idle) p q w) in
       let here : InPass start (with_room r (Evict i) pass) s' stand' o' n' =
       subst (λ (x : Option Entry). InPass start (unwrap_or (option_map (λ y. blocks (does (cleared i y) pass)) x) (blocks pass)) s' stand' o' n') (sym (found-there i (Some entry) found)) done in
       subst (λ (x : Room). InPass start (with_room r x pass) s' stand' o' n') (sym e) here

@@ -23,7 +23,7 @@ use Rattle.region_directory.proofs.RoomLemmas.{all-fail}
 use Rattle.request_list.specs.declared.requests.Request.{Request}
 use Rattle.wire_msg.specs.declared.msgs.Msg.{Msg}
 use Rattle.switch_core.specs.Invariant.{IsFitState, IsFitEntry, IsSwitch}
-use Rattle.switch_core.specs.Sending.{IsSendable, Start, Comes, Begins, Stays, Keeps, start_at}
+use Rattle.switch_core.specs.Sending.{AreFetchesAllowed, IsSendable, Start, Comes, Begins, Stays, Keeps, start_at}
 use Rattle.switch_core.specs.Standing.{left_to_do, Tells, InPass}
 use Rattle.switch_core.specs.Switch.{SwitchView, Effect, and_then}
 use Rattle.switch_core.specs.Treating.{Pass, waits, blocks, does, grants, holders, changed_for, invalidated, lowered}
@@ -40,9 +40,10 @@ comes-then start done change s s' o o' n n' h safe e f g = record {
   sent = f ∙ ap (λ (x : SwitchView). o ++ (change x).sent) h.after ∙ ap (λ (x : List (LinkName × Msg)). x ++ (change done.switch).sent) h.sent ∙ append_assoc start.out done.sent (change done.switch).sent;
   noted = g ∙ ap (λ (x : SwitchView). n ++ (change x).noted) h.after ∙ ap (λ (x : List Note). x ++ (change done.switch).noted) h.noted ∙ append_assoc start.notes done.noted (change done.switch).noted;
   plan = ap (λ (x : SwitchView). x.plan) e ∙ safe.stays.plan ∙ h.plan;
-  sendable = all-append (IsSendable start.switch.plan) done.sent (change done.switch).sent h.sendable
+  sendable = λ all. all-append (IsSendable start.switch.plan) done.sent (change done.switch).sent (h.sendable all)
       (subst (λ (x : SwitchView). AllByRecursion (IsSendable start.switch.plan) (change x).sent) h.after
       (subst (λ (p : RackPlan). AllByRecursion (IsSendable p) (change s).sent) h.plan safe.sendable));
+  allowed = λ all. subst (λ (x : SwitchView). AreFetchesAllowed x) (sym e) (safe.allowed (h.allowed all));
 }
 
 -- a pass that did nothing has as much left to do, and one that did something less
@@ -87,8 +88,6 @@ pub keeps-then : (s s1 s2 : SwitchView) (o o1 o2 : List (LinkName × Msg)) (n n1
 keeps-then s s1 s2 o o1 o2 n n1 n2 h k = record {
   stays = record {
     plan = k.stays.plan ∙ h.stays.plan;
-    table = k.stays.table ∙ h.stays.table;
-    protect = k.stays.protect ∙ h.stays.protect;
     slots = k.stays.slots ∙ h.stays.slots;
     numbers = omega (arith, h.stays.numbers, k.stays.numbers);
   };
@@ -120,13 +119,15 @@ safe-changed s r at i entry I e h place found idle has f = absurd (grants-I r.wr
     grants-I false blade g = false≢true (sym g)
     grants-I true blade g = false≢true (sym g)
 safe-changed s r at i entry (S sharers) e h place found idle has f = safe-invalidated s r at i entry h place found idle has
+    (subst (λ (x : State). without_blade (holders x) r.blade ≢ 0) (sym e) (others r.write r.blade (S sharers) f))
 safe-changed s r at i entry (M owner) e h place found idle has f =
     let chosen = λ (b : Bool). Safe s (cond b (invalidated r i entry s) (lowered r owner i entry s)) in
     let n = length s.plan.frames in
     let fit : IsFitState n entry.state = (all-at (IsFitEntry n) s.directory.entries i entry h.entries found).state in
     let lt : owner < n = subst (λ (x : State). IsFitState n x) e fit in
+    let some = subst (λ (x : State). without_blade (holders x) r.blade ≢ 0) (sym e) (others r.write r.blade (M owner) f) in
     elim (cases_Bool r.write) [
-      | inl t ↦ subst chosen (sym t) (safe-invalidated s r at i entry h place found idle has)
+      | inl t ↦ subst chosen (sym t) (safe-invalidated s r at i entry h place found idle has some)
       | inr g ↦ subst chosen (sym g) (safe-lowered s r owner i entry h found idle lt has)
     ]
 
@@ -222,7 +223,7 @@ no-note s r i entry (M owner) n =
 
 pub keeps-same : (s s' : SwitchView) (o o' : List (LinkName × Msg)) (n n' : List Note) → s' ≡ s → Begins o o' → Begins n n' → Keeps (start_at s o n) s' o' n'
 keeps-same s s' o o' n n' e f g = record {
-  stays = subst (λ (x : SwitchView). Stays s x) (sym e) (record { plan = refl; table = refl; protect = refl; slots = refl; numbers = refl });
+  stays = subst (λ (x : SwitchView). Stays s x) (sym e) (record { plan = refl; slots = refl; numbers = refl });
   sent = f;
   noted = g;
 }

@@ -32,7 +32,7 @@ get-past (x ∷ xs) (suc i) le = get-past xs i (omega arith)
 
 pub in-first : (s : SwitchView) (o : List (LinkName × Msg)) (n : List Note) → InPass (start_at s o n) (first_pass s) s (record { at = 0; blocked = false; changed = false }) o n
 in-first s o n = record {
-  comes = record { after = refl; sent = sym (append-nil o); noted = sym (append-nil n); plan = refl; sendable = tt };
+  comes = record { after = refl; sent = sym (append-nil o); noted = sym (append-nil n); plan = refl; sendable = λ all. tt; allowed = λ all. all };
   at = refl;
   blocked = refl;
   tells = refl;
@@ -65,9 +65,10 @@ comes-on start done change s s' o o' n n' h k = record {
   sent = k.sent ∙ ap (λ (x : SwitchView). o ++ (change x).sent) h.after ∙ ap (λ (x : List (LinkName × Msg)). x ++ (change done.switch).sent) h.sent ∙ append_assoc start.out done.sent (change done.switch).sent;
   noted = k.noted ∙ ap (λ (x : SwitchView). n ++ (change x).noted) h.after ∙ ap (λ (x : List Note). x ++ (change done.switch).noted) h.noted ∙ append_assoc start.notes done.noted (change done.switch).noted;
   plan = k.plan ∙ h.plan;
-  sendable = all-append (IsSendable start.switch.plan) done.sent (change done.switch).sent h.sendable
+  sendable = λ all. all-append (IsSendable start.switch.plan) done.sent (change done.switch).sent (h.sendable all)
       (subst (λ (x : SwitchView). AllByRecursion (IsSendable start.switch.plan) (change x).sent) h.after
-      (subst (λ (p : RackPlan). AllByRecursion (IsSendable p) (change s).sent) h.plan k.sendable));
+      (subst (λ (p : RackPlan). AllByRecursion (IsSendable p) (change s).sent) h.plan (k.sendable (h.allowed all))));
+  allowed = λ all. k.allowed (h.allowed all);
 }
 
 passes-more : (n : ℕ) (first : Effect) → passes (suc n) first ≡ and_then (passes n first) one_pass

@@ -1,5 +1,5 @@
 -- Each change of the switch leaves a switch, sends only what may be sent, and leaves less to do.
-use Rattle.std.proofs.Common.{◌≡◌, ◌≢◌, ℕ, ◌+◌, ◌^◌, ◌<◌, ◌≤◌, Bool, true, false, cond, Option, Some, None, List, [], ◌∷◌, length, map, refl, ap, sym, subst, ◌∙◌, inl, inr, arith}
+use Rattle.std.proofs.Common.{◌≡◌, ◌≢◌, ℕ, ◌+◌, ◌^◌, ◌<◌, ◌≤◌, Bool, true, false, cond, ◌==◌, Option, Some, None, List, [], ◌∷◌, length, map, refl, ap, sym, subst, ◌∙◌, inl, inr, arith}
 use Rattle.std.specs.List.{AllByRecursion, insert, remove, slice_get, range_with_len, filter}
 use Rattle.std.specs.Option.{IfSome}
 use Rattle.std.proofs.Math.Pow.{pow_mono}
@@ -17,6 +17,7 @@ use Rattle.mind_base.specs.declared.notes.State.{State}
 use Rattle.mind_base.specs.declared.notes.State.TheVariants.{I, S, M}
 use Rattle.mind_base.specs.declared.plans.RackPlan.{RackPlan}
 use Rattle.invalidate_multicast.specs.Blades.{has_blade, without_blade, cast_to, casts_of}
+use Rattle.invalidate_multicast.specs.Transition.{is_answered}
 use Rattle.protect_table.specs.Protect.{permission_at}
 use Rattle.range_translate.specs.Place.{place_of as place_among}
 use Rattle.region_directory.specs.Directory.{DirectoryView}
@@ -29,7 +30,7 @@ use Rattle.wire_msg.specs.WellFormed.{AsksIn}
 use Rattle.wire_msg.specs.declared.msgs.Msg.{Msg}
 use Rattle.wire_msg.specs.declared.msgs.Msg.TheVariants.{Inv}
 use Rattle.switch_core.specs.Invariant.{IsFitState, IsFitEntry, IsFitRequest, IsSwitch}
-use Rattle.switch_core.specs.Sending.{IsSendable, Stays}
+use Rattle.switch_core.specs.Sending.{AreFetchesAllowed, IsSendable, Stays}
 use Rattle.switch_core.specs.Standing.{left_to_do}
 use Rattle.switch_core.specs.Switch.{SwitchView, Effect, with_entries, with_requests, place_in, to_blade}
 use Rattle.switch_core.specs.Treating.{holders, granted_state, left_to, allows, without_request, denied, granted, reading, begun, cleared, invalidated, lowered, invalidations, entered, dropped}
@@ -37,10 +38,15 @@ use Rattle.switch_core.proofs.Lists.{all-at, all-insert, all-remove, all-filter,
 use Rattle.switch_core.proofs.Places.{place-within}
 use Rattle.switch_core.proofs.Sets.{with_blade-fits, with_blade-some, power-some, power-fits, has_blade-below, without-le}
 
+-- what the request fetches is allowed
+abbrev pub IsAllowed : SwitchView → Request → Type 0
+IsAllowed s r = r.fetching ≡ true → allows r.write (permission_at s.protect r.page) ≡ true
+
 pub record Safe (old : SwitchView) (new : Effect) : Type 0 where
   pub switch : IsSwitch new.switch
   pub sendable : AllByRecursion (IsSendable old.plan) new.sent
   pub stays : Stays old new.switch
+  pub allowed : AreFetchesAllowed old → AreFetchesAllowed new.switch
 
 -- ---- states
 
@@ -102,11 +108,26 @@ place-in-rack s page h =
 
 -- ---- the switch after changes of its entries and requests
 
-pub switch-requests : (s : SwitchView) (rs : List Request) → IsSwitch s → AllByRecursion (IsFitRequest (length s.plan.frames) s.protect) rs → IsSwitch (with_requests s rs)
-switch-requests s rs h k = record { plan = h.plan; homes = h.homes; outliers = h.outliers; fits = h.fits; entries = h.entries; requests = k }
+-- a transition of the entry waits for somebody
+abbrev pub Waits : Entry → Type 0
+Waits entry = is_answered entry.busy ≡ false
 
-pub switch-entries : (s : SwitchView) (es : List Entry) (last : ℕ) → IsSwitch s → length es ≤ s.directory.slots → AllByRecursion (IsFitEntry (length s.plan.frames)) es → IsSwitch (record (with_entries s es) { last = last })
-switch-entries s es last h le k = record { plan = h.plan; homes = h.homes; outliers = h.outliers; fits = le; entries = k; requests = h.requests }
+some-waits : (blades : ℕ) → blades ≢ 0 → (blades == 0) ≡ false
+some-waits blades some = grind arith
+
+waits-state : (s : SwitchView) (i : ℕ) (state : State) (entry : Entry) → IsSwitch s → slice_get s.directory.entries i ≡ Some entry → AllByRecursion Waits (changed_at i (in_state state) s.directory.entries)
+waits-state s i state entry h found =
+    all-changed Waits i (in_state state) s.directory.entries entry found h.waits (all-at Waits s.directory.entries i entry h.waits found)
+
+pub waits-busy : (s : SwitchView) (i : ℕ) (entry : Entry) (busy : Busy) → IsSwitch s → slice_get s.directory.entries i ≡ Some entry → busy.waiting ≢ 0 → AllByRecursion Waits (changed_at i (with_busy (Some busy)) s.directory.entries)
+waits-busy s i entry busy h found some =
+    all-changed Waits i (with_busy (Some busy)) s.directory.entries entry found h.waits (some-waits busy.waiting some)
+
+pub switch-requests : (s : SwitchView) (rs : List Request) → IsSwitch s → AllByRecursion (IsFitRequest (length s.plan.frames)) rs → IsSwitch (with_requests s rs)
+switch-requests s rs h k = record { plan = h.plan; homes = h.homes; outliers = h.outliers; slots = h.slots; fits = h.fits; entries = h.entries; waits = h.waits; requests = k }
+
+pub switch-entries : (s : SwitchView) (es : List Entry) (last : ℕ) → IsSwitch s → length es ≤ s.directory.slots → AllByRecursion (IsFitEntry (length s.plan.frames)) es → AllByRecursion Waits es → IsSwitch (record (with_entries s es) { last = last })
+switch-entries s es last h le k w = record { plan = h.plan; homes = h.homes; outliers = h.outliers; slots = h.slots; fits = le; entries = k; waits = w; requests = h.requests }
 
 -- the entries still fit into the slots
 pub count-changed : (s : SwitchView) (i : ℕ) (change : Entry → Entry) → IsSwitch s → length (changed_at i change s.directory.entries) ≤ s.directory.slots
@@ -126,22 +147,19 @@ fit-state n state e h k = record { state = k; target = h.target }
 fit-busy : (n : ℕ) (busy : Busy) (e : Entry) → IsFitEntry n e → IsFitState n busy.target → IsFitEntry n (with_busy (Some busy) e)
 fit-busy n busy e h k = record { state = h.state; target = k }
 
-fit-fetching : (n : ℕ) (s : SwitchView) (r : Request) → IsFitRequest n s.protect r → allows r.write (permission_at s.protect r.page) ≡ true → IsFitRequest n s.protect (record { blade = r.blade; page = r.page; write = r.write; fetching = true })
-fit-fetching n s r h k = record { blade = h.blade; allowed = λ e. k }
-
 pub entries-granted : (s : SwitchView) (r : Request) (at i : ℕ) (entry : Entry) → IsSwitch s → slice_get s.requests at ≡ Some r → slice_get s.directory.entries i ≡ Some entry → AllByRecursion (IsFitEntry (length s.plan.frames)) (changed_at i (in_state (granted_state r.write r.blade entry.state)) s.directory.entries)
 entries-granted s r at i entry h place found =
     let n = length s.plan.frames in
-    let blade : r.blade < n = (all-at (IsFitRequest n s.protect) s.requests at r h.requests place).blade in
+    let blade : r.blade < n = (all-at (IsFitRequest n) s.requests at r h.requests place).blade in
     let old : IsFitEntry n entry = all-at (IsFitEntry n) s.directory.entries i entry h.entries found in
     let state : IsFitState n (granted_state r.write r.blade entry.state) = fit-granted n r.write r.blade entry.state blade old.state in
     all-changed (IsFitEntry n) i (in_state (granted_state r.write r.blade entry.state)) s.directory.entries entry found h.entries (fit-state n (granted_state r.write r.blade entry.state) entry old state)
 
-pub requests-granted : (s : SwitchView) (r : Request) (at : ℕ) → IsSwitch s → slice_get s.requests at ≡ Some r → allows r.write (permission_at s.protect r.page) ≡ true → AllByRecursion (IsFitRequest (length s.plan.frames) s.protect) (fetching_at s.requests at)
-requests-granted s r at h place allowed =
+pub requests-granted : (s : SwitchView) (r : Request) (at : ℕ) → IsSwitch s → slice_get s.requests at ≡ Some r → AllByRecursion (IsFitRequest (length s.plan.frames)) (fetching_at s.requests at)
+requests-granted s r at h place =
     let n = length s.plan.frames in
-    let old : IsFitRequest n s.protect r = all-at (IsFitRequest n s.protect) s.requests at r h.requests place in
-    all-fetching (IsFitRequest n s.protect) s.requests at r place h.requests (fit-fetching n s r old allowed)
+    let old : IsFitRequest n r = all-at (IsFitRequest n) s.requests at r h.requests place in
+    all-fetching (IsFitRequest n) s.requests at r place h.requests (record { blade = old.blade })
 
 pub entries-busy : (s : SwitchView) (i : ℕ) (entry : Entry) (busy : Busy) → IsSwitch s → slice_get s.directory.entries i ≡ Some entry → IsFitState (length s.plan.frames) busy.target → AllByRecursion (IsFitEntry (length s.plan.frames)) (changed_at i (with_busy (Some busy)) s.directory.entries)
 entries-busy s i entry busy h found target =
@@ -154,36 +172,51 @@ entries-busy s i entry busy h found target =
 pub safe-denied : (s : SwitchView) (r : Request) (at : ℕ) → IsSwitch s → slice_get s.requests at ≡ Some r → Safe s (denied r s)
 safe-denied s r at h place =
     let n = length s.plan.frames in
-    let blade : r.blade < n = (all-at (IsFitRequest n s.protect) s.requests at r h.requests place).blade in
+    let blade : r.blade < n = (all-at (IsFitRequest n) s.requests at r h.requests place).blade in
     record {
-      switch = switch-requests s (without_request r s.requests) h (all-filter (IsFitRequest n s.protect) _ s.requests h.requests);
+      switch = switch-requests s (without_request r s.requests) h (all-filter (IsFitRequest n) _ s.requests h.requests);
       sendable = (record { link = blade; fields = tt }, tt);
-      stays = record { plan = refl; table = refl; protect = refl; slots = refl; numbers = refl };
+      stays = record { plan = refl; slots = refl; numbers = refl };
+      allowed = all-filter (IsAllowed s) _ s.requests;
     }
 
 pub less-denied : (s : SwitchView) (r : Request) (at : ℕ) → slice_get s.requests at ≡ Some r → r.fetching ≡ false → left_to_do (denied r s).switch < left_to_do s
 less-denied s r at place waits = omega (arith, waiting-without s.requests at r place waits)
 
+granted-switch : (s : SwitchView) (r : Request) (at i : ℕ) (entry : Entry) → IsSwitch s → slice_get s.requests at ≡ Some r → slice_get s.directory.entries i ≡ Some entry → IsSwitch (granted r at i entry s).switch
+granted-switch s r at i entry h place found = record {
+  plan = h.plan;
+  homes = h.homes;
+  outliers = h.outliers;
+  slots = h.slots;
+  fits = count-changed s i (in_state (granted_state r.write r.blade entry.state)) h;
+  entries = entries-granted s r at i entry h place found;
+  waits = waits-state s i (granted_state r.write r.blade entry.state) entry h found;
+  requests = requests-granted s r at h place;
+}
+
 pub safe-granted : (s : SwitchView) (r : Request) (at i : ℕ) (entry : Entry) → IsSwitch s → slice_get s.requests at ≡ Some r → allows r.write (permission_at s.protect r.page) ≡ true → slice_get s.directory.entries i ≡ Some entry → Safe s (granted r at i entry s)
 safe-granted s r at i entry h place allowed found =
     let n = length s.plan.frames in
-    let blade : r.blade < n = (all-at (IsFitRequest n s.protect) s.requests at r h.requests place).blade in
+    let blade : r.blade < n = (all-at (IsFitRequest n) s.requests at r h.requests place).blade in
     let few : r.blade < 8 = omega (arith, blade, h.plan.blades.1) in
     record {
-      switch = record { plan = h.plan; homes = h.homes; outliers = h.outliers; fits = count-changed s i (in_state (granted_state r.write r.blade entry.state)) h; entries = entries-granted s r at i entry h place found; requests = requests-granted s r at h place allowed };
+      switch = granted-switch s r at i entry h place found;
       sendable = read-sendable s.plan r (place_in s r.page) few (place-in-rack s r.page h);
-      stays = record { plan = refl; table = refl; protect = refl; slots = refl; numbers = ap (λ n. s.last + n) (sym (under-state s.directory.entries i (granted_state r.write r.blade entry.state))) };
+      stays = record { plan = refl; slots = refl; numbers = ap (λ n. s.last + n) (sym (under-state s.directory.entries i (granted_state r.write r.blade entry.state))) };
+      allowed = λ all. all-fetching (IsAllowed s) s.requests at r place all (λ t. allowed);
     }
 
 pub less-granted : (s : SwitchView) (r : Request) (at i : ℕ) (entry : Entry) → slice_get s.requests at ≡ Some r → r.fetching ≡ false → left_to_do (granted r at i entry s).switch + 2 ≡ left_to_do s
 less-granted s r at i entry place waits =
     omega (arith, waiting-fetching s.requests at r place waits, idle-state s.directory.entries i (granted_state r.write r.blade entry.state))
 
-pub safe-begun : (s : SwitchView) (i : ℕ) (entry : Entry) (busy : Busy) (messages : List (LinkName × Msg)) → IsSwitch s → slice_get s.directory.entries i ≡ Some entry → entry.busy ≡ None → IsFitState (length s.plan.frames) busy.target → busy.number ≡ s.last + 1 → AllByRecursion (IsSendable s.plan) messages → Safe s (begun i busy messages s)
-safe-begun s i entry busy messages h found idle target number sendable = record {
-  switch = switch-entries s (changed_at i (with_busy (Some busy)) s.directory.entries) busy.number h (count-changed s i (with_busy (Some busy)) h) (entries-busy s i entry busy h found target);
+pub safe-begun : (s : SwitchView) (i : ℕ) (entry : Entry) (busy : Busy) (messages : List (LinkName × Msg)) → IsSwitch s → slice_get s.directory.entries i ≡ Some entry → entry.busy ≡ None → IsFitState (length s.plan.frames) busy.target → busy.waiting ≢ 0 → busy.number ≡ s.last + 1 → AllByRecursion (IsSendable s.plan) messages → Safe s (begun i busy messages s)
+safe-begun s i entry busy messages h found idle target some number sendable = record {
+  switch = switch-entries s (changed_at i (with_busy (Some busy)) s.directory.entries) busy.number h (count-changed s i (with_busy (Some busy)) h) (entries-busy s i entry busy h found target) (waits-busy s i entry busy h found some);
   sendable = sendable;
-  stays = record { plan = refl; table = refl; protect = refl; slots = refl; numbers = omega (arith, number, under-busy s.directory.entries i entry busy found idle) };
+  stays = record { plan = refl; slots = refl; numbers = omega (arith, number, under-busy s.directory.entries i entry busy found idle) };
+  allowed = λ all. all;
 }
 
 pub less-begun : (s : SwitchView) (i : ℕ) (entry : Entry) (busy : Busy) (messages : List (LinkName × Msg)) → slice_get s.directory.entries i ≡ Some entry → entry.busy ≡ None → left_to_do (begun i busy messages s).switch < left_to_do s
@@ -205,29 +238,31 @@ held : (s : SwitchView) (i : ℕ) (entry : Entry) → IsSwitch s → slice_get s
 held s i entry h found =
     holders-fit (length s.plan.frames) entry.state (all-at (IsFitEntry (length s.plan.frames)) s.directory.entries i entry h.entries found).state
 
-pub safe-cleared : (s : SwitchView) (i : ℕ) (entry : Entry) → IsSwitch s → slice_get s.directory.entries i ≡ Some entry → entry.busy ≡ None → Safe s (cleared i entry s)
-safe-cleared s i entry h found idle =
-    safe-begun s i entry _ _ h found idle tt refl
+pub safe-cleared : (s : SwitchView) (i : ℕ) (entry : Entry) → IsSwitch s → slice_get s.directory.entries i ≡ Some entry → entry.busy ≡ None → holders entry.state ≢ 0 → Safe s (cleared i entry s)
+safe-cleared s i entry h found idle some =
+    safe-begun s i entry _ _ h found idle tt some refl
     (invalidations-sendable s.plan (s.last + 1) entry.range None (holders entry.state) (held s i entry h found) tt)
 
-pub safe-invalidated : (s : SwitchView) (r : Request) (at i : ℕ) (entry : Entry) → IsSwitch s → slice_get s.requests at ≡ Some r → slice_get s.directory.entries i ≡ Some entry → entry.busy ≡ None → InRange entry.range r.page → Safe s (invalidated r i entry s)
-safe-invalidated s r at i entry h place found idle has =
+pub safe-invalidated : (s : SwitchView) (r : Request) (at i : ℕ) (entry : Entry) → IsSwitch s → slice_get s.requests at ≡ Some r → slice_get s.directory.entries i ≡ Some entry → entry.busy ≡ None → InRange entry.range r.page → without_blade (holders entry.state) r.blade ≢ 0 → Safe s (invalidated r i entry s)
+safe-invalidated s r at i entry h place found idle has some =
     let n = length s.plan.frames in
-    let blade : r.blade < n = (all-at (IsFitRequest n s.protect) s.requests at r h.requests place).blade in
+    let blade : r.blade < n = (all-at (IsFitRequest n) s.requests at r h.requests place).blade in
     let few : without_blade (holders entry.state) r.blade < 2 ^ n = omega (arith, without-le (holders entry.state) r.blade, held s i entry h found) in
-    safe-begun s i entry _ _ h found idle (fit-left n r.blade entry.state blade) refl
+    safe-begun s i entry _ _ h found idle (fit-left n r.blade entry.state blade) some refl
     (invalidations-sendable s.plan (s.last + 1) entry.range (Some r.page) (without_blade (holders entry.state) r.blade) few has)
 
 pub safe-lowered : (s : SwitchView) (r : Request) (owner i : ℕ) (entry : Entry) → IsSwitch s → slice_get s.directory.entries i ≡ Some entry → entry.busy ≡ None → owner < length s.plan.frames → InRange entry.range r.page → Safe s (lowered r owner i entry s)
 safe-lowered s r owner i entry h found idle lt has =
-    safe-begun s i entry _ _ h found idle (power-some owner, power-fits (length s.plan.frames) owner lt) refl
+    safe-begun s i entry _ _ h found idle (power-some owner, power-fits (length s.plan.frames) owner lt) (power-some owner) refl
     (record { link = lt; fields = has }, tt)
 
 pub safe-entered : (s : SwitchView) (range : RangeView) → IsSwitch s → length s.directory.entries < s.directory.slots → Safe s (entered range s)
 safe-entered s range h space = record {
-  switch = switch-entries s _ s.last h (count-entered s range space) (all-insert (IsFitEntry (length s.plan.frames)) s.directory.entries (place_of s.directory.entries range) (fresh_entry range) h.entries (record { state = tt; target = tt }));
+  switch = switch-entries s _ s.last h (count-entered s range space) (all-insert (IsFitEntry (length s.plan.frames)) s.directory.entries (place_of s.directory.entries range) (fresh_entry range) h.entries (record { state = tt; target = tt }))
+      (all-insert Waits s.directory.entries (place_of s.directory.entries range) (fresh_entry range) h.waits refl);
   sendable = tt;
-  stays = record { plan = refl; table = refl; protect = refl; slots = refl; numbers = ap (λ n. s.last + n) (sym (under-insert s.directory.entries (place_of s.directory.entries range) (fresh_entry range) refl)) };
+  stays = record { plan = refl; slots = refl; numbers = ap (λ n. s.last + n) (sym (under-insert s.directory.entries (place_of s.directory.entries range) (fresh_entry range) refl)) };
+  allowed = λ all. all;
 }
 
 pub more-entered : (s : SwitchView) (range : RangeView) → left_to_do (entered range s).switch ≡ left_to_do s + 1
@@ -235,20 +270,21 @@ more-entered s range = omega (arith, idle-insert s.directory.entries (place_of s
 
 pub safe-dropped : (s : SwitchView) (i : ℕ) (entry : Entry) → IsSwitch s → slice_get s.directory.entries i ≡ Some entry → entry.busy ≡ None → Safe s (dropped i entry s)
 safe-dropped s i entry h found idle = record {
-  switch = switch-entries s _ s.last h (count-dropped s i entry h found) (all-remove (IsFitEntry (length s.plan.frames)) s.directory.entries i h.entries);
+  switch = switch-entries s _ s.last h (count-dropped s i entry h found) (all-remove (IsFitEntry (length s.plan.frames)) s.directory.entries i h.entries) (all-remove Waits s.directory.entries i h.waits);
   sendable = tt;
-  stays = record { plan = refl; table = refl; protect = refl; slots = refl; numbers = ap (λ n. s.last + n) (sym (under-remove s.directory.entries i entry found idle)) };
+  stays = record { plan = refl; slots = refl; numbers = ap (λ n. s.last + n) (sym (under-remove s.directory.entries i entry found idle)) };
+  allowed = λ all. all;
 }
 
 pub less-dropped : (s : SwitchView) (i : ℕ) (entry : Entry) → slice_get s.directory.entries i ≡ Some entry → entry.busy ≡ None → left_to_do (dropped i entry s).switch + 1 ≡ left_to_do s
 less-dropped s i entry found idle = omega (arith, idle-remove s.directory.entries i entry found idle)
 
 -- the same for a directory and requests that equal those of the grant
-pub switch-granted : (s : SwitchView) (r : Request) (at i : ℕ) (entry : Entry) (state : State) (d : DirectoryView) (rs : List Request) → IsSwitch s → slice_get s.requests at ≡ Some r → allows r.write (permission_at s.protect r.page) ≡ true → slice_get s.directory.entries i ≡ Some entry → state ≡ granted_state r.write r.blade entry.state → d ≡ record s.directory { entries = changed_at i (in_state state) s.directory.entries } → rs ≡ fetching_at s.requests at → IsSwitch (record s { directory = d; requests = rs })
-switch-granted s r at i entry state d rs h place allowed found e f g =
+pub switch-granted : (s : SwitchView) (r : Request) (at i : ℕ) (entry : Entry) (state : State) (d : DirectoryView) (rs : List Request) → IsSwitch s → slice_get s.requests at ≡ Some r → slice_get s.directory.entries i ≡ Some entry → state ≡ granted_state r.write r.blade entry.state → d ≡ record s.directory { entries = changed_at i (in_state state) s.directory.entries } → rs ≡ fetching_at s.requests at → IsSwitch (record s { directory = d; requests = rs })
+switch-granted s r at i entry state d rs h place found e f g =
     let same : d ≡ record s.directory { entries = changed_at i (in_state (granted_state r.write r.blade entry.state)) s.directory.entries } =
     f ∙ ap (λ (x : State). record s.directory { entries = changed_at i (in_state x) s.directory.entries }) e in
-    let whole : IsSwitch (granted r at i entry s).switch = (safe-granted s r at i entry h place allowed found).switch in
+    let whole : IsSwitch (granted r at i entry s).switch = granted-switch s r at i entry h place found in
     subst (λ (x : List Request). IsSwitch (record s { directory = d; requests = x })) (sym g)
     (subst (λ (x : DirectoryView). IsSwitch (record s { directory = x; requests = fetching_at s.requests at })) (sym same) whole)
 

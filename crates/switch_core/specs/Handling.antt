@@ -1,5 +1,5 @@
 -- What the switch does with a message, before it serves.
-use Rattle.std.specs.Prelude.{◌≡◌, ℕ, Bool, true, false, List, [], ◌∷◌, ◌++◌, ◌<◌, length, map, find, All, Any, IsSome, Option, Some, None, Result, Ok, Err, if◌then◌else◌}
+use Rattle.std.specs.Prelude.{◌≡◌, ℕ, zero, suc, ◌+◌, Bool, true, false, List, [], ◌∷◌, ◌++◌, ◌<◌, length, map, find, slice_get, All, Any, IsSome, Option, Some, None, Result, Ok, Err, if◌then◌else◌}
 use Rattle.std.specs.List.{flat_map}
 use Rattle.mind_base.specs.Page.{PageView}
 use Rattle.mind_base.specs.Home.{home_of}
@@ -12,13 +12,14 @@ use Rattle.mind_base.specs.declared.notes.Note.TheVariants as note
 use Rattle.invalidate_multicast.specs.Transition.{acknowledged, is_answered, finished, target_of, WaitsFor}
 use Rattle.page_image.specs.PageImage.{PageImageView}
 use Rattle.protect_table.specs.Protect.{permission_at}
+use Rattle.region_directory.specs.Entry.{changed_at}
 use Rattle.region_directory.specs.declared.entries.Entry.{Entry}
 use Rattle.request_list.specs.Requests.{is_of}
 use Rattle.request_list.specs.declared.requests.Request.{Request}
 use Rattle.wire_msg.specs.declared.msgs.Msg.{Msg}
 use Rattle.wire_msg.specs.declared.msgs.Msg.TheVariants.{Get, Fill, Back, Ack, Image, Write}
 use Rattle.switch_core.specs.Sending.{Begins, Comes, Start}
-use Rattle.switch_core.specs.Switch.{SwitchView, Effect, with_entries, with_requests, place_in, only, to_blade, to_memory}
+use Rattle.switch_core.specs.Switch.{SwitchView, Effect, with_entries, with_requests, place_in, only, and_then, to_blade, to_memory}
 use Rattle.switch_core.specs.Serving.{Serves}
 use Rattle.switch_core.specs.Treating.{without_request}
 
@@ -57,12 +58,38 @@ ended entry = if is_answered entry.busy then finished entry else entry
 abbrev pub noted_end : Entry → List Note
 noted_end entry = if is_answered entry.busy then note.Region entry.range (target_of entry entry.busy) ∷ [] else []
 
+abbrev pub noted_at : Option Entry → List Note
+noted_at None = []
+noted_at (Some entry) = noted_end entry
+
+-- the entry with this index ends its transition, if that waits for nobody
+abbrev pub ended_at : ℕ → SwitchView → Effect
+ended_at i switch = record {
+  switch = with_entries switch (changed_at i ended switch.directory.entries);
+  sent = [];
+  noted = noted_at (slice_get switch.directory.entries i);
+}
+
+-- so do this many entries, from this index on, one after another
+abbrev pub ended_over : ℕ → ℕ → Effect → Effect
+ended_over zero i done = done
+ended_over (suc left) i done = ended_over left (i + 1) (and_then done (ended_at i))
+
+-- and all of them
+abbrev pub ended_each : Effect → Effect
+ended_each done = ended_over (length done.switch.directory.entries) 0 done
+
+-- the blade is no longer waited for in entries with this number, and its count is one of hits
+abbrev pub ack_heard : ℕ → ℕ → ℕ → SwitchView → Effect
+ack_heard number blade count switch = only (with_entries switch (acknowledged number blade count switch.directory.entries))
+
+abbrev pub answered : ℕ → ℕ → ℕ → SwitchView → Effect
+answered number blade count switch = ended_each (ack_heard number blade count switch)
+
+-- which is the same as all at once
 abbrev pub all_ended : List Entry → SwitchView → Effect
 all_ended entries switch =
     record { switch = with_entries switch (map ended entries); sent = []; noted = flat_map noted_end entries }
-
-abbrev pub answered : ℕ → ℕ → ℕ → SwitchView → Effect
-answered number blade count switch = all_ended (acknowledged number blade count switch.directory.entries) switch
 
 -- ---- messages
 

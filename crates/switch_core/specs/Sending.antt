@@ -1,16 +1,18 @@
 -- Which messages the switch may send, and what stays while it works.
-use Rattle.std.specs.Prelude.{◌≡◌, ℕ, ◌+◌, ◌<◌, List, [], ◌∷◌, ◌++◌, length, Option, Some, None}
+use Rattle.std.specs.Prelude.{◌≡◌, ℕ, ◌+◌, ◌<◌, true, List, [], ◌∷◌, ◌++◌, length, Option, Some, None}
 use Rattle.std.specs.List.{AllByRecursion}
 use Rattle.mind_base.specs.declared.links.LinkKind.{LinkKind}
 use Rattle.mind_base.specs.declared.links.LinkKind.TheVariants.{Up, Down, To, From}
 use Rattle.mind_base.specs.declared.links.LinkName.{LinkName}
 use Rattle.mind_base.specs.declared.notes.Note.{Note}
 use Rattle.mind_base.specs.declared.plans.RackPlan.{RackPlan}
+use Rattle.protect_table.specs.Protect.{permission_at}
 use Rattle.region_directory.specs.declared.entries.Busy.{Busy}
 use Rattle.region_directory.specs.declared.entries.Entry.{Entry}
 use Rattle.wire_msg.specs.WellFormed.{FieldsAgree}
 use Rattle.wire_msg.specs.declared.msgs.Msg.{Msg}
 use Rattle.switch_core.specs.Switch.{SwitchView, Effect}
+use Rattle.switch_core.specs.Treating.{allows}
 
 -- the link leads down to a compute blade of the plan, or to one of its memory blades
 abbrev pub LeadsOut : RackPlan → LinkKind → ℕ → Type 0
@@ -38,13 +40,19 @@ pub record Start : Type 0 where
 abbrev pub start_at : SwitchView → List (LinkName × Msg) → List Note → Start
 start_at switch out notes = record { switch = switch; out = out; notes = notes }
 
--- the switch, the messages and the notes are those of the effect, which sends nothing but what may be sent
+-- what is fetched is allowed by the permissions in force
+abbrev pub AreFetchesAllowed : SwitchView → Type 0
+AreFetchesAllowed switch = AllByRecursion (λ r. r.fetching ≡ true → allows r.write (permission_at switch.protect r.page) ≡ true) switch.requests
+
+-- The switch, the messages and the notes are those of the effect. Where what is fetched is allowed, it sends
+-- nothing but what may be sent, and what is fetched then is allowed too.
 pub record Comes (start : Start) (effect : Effect) (switch : SwitchView) (out : List (LinkName × Msg)) (notes : List Note) : Type 0 where
   pub after : switch ≡ effect.switch
   pub sent : out ≡ start.out ++ effect.sent
   pub noted : notes ≡ start.notes ++ effect.noted
   pub plan : switch.plan ≡ start.switch.plan
-  pub sendable : AllByRecursion (IsSendable start.switch.plan) effect.sent
+  pub sendable : AreFetchesAllowed start.switch → AllByRecursion (IsSendable start.switch.plan) effect.sent
+  pub allowed : AreFetchesAllowed start.switch → AreFetchesAllowed switch
 
 -- how many transitions are under way
 abbrev pub is_under_way : Option Busy → ℕ
@@ -55,19 +63,15 @@ abbrev pub under_way : List Entry → ℕ
 under_way [] = 0
 under_way (entry ∷ entries) = is_under_way entry.busy + under_way entries
 
--- the plan, the places, the permissions and the number of slots stay
+-- the plan and the number of slots stay
 pub record Remains (old new : SwitchView) : Type 0 where
   pub plan : new.plan ≡ old.plan
-  pub table : new.table ≡ old.table
-  pub protect : new.protect ≡ old.protect
   pub slots : new.directory.slots ≡ old.directory.slots
 
--- However work goes, the plan, the places, the permissions and the number of slots stay, and each transition
--- that is begun takes one number.
+-- However work goes, the plan and the number of slots stay, and each transition that is begun takes one
+-- number.
 pub record Stays (old new : SwitchView) : Type 0 where
   pub plan : new.plan ≡ old.plan
-  pub table : new.table ≡ old.table
-  pub protect : new.protect ≡ old.protect
   pub slots : new.directory.slots ≡ old.directory.slots
   pub numbers : new.last + under_way old.directory.entries ≡ old.last + under_way new.directory.entries
 

@@ -1,16 +1,65 @@
-ghost use Rattle.std.specs.Prelude.{◌≡◌, ◌++◌, ◌↔◌, ℕ, None, All, IsTrue, OnOk, length, map};
+ghost use Rattle.std.specs.Prelude.{◌≡◌, ◌++◌, ◌↔◌, ℕ, false, None, All, IsTrue, OnOk, OnErr, length, map};
 ghost use Rattle.std.specs.List.{AllByRecursion, flat_map};
+ghost use Rattle.invalidate_multicast.specs.Transition.{is_answered};
 ghost use Rattle.switch_core.specs.Handling.{ended, noted_end};
 ghost use Rattle.switch_core.specs.Invariant.{IsFitEntry};
 ghost use Rattle.switch_core.specs.Sending.{Begins};
 
 use invalidate_multicast::ended;
 use mind_base::{Log, NoMemory, Note};
-use region_directory::Directory;
+use region_directory::{Directory, Entry};
 
-/// Ends each transition that waits for nobody, and notes the state that its entry comes to.
+/// Notes the state that the entry comes to, where its transition waits for nobody.
+fn note_end(entry: &Entry, log: &mut Log) -> Result<(), NoMemory>
+    ensures ok { OnOk result (log.new.notes ≡ log.old.notes ++ noted_end entry.now) }
+    ensures err { OnErr result (log.new.notes ≡ log.old.notes) }
+{
+    let Some(busy) = entry.busy else {
+        return Ok(());
+    };
+    if busy.waiting != 0 {
+        return Ok(());
+    }
+    log.add(Note::Region {
+        range: entry.range,
+        state: busy.target,
+    })?;
+    Ok(())
+}
+
+/// Notes the state that each entry comes to whose transition waits for nobody.
+fn note_all(directory: &Directory, log: &mut Log) -> Result<(), NoMemory>
+    ensures ok { OnOk result (log.new.notes ≡ log.old.notes ++ flat_map noted_end directory.now.entries) }
+    ensures log { Begins log.old.notes log.new.notes }
+{
+    for i in 0..directory.len() {
+        let entry = directory.entry(i);
+        note_end(&entry, log)?;
+    }
+    Ok(())
+}
+
+/// Ends each transition that waits for nobody.
+fn end_each(directory: &mut Directory)
+    ensures ended { directory.new ≡ record directory.old { entries = map ended directory.old.entries } }
+    ensures waits { AllByRecursion (λ entry. is_answered entry.busy ≡ false) directory.new.entries }
+    ensures count { length directory.new.entries ≡ length directory.old.entries }
+    ensures slots { directory.new.slots ≡ directory.old.slots }
+    ensures fit { (blades : ℕ) → AllByRecursion (IsFitEntry blades) directory.old.entries
+        → AllByRecursion (IsFitEntry blades) directory.new.entries }
+{
+    'ending: loop {
+        let Some(_) = ended(directory) else {
+            return;
+        };
+    }
+}
+
+/// Ends each transition that waits for nobody, and notes the state that its entry comes to. After an
+/// error they have ended all the same, and not all are noted.
 pub fn end_all(directory: &mut Directory, log: &mut Log) -> Result<(), NoMemory>
-    ensures ended { OnOk result (directory.new ≡ record directory.old { entries = map ended directory.old.entries }) }
+    ensures ended { directory.new ≡ record directory.old { entries = map ended directory.old.entries } }
+    ensures waits { AllByRecursion (λ entry. is_answered entry.busy ≡ false) directory.new.entries }
     ensures noted { OnOk result (log.new.notes ≡ log.old.notes ++ flat_map noted_end directory.old.entries) }
     ensures count { length directory.new.entries ≡ length directory.old.entries }
     ensures slots { directory.new.slots ≡ directory.old.slots }
@@ -18,15 +67,9 @@ pub fn end_all(directory: &mut Directory, log: &mut Log) -> Result<(), NoMemory>
         → AllByRecursion (IsFitEntry blades) directory.new.entries }
     ensures log { Begins log.old.notes log.new.notes }
 {
-    loop {
-        let Some(ending) = ended(directory) else {
-            return Ok(());
-        };
-        log.add(Note::Region {
-            range: ending.0,
-            state: ending.1,
-        })?;
-    }
+    let noted = note_all(directory, log);
+    end_each(directory);
+    noted
 }
 
 /// Whether no transition is under way.

@@ -60,6 +60,7 @@ impl SwitchCore {
         ensures plan { IfOk result (λ switch. switch.plan ≡ plan.now) }
         ensures table { IfOk result (λ switch. switch.table ≡ record { homes = plan.now.memories; slots = plan.now.outliers; outliers = [] }) }
         ensures protect { IfOk result (λ switch. permission_at switch.protect ≡ permission_of plan.now.maps) }
+        ensures slots { IfOk result (λ switch. switch.protect.slots ≡ plan.now.protect) }
         ensures directory { IfOk result (λ switch. switch.directory ≡ record { slots = plan.now.slots; most = plan.now.most; entries = [] }) }
         ensures requests { IfOk result (λ switch. switch.requests ≡ []) }
         ensures last { IfOk result (λ switch. switch.last ≡ 0) }

@@ -5,8 +5,7 @@ ghost use Rattle.invalidate_multicast.specs.Blades.{without_blade};
 ghost use Rattle.region_directory.specs.Entry.{MeetsNone};
 ghost use Rattle.switch_core.specs.Invariant.{IsFitState, IsSpent, IsSwitch};
 ghost use Rattle.switch_core.specs.Sending.{Begins};
-ghost use Rattle.switch_core.specs.Treating.{allows, begun, cleared, denied, dropped, entered, granted, holders, invalidated, left_to, lowered};
-ghost use Rattle.protect_table.specs.Protect.{permission_at};
+ghost use Rattle.switch_core.specs.Treating.{begun, cleared, denied, dropped, entered, granted, holders, invalidated, left_to, lowered};
 
 use super::SwitchCore;
 use crate::messages::{note_change, read_from, tell_all, tell_blade};
@@ -23,7 +22,8 @@ impl SwitchCore {
         ensures switch { OnOk result (self.new ≡ (denied r.now self.old).switch) }
         ensures sent { OnOk result (out.new.items ≡ out.old.items ++ (denied r.now self.old).sent) }
         ensures was { OnOk result (IsSwitch self.old) }
-        ensures unchanged { OnErr result ((self.new ≡ self.old) × (out.new.items ≡ out.old.items)) }
+        ensures unchanged { OnErr result (self.new ≡ self.old) }
+        ensures out { Begins out.old.items out.new.items }
         ensures spent { result ≢ Err Spent }
     {
         tell_blade(out, r.blade, Msg::Deny { page: r.page })?;
@@ -44,7 +44,6 @@ impl SwitchCore {
         requires blade { r.now.blade < length self.old.plan.frames }
         requires place { slice_get self.old.requests at ≡ Some r.now }
         requires waits { r.now.fetching ≡ false }
-        requires allowed { allows r.now.write (permission_at self.old.protect r.now.page) ≡ true }
         requires entry { slice_get self.old.directory.entries i ≡ Some entry.now }
         ensures switch { OnOk result (self.new ≡ (granted r.now at i entry.now self.old).switch) }
         ensures sent { OnOk result (out.new.items ≡ out.old.items ++ (granted r.now at i entry.now self.old).sent) }
@@ -204,7 +203,8 @@ impl SwitchCore {
         ensures switch { OnOk result (self.new ≡ (entered range.now self.old).switch) }
         ensures noted { OnOk result (log.new.notes ≡ log.old.notes ++ (entered range.now self.old).noted) }
         ensures was { OnOk result (IsSwitch self.old) }
-        ensures unchanged { OnErr result ((self.new ≡ self.old) × (log.new.notes ≡ log.old.notes)) }
+        ensures unchanged { OnErr result (self.new ≡ self.old) }
+        ensures log { Begins log.old.notes log.new.notes }
         ensures spent { result ≢ Err Spent }
     {
         log.add(Note::Region {
@@ -221,7 +221,8 @@ impl SwitchCore {
         ensures switch { OnOk result (self.new ≡ (dropped i entry.now self.old).switch) }
         ensures noted { OnOk result (log.new.notes ≡ log.old.notes ++ (dropped i entry.now self.old).noted) }
         ensures was { OnOk result (IsSwitch self.old) }
-        ensures unchanged { OnErr result ((self.new ≡ self.old) × (log.new.notes ≡ log.old.notes)) }
+        ensures unchanged { OnErr result (self.new ≡ self.old) }
+        ensures log { Begins log.old.notes log.new.notes }
         ensures spent { result ≢ Err Spent }
     {
         log.add(Note::Gone { range: entry.range })?;

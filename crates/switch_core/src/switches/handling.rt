@@ -1,7 +1,8 @@
 ghost use Rattle.std.specs.Prelude.{◌≡◌, ◌≢◌, ◌<◌, ◌++◌, [], Err, Some, true, false, All, Any, length, OnOk, OnErr};
 ghost use Rattle.mind_base.specs.declared.failures.Stop.TheVariants.{Spent};
+ghost use Rattle.invalidate_multicast.specs.Transition.{acknowledged};
 ghost use Rattle.request_list.specs.Requests.{is_of};
-ghost use Rattle.switch_core.specs.Handling.{answered, asked, filled, from_blade, from_memory, handled_from, MayComeFrom, MayComeOn, MayComeUp, went_back};
+ghost use Rattle.switch_core.specs.Handling.{all_ended, asked, filled, from_blade, from_memory, handled_from, MayComeFrom, MayComeOn, MayComeUp, went_back};
 ghost use Rattle.switch_core.specs.Invariant.{IsSwitch};
 ghost use Rattle.switch_core.specs.Sending.{Begins, Comes, Remains, start_at};
 
@@ -63,7 +64,7 @@ impl SwitchCore {
     ) -> Result<(), Stop>
         ensures sent { OnOk result (out.new.items ≡ out.old.items ++ (went_back page.now image self.now).sent) }
         ensures switch { OnOk result (IsSwitch self.now) }
-        ensures unchanged { OnErr result (out.new.items ≡ out.old.items) }
+        ensures out { Begins out.old.items out.new.items }
         ensures spent { result ≢ Err Spent }
     {
         let place = self.table.place(*page);
@@ -73,8 +74,8 @@ impl SwitchCore {
 
     /// A blade has done what a transition told it, with so many pages given up or lowered.
     fn answer(&mut self, number: u32, blade: u8, count: u32, log: &mut Log) -> Result<(), Stop>
-        ensures switch { OnOk result (self.new ≡ (answered number blade count self.old).switch) }
-        ensures noted { OnOk result (log.new.notes ≡ log.old.notes ++ (answered number blade count self.old).noted) }
+        ensures switch { OnOk result (self.new ≡ (all_ended (acknowledged number blade count self.old.directory.entries) self.old).switch) }
+        ensures noted { OnOk result (log.new.notes ≡ log.old.notes ++ (all_ended (acknowledged number blade count self.old.directory.entries) self.old).noted) }
         ensures remains { Remains self.old self.new }
         ensures last { self.new.last ≡ self.old.last }
         ensures log { Begins log.old.notes log.new.notes }

@@ -12,7 +12,7 @@ invariant_of-self c =
     let middle : AllByRecursion (IsFitEntry n) c.ack.new.directory.entries =
     subst (λ (d : DirectoryView). AllByRecursion (IsFitEntry n) d.entries) (sym c.ack.ensures.acknowledged) (fit-acknowledged n c.args.number c.args.blade c.args.count c.self.inside.directory.entries h.entries) in
     let fits : length c.end_all.new.directory.entries ≤ c.end_all.new.directory.slots = omega (arith, c.end_all.ensures.count, c.ack.ensures.count, c.end_all.ensures.slots, ap (λ (d : DirectoryView). d.slots) c.ack.ensures.acknowledged, h.fits) in
-    record { plan = h.plan; homes = h.homes; outliers = h.outliers; fits = fits; entries = c.end_all.ensures.fit n middle; requests = h.requests }
+    record { plan = h.plan; homes = h.homes; outliers = h.outliers; slots = h.slots; fits = fits; entries = c.end_all.ensures.fit n middle; waits = c.end_all.ensures.waits; requests = h.requests }
 
 pub invariant_of-self-2 : goal.invariant_of-self-2
 invariant_of-self-2 c =
@@ -21,4 +21,4 @@ invariant_of-self-2 c =
     let middle : AllByRecursion (IsFitEntry n) c.ack.new.directory.entries =
     subst (λ (d : DirectoryView). AllByRecursion (IsFitEntry n) d.entries) (sym c.ack.ensures.acknowledged) (fit-acknowledged n c.args.number c.args.blade c.args.count c.self.inside.directory.entries h.entries) in
     let fits : length c.end_all.new.directory.entries ≤ c.end_all.new.directory.slots = omega (arith, c.end_all.ensures.count, c.ack.ensures.count, c.end_all.ensures.slots, ap (λ (d : DirectoryView). d.slots) c.ack.ensures.acknowledged, h.fits) in
-    record { plan = h.plan; homes = h.homes; outliers = h.outliers; fits = fits; entries = c.end_all.ensures.fit n middle; requests = h.requests }
+    record { plan = h.plan; homes = h.homes; outliers = h.outliers; slots = h.slots; fits = fits; entries = c.end_all.ensures.fit n middle; waits = c.end_all.ensures.waits; requests = h.requests }

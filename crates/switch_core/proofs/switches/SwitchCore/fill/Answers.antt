@@ -22,13 +22,13 @@ pub invariant_of-self : goal.invariant_of-self
 invariant_of-self c =
     let s : SwitchView = record { plan = c.self.inside.plan; table = c.self.inside.table; protect = c.self.inside.protect; directory = c.self.inside.directory; requests = c.self.inside.requests; last = c.self.inside.last } in
     subst (λ (rs : List Request). IsSwitch (record s { requests = rs })) (sym c.done.ensures.left)
-    (switch-requests s _ c.self.invariant (all-filter (IsFitRequest (length s.plan.frames) s.protect) _ s.requests c.self.invariant.requests))
+    (switch-requests s _ c.self.invariant (all-filter (IsFitRequest (length s.plan.frames)) _ s.requests c.self.invariant.requests))
 
 pub invariant_of-self-2 : goal.invariant_of-self-2
 invariant_of-self-2 c =
     let s : SwitchView = record { plan = c.self.inside.plan; table = c.self.inside.table; protect = c.self.inside.protect; directory = c.self.inside.directory; requests = c.self.inside.requests; last = c.self.inside.last } in
     subst (λ (rs : List Request). IsSwitch (record s { requests = rs })) (sym c.done.ensures.left)
-    (switch-requests s _ c.self.invariant (all-filter (IsFitRequest (length s.plan.frames) s.protect) _ s.requests c.self.invariant.requests))
+    (switch-requests s _ c.self.invariant (all-filter (IsFitRequest (length s.plan.frames)) _ s.requests c.self.invariant.requests))
 
 pub returns-clause-comes : goal.returns-clause-comes
 returns-clause-comes c =

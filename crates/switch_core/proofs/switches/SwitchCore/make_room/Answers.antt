@@ -15,7 +15,7 @@ use Rattle.request_list.specs.Requests.{fetched_pages}
 use Rattle.switch_core.specs.Invariant.{IsFitEntry}
 use Rattle.switch_core.specs.Standing.{InPass}
 use Rattle.switch_core.specs.Switch.{SwitchView}
-use Rattle.switch_core.specs.Treating.{cleared, does, dropped, with_room}
+use Rattle.switch_core.specs.Treating.{cleared, does, dropped, holders, with_room}
 use Rattle.switch_core.specs.declared.stands.Stand.{Stand}
 use Rattle.switch_core.proofs.Going.{room_in, in-dropped, goes-dropped, goes-evicted, goes-merged, goes-roomless}
 use Rattle.switch_core.proofs.Lists.{all-at}
@@ -100,10 +100,13 @@ returns-in_ok-clear-in-Evict-clause-goes_on c = λ start pass h.
     let found : slice_get s.directory.entries i ≡ Some entry = subst (λ (v : SwitchView). slice_get v.directory.entries i ≡ Some entry) c.self.view_is c.entry-entry-in-Evict.ensures.entry in
     let room : room_in s ≡ Evict i = sym (c.in-Evict.ensures.room ∙ ap (room_of c.self.inside.directory) c.fetching_pages.ensures.pages ∙ ap room_in c.self.view_is) in
     let idle : entry.busy ≡ None = evicted-idle s.directory (fetched_pages s.requests) i entry room found in
+    let n = length c.self.inside.plan.frames in
+    let held : holders entry.state ≢ 0 = holders-some n entry.state (all-at (IsFitEntry n) c.self.inside.directory.entries i entry c.self.invariant.entries c.entry-entry-in-Evict.ensures.entry).state
+    (evicted-held s.directory (fetched_pages s.requests) i entry room found) in
     let stand : Stand = c.args.stand.now in
     let now : c.block.new.self ≡ record stand { at = stand.at + 1; blocked = true; changed = true } = c.block.ensures ∙ ap (λ (x : Stand). record x { at = x.at + 1; blocked = true }) c.change-in-Evict.ensures in
     subst (λ (x : Stand). InPass start (with_room c.args.r.now (room_in s) pass) c.clear.new.self x c.clear.new.out.items c.args.log.now.notes) (sym now)
-    (goes-evicted start pass s stand c.args.out.now.items c.args.log.now.notes h c.clear.new.self c.clear.new.out.items c.args.log.now.notes c.args.r.now (room_in s) i entry room c.in_ok-clear-in-Evict.ensures.was found idle
+    (goes-evicted start pass s stand c.args.out.now.items c.args.log.now.notes h c.clear.new.self c.clear.new.out.items c.args.log.now.notes c.args.r.now (room_in s) i entry room c.in_ok-clear-in-Evict.ensures.was found idle held
     c.in_ok-clear-in-Evict.ensures.switch c.in_ok-clear-in-Evict.ensures.sent (sym (append-nil c.args.log.now.notes)))
 
 pub returns-in_ok-clear-in-Evict-clause-keeps : goal.returns-in_ok-clear-in-Evict-clause-keeps
@@ -114,8 +117,11 @@ returns-in_ok-clear-in-Evict-clause-keeps c =
     let found : slice_get s.directory.entries i ≡ Some entry = subst (λ (v : SwitchView). slice_get v.directory.entries i ≡ Some entry) c.self.view_is c.entry-entry-in-Evict.ensures.entry in
     let room : room_in s ≡ Evict i = sym (c.in-Evict.ensures.room ∙ ap (room_of c.self.inside.directory) c.fetching_pages.ensures.pages ∙ ap room_in c.self.view_is) in
     let idle : entry.busy ≡ None = evicted-idle s.directory (fetched_pages s.requests) i entry room found in
+    let n = length c.self.inside.plan.frames in
+    let held : holders entry.state ≢ 0 = holders-some n entry.state (all-at (IsFitEntry n) c.self.inside.directory.entries i entry c.self.invariant.entries c.entry-entry-in-Evict.ensures.entry).state
+    (evicted-held s.directory (fetched_pages s.requests) i entry room found) in
     keeps-done s c.clear.new.self (cleared i entry s) c.args.out.now.items c.clear.new.out.items c.args.log.now.notes c.args.log.now.notes
-    (safe-cleared s i entry c.in_ok-clear-in-Evict.ensures.was found idle)
+    (safe-cleared s i entry c.in_ok-clear-in-Evict.ensures.was found idle held)
     c.in_ok-clear-in-Evict.ensures.switch c.in_ok-clear-in-Evict.ensures.sent (sym (append-nil c.args.log.now.notes))
 
 pub returns-in-Merge-clause-goes_on : goal.returns-in-Merge-clause-goes_on

@@ -26,14 +26,14 @@ treat_found-requires-clause-blade c =
     let n = length c.self.inside.plan.frames in
     let place : slice_get c.self.inside.requests c.args.stand.now.at ≡ Some c.args.r.now = subst (λ (v : SwitchView). slice_get v.requests c.args.stand.now.at ≡ Some c.args.r.now) (sym c.self.view_is) c.requires.place in
     subst (λ (v : SwitchView). c.args.r.now.blade < length v.plan.frames) c.self.view_is
-    (all-at (IsFitRequest n c.self.inside.protect) c.self.inside.requests c.args.stand.now.at c.args.r.now c.self.invariant.requests place).blade
+    (all-at (IsFitRequest n) c.self.inside.requests c.args.stand.now.at c.args.r.now c.self.invariant.requests place).blade
 
 pub treat_missing-requires-clause-blade : goal.treat_missing-requires-clause-blade
 treat_missing-requires-clause-blade c =
     let n = length c.self.inside.plan.frames in
     let place : slice_get c.self.inside.requests c.args.stand.now.at ≡ Some c.args.r.now = subst (λ (v : SwitchView). slice_get v.requests c.args.stand.now.at ≡ Some c.args.r.now) (sym c.self.view_is) c.requires.place in
     subst (λ (v : SwitchView). c.args.r.now.blade < length v.plan.frames) c.self.view_is
-    (all-at (IsFitRequest n c.self.inside.protect) c.self.inside.requests c.args.stand.now.at c.args.r.now c.self.invariant.requests place).blade
+    (all-at (IsFitRequest n) c.self.inside.requests c.args.stand.now.at c.args.r.now c.self.invariant.requests place).blade
 
 pub returns-in-Some-clause-goes_on : goal.returns-in-Some-clause-goes_on
 returns-in-Some-clause-goes_on c =
