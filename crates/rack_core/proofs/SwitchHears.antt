@@ -25,10 +25,11 @@ use Rattle.request_list.specs.declared.requests.Request.{Request}
 use Rattle.request_list.proofs.RequestFacts.{apart-push, apart-filter}
 use Rattle.wire_msg.specs.declared.msgs.Msg.{Msg}
 use Rattle.wire_msg.specs.declared.msgs.Msg.TheVariants.{Get, Fill, Back, Ack, Image, Write}
-use Rattle.switch_core.specs.Handling.{asked, filling, filled, writing, went_back, ended, answered, from_blade, from_memory, handled_from, Receives}
+use Rattle.switch_core.specs.Handling.{all_ended, asked, filling, filled, writing, went_back, ended, answered, from_blade, from_memory, handled_from, Receives}
 use Rattle.switch_core.specs.Invariant.{IsFitState, IsFitTarget, IsFitEntry}
 use Rattle.switch_core.specs.Switch.{SwitchView, Effect, place_in}
 use Rattle.switch_core.specs.Treating.{without_request}
+use Rattle.switch_core.proofs.EachEnding.{answered-is}
 use Rattle.coherence.specs.Facts.{IsCoherent, AreAnswered, AreUps, AreFroms, is_fetching}
 use Rattle.coherence.specs.Moves as moves
 use Rattle.coherence.specs.Moves.{HearsGet, HearsBack, HearsAck, HearsImage, heard, answered_by}
@@ -176,9 +177,9 @@ fit-ended e h = by (is_answered e.busy) (target e.busy h.target) where
   by true s = record { state = s; target = tt }
   by false s = h
 
-hears_ack : (w : World) (switch : SwitchView) (blade number count : ℕ) (behind : List Msg) → Shows w switch → IsSoundSwitch switch
-    → w.ups blade ≡ Ack number count ∷ behind → Hears w (heard blade behind w) (answered number blade count switch)
-hears_ack w switch blade number count behind shows sound head =
+hears_ended : (w : World) (switch : SwitchView) (blade number count : ℕ) (behind : List Msg) → Shows w switch → IsSoundSwitch switch
+    → w.ups blade ≡ Ack number count ∷ behind → Hears w (heard blade behind w) (all_ended (transition.acknowledged number blade count switch.directory.entries) switch)
+hears_ended w switch blade number count behind shows sound head =
     let es = switch.directory.entries in
     let answer : Entry → Entry = λ e. with_busy (after_answer number blade e.busy) e in
     let test : Entry → Bool = λ e. is_number number e.busy in
@@ -189,7 +190,7 @@ hears_ack w switch blade number count behind shows sound head =
     ∙ twice (first_region es p) ∙ option-answered number blade (first_region es p)
     ∙ ap (answered_by number blade) (sym (region_at-first es p) ∙ ap (λ g. g p) (sym shows.regions))) in
     record {
-      moves = one_move w (shown (heard blade behind w) (answered number blade count switch)) (HearsAck blade number count behind) head
+      moves = one_move w (shown (heard blade behind w) (all_ended mid switch)) (HearsAck blade number count behind) head
           (λ j. record w { ups = put blade behind w.ups; wants = sym shows.wants j; regions = regions j; last = sym shows.last j; downs = none_sent w.downs j; tos = none_sent w.tos j });
       quiet = λ n. (refl, refl);
       asks = λ m. tt;
@@ -207,6 +208,11 @@ hears_ack w switch blade number count behind shows sound head =
     twice : (o : Option Region) → option_map moves.ended (option_map (with_answer number blade) o) ≡ option_map (answers_one number blade) o
     twice None = refl
     twice (Some region) = refl
+
+hears_ack : (w : World) (switch : SwitchView) (blade number count : ℕ) (behind : List Msg) → Shows w switch → IsSoundSwitch switch
+    → w.ups blade ≡ Ack number count ∷ behind → Hears w (heard blade behind w) (answered number blade count switch)
+hears_ack w switch blade number count behind shows sound head =
+    subst (Hears w (heard blade behind w)) (sym (answered-is number blade count switch)) (hears_ended w switch blade number count behind shows sound head)
 
 -- ---- an image
 

@@ -46,7 +46,7 @@ sound_from switch directory apart h =
     let few : n ≤ 8 = h.plan.blades.1 in
     record {
       requests = apart;
-      blades = all-same (IsFitRequest n switch.protect) (λ r. r.blade < 8) (λ r f. omega (arith, f.blade, few)) switch.requests h.requests;
+      blades = all-same (IsFitRequest n) (λ r. r.blade < 8) (λ r f. omega (arith, f.blade, few)) switch.requests h.requests;
       blocks = apart-from switch.directory.entries (λ i j d lt lu. directory.apart i j d lt lu);
       entries = all-same (IsFitEntry n) (IsFitEntry 8) (λ e f. record { state = fit-more n few e.state f.state; target = target-more n few e.busy f.target }) switch.directory.entries h.entries;
       region = h.plan.region;
