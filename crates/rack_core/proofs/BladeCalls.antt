@@ -132,23 +132,23 @@ reversed page (first ∷ pages) =
 -- ---- the calls
 
 -- a blade whose pages alone changed is sound
-pub sound_entries : (images : List Image) (perms : PageView → Perm) (blade new : BladeView) → IsSoundBlade images perms blade → new ≡ with_entries blade new.cache.entries → IsPageCache new.cache → IsSoundBlade images perms new
-sound_entries images perms blade new sound only shape = subst (IsSoundBlade images perms) (sym only)
-    (record { cache = subst (λ b. IsPageCache b.cache) only shape; apart = sound.apart; requests = sound.requests; waiting = sound.waiting; stores = sound.stores })
+pub sound_entries : (perms : PageView → Perm) (blade new : BladeView) → IsSoundBlade perms blade → new ≡ with_entries blade new.cache.entries → IsPageCache new.cache → IsSoundBlade perms new
+sound_entries perms blade new sound only shape = subst (IsSoundBlade perms) (sym only)
+    (record { cache = subst (λ b. IsPageCache b.cache) only shape; apart = sound.apart; waiters = sound.waiters; requests = sound.requests; waiting = sound.waiting; stores = sound.stores })
 
-pub evict : (images : List Image) (w : World) (c : ℕ) (blade : BladeView) (page : PageView) → HasBlade c blade w → IsSoundBlade images w.perms blade
-    → DoesMoves images w w c (given_up page blade)
-evict images w c blade page h sound =
+pub evict : (w : World) (c : ℕ) (blade : BladeView) (page : PageView) → HasBlade c blade w → IsSoundBlade w.perms blade
+    → DoesMoves w w c (given_up page blade)
+evict w c blade page h sound =
     let changes = given_up-changes page blade sound.cache in
-    record { flat = w.flat; leads = changes.leads c w h; kept = λ page e. refl; sound = sound_entries images w.perms blade (given_up page blade).blade sound changes.only changes.shape }
+    record { flat = w.flat; leads = changes.leads c w h; kept = λ page e. refl; sound = sound_entries w.perms blade (given_up page blade).blade sound changes.only changes.shape }
 
 -- pages are changed, and the switch is answered
-acknowledges : (images : List Image) (w : World) (c : ℕ) (blade : BladeView) (on : Option Frame → Bool) (change : PageView → BladeView → Effect) (pages : List PageView) (behind : List Msg) (answer : List Msg)
-    → HasBlade c blade w → IsSoundBlade images w.perms blade
+acknowledges : (w : World) (c : ℕ) (blade : BladeView) (on : Option Frame → Bool) (change : PageView → BladeView → Effect) (pages : List PageView) (behind : List Msg) (answer : List Msg)
+    → HasBlade c blade w → IsSoundBlade w.perms blade
     → ChangesPages on blade pages (each_in change pages blade)
     → ((v : World) → HasBlade c (each_in change pages blade).blade v → v.downs ≡ w.downs → LeadsTo v (took c behind v) c (each_in change pages blade).blade answer v.flat)
-    → DoesMoves images w (took c behind w) c (and_then (each_in change pages blade) (λ after. record { blade = after; sent = answer; noted = [] }))
-acknowledges images w c blade on change pages behind answer h sound changes answers =
+    → DoesMoves w (took c behind w) c (and_then (each_in change pages blade) (λ after. record { blade = after; sent = answer; noted = [] }))
+acknowledges w c blade on change pages behind answer h sound changes answers =
     let first = changes.leads c w h in
     let after = (each_in change pages blade).blade in
     let sent = (each_in change pages blade).sent in
@@ -157,7 +157,7 @@ acknowledges images w c blade on change pages behind answer h sound changes answ
       kept = λ page e. refl;
       leads = leads_taking w c behind after after sent answer w.flat w.flat first
           (answers (with_seen_blade c after sent w.flat w) (has_blade c after sent w.flat w) refl);
-      sound = sound_entries images w.perms blade after sound changes.only changes.shape;
+      sound = sound_entries w.perms blade after sound changes.only changes.shape;
     }
 
 -- none of a block is held when those that were are given up
@@ -184,23 +184,23 @@ not_some None e = refl
 not_some (Some frame) e = let never : ⊥ = cc in absurd never
 
 pub invalidate : (images : List Image) (w : World) (c : ℕ) (blade : BladeView) (number : ℕ) (range : RangeView) (asked : Option PageView) (behind : List Msg)
-    → HasBlade c blade w → IsSoundBlade images w.perms blade → w.downs c ≡ Inv number range asked ∷ behind
-    → DoesMoves images w (took c behind w) c (after_message images (Inv number range asked) blade)
+    → HasBlade c blade w → IsSoundBlade w.perms blade → w.downs c ≡ Inv number range asked ∷ behind
+    → DoesMoves w (took c behind w) c (after_message images (Inv number range asked) blade)
 invalidate images w c blade number range asked behind h sound head =
     let pages = held_in range blade in
     let changes = each is_some given_up given_up-changes pages blade sound.cache in
     let after = (each_in given_up pages blade).blade in
-    acknowledges images w c blade is_some given_up pages behind _ h sound changes
+    acknowledges w c blade is_some given_up pages behind _ h sound changes
     (λ v has downs. answers_inv c after v number range asked (spared asked pages) behind has (ap (λ f. f c) downs ∙ head)
     (λ page inside. not_some (frame_of page after.cache.entries) (block_gone is_some (stands_in (span_of range)) page blade.cache.entries after.cache.entries (λ frame o. inside) refl (changes.gone page))))
 
 pub lower : (images : List Image) (w : World) (c : ℕ) (blade : BladeView) (number : ℕ) (range : RangeView) (asked : PageView) (behind : List Msg)
-    → HasBlade c blade w → IsSoundBlade images w.perms blade → w.downs c ≡ Lower number range asked ∷ behind
-    → DoesMoves images w (took c behind w) c (after_message images (Lower number range asked) blade)
+    → HasBlade c blade w → IsSoundBlade w.perms blade → w.downs c ≡ Lower number range asked ∷ behind
+    → DoesMoves w (took c behind w) c (after_message images (Lower number range asked) blade)
 lower images w c blade number range asked behind h sound head =
     let pages = writable_in range blade in
     let changes = each is_writable lowered lowered-changes pages blade sound.cache in
     let after = (each_in lowered pages blade).blade in
-    acknowledges images w c blade is_writable lowered pages behind _ h sound changes
+    acknowledges w c blade is_writable lowered pages behind _ h sound changes
     (λ v has downs. answers_lower c after v number range asked (spared (Some asked) pages) behind has (ap (λ f. f c) downs ∙ head)
     (λ page inside. block_gone is_writable (stands_writable_in (span_of range)) page blade.cache.entries after.cache.entries (λ frame o. and_from _ _ inside o) refl (changes.gone page)))

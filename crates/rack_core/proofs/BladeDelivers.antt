@@ -27,10 +27,10 @@ use Rattle.rack_core.proofs.BladeWorlds.{no_move, run_append}
 -- ---- messages one after another
 
 after_first : (images : List Image) (w : World) (mid new : RackView) (c : ℕ) (rest : List Msg) → IsCoherent w
-    → (first : BladesLead images w (λ flat. handing c rest (seen mid flat)) mid)
-    → ((flat : PageView → PageImageView) → IsCoherent (handing c rest (seen mid flat)) → AreBladesSound images mid
-    → BladesLead images (handing c rest (seen mid flat)) (λ newer. handing c [] (seen new newer)) new)
-    → BladesLead images w (λ newer. handing c [] (seen new newer)) new
+    → (first : BladesLead w (λ flat. handing c rest (seen mid flat)) mid)
+    → ((flat : PageView → PageImageView) → IsCoherent (handing c rest (seen mid flat)) → AreBladesSound mid
+    → BladesLead (handing c rest (seen mid flat)) (λ newer. handing c [] (seen new newer)) new)
+    → BladesLead w (λ newer. handing c [] (seen new newer)) new
 after_first images w mid new c rest safe first next =
     let reached = handing c rest (seen mid first.flat) in
     let later = next first.flat (run_keeps w reached first.moves safe first.run) first.sound in
@@ -42,13 +42,13 @@ after_first images w mid new c rest safe first next =
     }
 
 pub blade_hears_all : (images : List Image) (c : ℕ) (taken : List Msg) (old new : RackView) (flat : PageView → PageImageView) (noted : List Note)
-    → IsCoherent (handing c taken (seen old flat)) → AreBladesSound images old → HandsAll images (record { kind = Down; number = c }) taken old new noted
-    → BladesLead images (handing c taken (seen old flat)) (λ newer. handing c [] (seen new newer)) new
+    → IsCoherent (handing c taken (seen old flat)) → AreBladesSound old → HandsAll images (record { kind = Down; number = c }) taken old new noted
+    → BladesLead (handing c taken (seen old flat)) (λ newer. handing c [] (seen new newer)) new
 blade_hears_all images c [] old new flat noted safe all given = record {
   flat = flat;
   moves = [];
   run = no_move (handing c [] (seen old flat)) (handing c [] (seen new flat)) (ap (λ rack. handing c [] (seen rack flat)) given.0);
-  sound = subst (AreBladesSound images) (sym given.0) all;
+  sound = subst AreBladesSound (sym given.0) all;
 }
 blade_hears_all images c (message ∷ rest) old new flat noted safe all given =
     after_first images (handing c (message ∷ rest) (seen old flat)) given.0 new c rest safe
@@ -100,8 +100,8 @@ nothing_waits c w = λ i. record w { downs = λ n. same n i } where
     by false e = refl
 
 pub deliver_leads : (images : List Image) (c : ℕ) (side : Side) (k : ℕ) (old new : RackView) (flat : PageView → PageImageView) (noted : List Note)
-    → IsCoherent (seen old flat) → AreBladesSound images old → Leads images (Deliver (record { kind = Down; number = c }) side k) old new noted
-    → BladesLead images (seen old flat) (seen new) new
+    → IsCoherent (seen old flat) → AreBladesSound old → Leads images (Deliver (record { kind = Down; number = c }) side k) old new noted
+    → BladesLead (seen old flat) (seen new) new
 deliver_leads images c side k old new flat noted safe all given =
     let before = gave c given.taken side k old given.net flat given.gives given.only in
     let heard = blade_hears_all images c given.taken (with_net given.net old) new flat noted (subst IsCoherent before safe) all given.handed in

@@ -1,29 +1,34 @@
 -- A page that comes, or is denied, is moves, with what waited for it.
-use Rattle.std.proofs.Common.{◌≡◌, ℕ, ◌+◌, Bool, true, false, ap, sym, refl, subst, List, [], ◌∷◌, slice_get, Option, Some, None, is_some, option_map, ◌∙◌, arith, append-nil}
+use Rattle.std.proofs.Common.{◌≡◌, ℕ, ◌+◌, Bool, true, false, not, ◌&&◌, ap, sym, refl, subst, List, [], ◌∷◌, slice_get, Option, Some, None, is_some, option_map, ◌∙◌, arith, append-nil}
 use Rattle.std.specs.Prelude.{if◌then◌else◌, option_and_then, unwrap_or}
+use Rattle.std.specs.Bool.{beq}
+use Rattle.std.proofs.lemmas.Bool.{and_parts}
 use Rattle.std.proofs.lemmas.Option.{same_Some}
 use Rattle.mind_base.specs.Page.{PageView}
 use Rattle.mind_base.specs.declared.commands.Perm.{Perm}
-use Rattle.mind_base.specs.declared.ends.End.TheVariants.{Running}
+use Rattle.mind_base.specs.declared.ends.End.{End}
+use Rattle.mind_base.specs.declared.ends.End.TheVariants.{Running, Exit, Fault}
 use Rattle.mind_base.specs.declared.images.Image.{Image}
 use Rattle.mind_base.specs.declared.plans.ThreadPlan.{ThreadPlan}
-use Rattle.hart_effect.specs.Deed.{Storing, found, carried_out, drains_first}
-use Rattle.hart_effect.specs.Place.{place_of, page_at}
-use Rattle.hart_effect.specs.Thread.{Thread}
-use Rattle.mind_base.specs.Pending.{PendingView}
+use Rattle.hart_effect.specs.Deed.{found, drains_first}
+use Rattle.hart_effect.specs.declared.finds.Found.{Found}
+use Rattle.mind_base.specs.Place.{place_of, page_at}
 use Rattle.page_cache.specs.PageCache.{IsPageCache, same_page, frame_of, without, entries_after_put, put_of}
 use Rattle.page_cache.specs.declared.frames.Frame.{Frame}
 use Rattle.page_cache.specs.declared.frames.Put.{Put}
 use Rattle.page_cache.specs.declared.frames.Put.TheVariants.{Fresh, Replaced, Pushed}
-use Rattle.page_cache.proofs.Laws.{same_page-refl}
+use Rattle.page_cache.proofs.Laws.{same_page-refl, same_page-true}
 use Rattle.page_image.specs.PageImage.{PageImageView}
 use Rattle.wire_msg.specs.declared.msgs.Msg.{Msg}
 use Rattle.wire_msg.specs.declared.msgs.Msg.TheVariants.{Fill, Deny}
 use Rattle.compute_blade.specs.Blade.{HartView, BladeView, Effect, hart_of, with_hart, with_entries, request_for, answered, only, and_then}
 use Rattle.compute_blade.specs.Frames.{around_held, thread_of}
-use Rattle.compute_blade.specs.Messages.{after_message, awake, around_denied, around_after, resumed, resumed_for, resumed_by, resumed_at, resumed_with}
+use Rattle.compute_blade.specs.Denials.{denial_in, faulting, refused_by}
+use Rattle.compute_blade.specs.Messages.{after_message, awake, needs_just, need_asked, answered_by, resumed, resumed_for, resumed_by, resumed_at, resumed_with}
 use Rattle.compute_blade.specs.Pages.{sent_out, back_of}
-use Rattle.compute_blade.specs.Steps.{need_in, for_hart, performed_in}
+use Rattle.compute_blade.specs.Steps.{need_in, for_hart}
+use Rattle.compute_blade.specs.declared.kept.Denial.{Denial}
+use Rattle.compute_blade.specs.declared.kept.Need.{Need}
 use Rattle.compute_blade.specs.declared.kept.Answer.{Answer}
 use Rattle.compute_blade.specs.declared.kept.Answer.TheVariants.{Filled, Denied}
 use Rattle.compute_blade.specs.declared.kept.Asked.{Asked}
@@ -36,26 +41,26 @@ use Rattle.coherence.specs.World.{World}
 use Rattle.coherence.proofs.Whole.{run_keeps}
 use Rattle.coherence.proofs.Lists.{downs-cons, total-cons}
 use Rattle.rack_core.specs.BladeMoves.{asked_in, with_seen_blade, HasBlade, LeadsTo, IsRequestBy, IsRequest, IsSoundBlade, DoesMoves, MayWriteAll}
-use Rattle.rack_core.proofs.BladeWorlds.{has_blade, leads_on, leads_taking}
+use Rattle.rack_core.proofs.BladeWorlds.{has_blade, stays, leads_on, leads_taking}
 use Rattle.rack_core.proofs.BladeActs.{gives, takes, denied}
 use Rattle.rack_core.proofs.BladeDeeds.{storing}
 use Rattle.rack_core.proofs.BladeSound.{hart_in-set, of_found, awakes, allowed-hart}
-use Rattle.rack_core.proofs.BladeWaits.{apart-answered, waiting-answered}
-use Rattle.rack_core.proofs.BladeSteps.{HoldsToWrite, FindsAllowed, finds_allowed, idle, performs, drains}
+use Rattle.rack_core.proofs.BladeWaits.{IsAwake, apart-answered, waiters-answered, waiting-answered}
+use Rattle.rack_core.proofs.BladeSteps.{HoldsToWrite, FindsAllowed, finds_allowed, of_harts, idle, sound-hart, performs, drains}
 use Rattle.rack_core.proofs.Lookups.{Entries, found-without, found-put_fresh, found-put_replaced, found-put_pushed, cache-put}
 
 -- ---- what waited is performed
 
 -- the request that ends, and the hart that waited for it
-pub record Ends (images : List Image) (blade : BladeView) (asked : Asked) (plan : ThreadPlan) (hart : HartView) : Type 0 where
+pub record Ends (blade : BladeView) (asked : Asked) (plan : ThreadPlan) (hart : HartView) : Type 0 where
   pub thread : slice_get blade.plan.threads asked.hart ≡ Some plan
   pub own : hart_of blade asked.hart ≡ Some hart
-  pub request : IsRequest images blade.plan.threads blade.harts asked
+  pub request : IsRequest blade.plan.threads blade.harts asked
 
-pub ends-by : (images : List Image) (blade : BladeView) (asked : Asked) (waits : Waits) → IsRequestBy waits images blade.plan.threads blade.harts asked
+pub ends-by : (blade : BladeView) (asked : Asked) (waits : Waits) → IsRequestBy waits blade.plan.threads blade.harts asked
     → (plan : ThreadPlan) × (hart : HartView) × (slice_get blade.plan.threads asked.hart ≡ Some plan) × (hart_of blade asked.hart ≡ Some hart)
-ends-by images blade asked Step r = (r.plan, r.hart, r.thread, r.own)
-ends-by images blade asked Drain r = (r.plan, r.hart, r.thread, r.own)
+ends-by blade asked Step r = (r.plan, r.hart, r.thread, r.own)
+ends-by blade asked Drain r = (r.plan, r.hart, r.thread, r.own)
 
 -- the blade when the request for its page has ended
 unfoldable pub awaking : Asked → HartView → BladeView → BladeView
@@ -67,109 +72,142 @@ for_hart-is blade h act plan hart thread own =
     ap (option_and_then (λ plan. option_and_then (λ hart. act plan hart) (hart_of blade h))) thread
     ∙ ap (option_and_then (λ hart. act plan hart)) own
 
-pub resumed-is : (change : Answer) (images : List Image) (asked : Asked) (blade : BladeView) (plan : ThreadPlan) (hart : HartView) → Ends images blade asked plan hart
-    → resumed change images asked blade ≡ resumed_by asked.waits change images asked.hart plan (awaking asked hart blade) (awake asked.waits hart)
+pub resumed-is : (answer : Answer) (images : List Image) (asked : Asked) (blade : BladeView) (plan : ThreadPlan) (hart : HartView) → Ends blade asked plan hart
+    → resumed answer images asked blade ≡ resumed_by asked.waits answer (need_asked asked) images asked.hart plan (awaking asked hart blade) (awake asked.waits hart)
 unfolding awaking
-resumed-is change images asked blade plan hart ends = ap (λ e. unwrap_or e (only blade)) (for_hart-is blade asked.hart
-    (λ plan hart. Some (resumed_by asked.waits change images asked.hart plan
+resumed-is answer images asked blade plan hart ends = ap (λ e. unwrap_or e (only blade)) (for_hart-is blade asked.hart
+    (λ plan hart. Some (resumed_by asked.waits answer (need_asked asked) images asked.hart plan
     (with_hart asked.hart (awake asked.waits hart) (record blade { requests = answered asked.page blade.requests })) (awake asked.waits hart)))
     plan hart ends.thread ends.own)
 
--- when a step goes on, a store that it makes at once is in a page that is held to be written
-AllowsStores : Answer → List Image → BladeView → Asked → Type 0
-AllowsStores change images blade asked = (plan : ThreadPlan) (hart : HartView) (image : Image) (pc : ℕ) (thread : Thread) (store : PendingView)
-    → slice_get blade.plan.threads asked.hart ≡ Some plan
-    → need_in (found image hart.regs pc) plan.domain ≡ Some (record { page = asked.page; write = asked.write })
-    → carried_out (found image hart.regs pc) (around_after change (around_held blade.cache.entries asked.hart plan.domain)) pc (thread_of blade.cache.entries hart) ≡ Some (Storing thread store)
-    → HoldsToWrite blade.cache.entries (page_at (place_of plan.domain store.address))
+-- a page that came is held to be written where it was asked for to be written
+HoldsAsked : Answer → Need → Entries → Type 0
+HoldsAsked Filled asked entries = asked.write ≡ true → HoldsToWrite entries asked.page
+HoldsAsked Denied asked entries = Unit {0}
 
--- what hart h finds allowed is allowed
-FindsOnly : Answer → Entries → (PageView → Perm) → Type 0
-FindsOnly change entries perms = (h domain : ℕ) → ((around_after change (around_held entries h domain)).domain ≡ domain) × FindsAllowed (around_after change (around_held entries h domain)) perms
+-- what harts find allowed is allowed
+FindsOnly : Entries → (PageView → Perm) → Type 0
+FindsOnly entries perms = (h domain : ℕ) → FindsAllowed (around_held entries h domain) perms
 
-resumes-with : (b : Bool) (images : List Image) (v : World) (c : ℕ) (blade : BladeView) (e : Effect) → HasBlade c blade v → IsSoundBlade images v.perms blade → DoesMoves images v v c e
-    → DoesMoves images v v c (if b then only blade else e)
-resumes-with true images v c blade e has sound does = idle images v c blade has sound
-resumes-with false images v c blade e has sound does = does
+-- an instruction that needs just what was asked for needs that page, and to write only where that was asked for
+pub just-page : (asked : Need) (found : Option Need) (need : Need) → found ≡ Some need → needs_just asked found ≡ true → (asked.page ≡ need.page) × (asked.write ≡ need.write)
+just-page asked found need is just =
+    let parts = and_parts (same_page asked.page need.page) (beq asked.write need.write) (ap (needs_just asked) (sym is) ∙ just) in
+    (same_page-true asked.page need.page parts.0, same asked.write need.write parts.1)
+  where
+    same : (a b : Bool) → beq a b ≡ true → a ≡ b
+    same true true e = refl
+    same false false e = refl
+    same true false e = let never : ⊥ = cc in absurd never
+    same false true e = let never : ⊥ = cc in absurd never
 
-resumes : (change : Answer) (images : List Image) (v : World) (c : ℕ) (asked : Asked) (waits : Waits) (blade : BladeView) (plan : ThreadPlan) (hart : HartView)
-    → hart_of blade asked.hart ≡ Some hart → IsRequestBy waits images blade.plan.threads blade.harts asked → slice_get blade.plan.threads asked.hart ≡ Some plan
-    → (new : BladeView) → new.plan ≡ blade.plan → new.cache ≡ blade.cache → hart_of new asked.hart ≡ Some (awake waits hart)
-    → HasBlade c new v → IsSoundBlade images v.perms new → AllowsStores change images new asked → FindsOnly change new.cache.entries v.perms
-    → DoesMoves images v v c (resumed_by waits change images asked.hart plan new (awake waits hart))
-unfolding AllowsStores FindsOnly
-resumes change images v c asked Step blade plan hart own r thread new same cache now has sound allows finds =
-    let is : r.hart ≡ hart = same_Some _ _ (sym r.own ∙ own) in
-    let is_plan : r.plan ≡ plan = same_Some _ _ (sym r.thread ∙ thread) in
-    let runs : hart.end ≡ Running r.pc = ap (λ (x : HartView). x.end) (sym is) ∙ r.runs in
-    let code : slice_get images plan.image ≡ Some r.image = ap (λ (p : ThreadPlan). slice_get images p.image) (sym is_plan) ∙ r.code in
-    let needs : need_in (found r.image hart.regs r.pc) plan.domain ≡ Some (record { page = asked.page; write = asked.write }) =
-    (let to_hart = sym is in let to_plan = sym is_plan in λ i. need_in (found r.image (to_hart i).regs r.pc) (to_plan i).domain) ∙ r.needs in
-    let new_thread : slice_get new.plan.threads asked.hart ≡ Some plan = ap (λ p. slice_get p.threads asked.hart) same ∙ thread in
-    let awoken = awake Step hart in
-    let here : resumed_at hart.end change images asked.hart plan new awoken ≡ resumed_with change asked.hart plan (found r.image awoken.regs r.pc) r.pc new awoken =
-    ap (λ end. resumed_at end change images asked.hart plan new awoken) runs
-    ∙ ap (λ image. unwrap_or (option_map (λ image. resumed_with change asked.hart plan (found image awoken.regs r.pc) r.pc new awoken) image) (only new)) code in
-    subst (DoesMoves images v v c) (sym here)
-    (resumes-with (drains_first (found r.image awoken.regs r.pc) awoken.queue.stores awoken.queue.capacity) images v c new
-    (performed_in (around_after change (around_held new.cache.entries asked.hart plan.domain)) asked.hart plan (found r.image awoken.regs r.pc) r.pc new awoken) has sound
-    (performs images v c new (around_after change (around_held new.cache.entries asked.hart plan.domain)) asked.hart plan (found r.image awoken.regs r.pc) r.pc awoken has sound new_thread now refl
-    (finds asked.hart plan.domain).0 (finds asked.hart plan.domain).1
-    (λ t store e. allows plan awoken r.image r.pc t store new_thread needs e)))
-resumes change images v c asked Drain blade plan hart own r thread new same cache now has sound allows finds =
-    drains images v c new asked.hart plan (awake Drain hart).queue.stores (awake Drain hart) has sound (ap (λ p. slice_get p.threads asked.hart) same ∙ thread) now refl refl
+-- a fault ends a hart whose step does not wait
+refuses : (v : World) (c : ℕ) (blade : BladeView) (h pc : ℕ) (hart : HartView) → HasBlade c blade v → IsSoundBlade v.perms blade → hart_of blade h ≡ Some hart → hart.stepping ≡ false
+    → (denial : Option Denial) → DoesMoves v v c (refused_by denial h pc blade hart)
+refuses v c blade h pc hart has sound own awake None = idle v c blade has sound
+refuses v c blade h pc hart has sound own awake (Some denial) =
+    let new = faulting denial.kind denial.address pc hart in
+    record {
+      flat = v.flat;
+      leads = of_harts v v c blade [] v.flat h new (stays c blade v has);
+      kept = λ page e. refl;
+      sound = sound-hart v.perms blade h hart new blade.cache.entries sound own (record { steps = λ s. s; drains = λ d. (d, λ oldest q. q) }) refl refl (λ plan thread all. all) sound.cache;
+    }
+
+-- the answer lets the step do what it waited for
+answers-step : (answer : Answer) (v : World) (c : ℕ) (blade : BladeView) (h : ℕ) (plan : ThreadPlan) (asked : Need) (found : Found) (pc : ℕ) (hart : HartView)
+    → HasBlade c blade v → IsSoundBlade v.perms blade → slice_get blade.plan.threads h ≡ Some plan → hart_of blade h ≡ Some hart → hart.stepping ≡ false
+    → HoldsAsked answer asked blade.cache.entries → FindsOnly blade.cache.entries v.perms → needs_just asked (need_in found plan.domain) ≡ true
+    → DoesMoves v v c (answered_by answer h plan found pc blade hart)
+unfolding HoldsAsked FindsOnly
+answers-step Filled v c blade h plan asked found pc hart has sound thread own awake holds finds just =
+    performs v c blade (around_held blade.cache.entries h plan.domain) h plan found pc hart has sound thread own awake refl (finds h plan.domain)
+    (λ new store e.
+    let s = storing found (around_held blade.cache.entries h plan.domain) pc (thread_of blade.cache.entries hart) new store e in
+    let is = just-page asked (need_in found plan.domain) (record { page = page_at (place_of plan.domain store.address); write = true }) s.needs just in
+    subst (HoldsToWrite blade.cache.entries) is.0 (holds is.1))
+answers-step Denied v c blade h plan asked found pc hart has sound thread own awake holds finds just = refuses v c blade h pc hart has sound own awake (denial_in found)
+
+resumes : (answer : Answer) (images : List Image) (v : World) (c : ℕ) (blade : BladeView) (h : ℕ) (plan : ThreadPlan) (asked : Need) (waits : Waits) (hart : HartView)
+    → HasBlade c blade v → IsSoundBlade v.perms blade → slice_get blade.plan.threads h ≡ Some plan → hart_of blade h ≡ Some hart → IsAwake waits hart
+    → HoldsAsked answer asked blade.cache.entries → FindsOnly blade.cache.entries v.perms
+    → DoesMoves v v c (resumed_by waits answer asked images h plan blade hart)
+resumes answer images v c blade h plan asked Drain hart has sound thread own awake holds finds =
+    drains v c blade h plan hart.queue.stores hart has sound thread own awake refl
+resumes answer images v c blade h plan asked Step hart has sound thread own awake holds finds = at hart.end where
+  with_found : (image : Image) (pc : ℕ) → DoesMoves v v c (resumed_with answer asked h plan (found image hart.regs pc) pc blade hart)
+  with_found image pc = by (needs_just asked (need_in (found image hart.regs pc) plan.domain)) refl (not (drains_first (found image hart.regs pc) hart.queue.stores hart.queue.capacity)) where
+    by : (b : Bool) → needs_just asked (need_in (found image hart.regs pc) plan.domain) ≡ b → (r : Bool)
+        → DoesMoves v v c (if b && r then answered_by answer h plan (found image hart.regs pc) pc blade hart else only blade)
+    by true e true = answers-step answer v c blade h plan asked (found image hart.regs pc) pc hart has sound thread own awake holds finds e
+    by true e false = idle v c blade has sound
+    by false e r = idle v c blade has sound
+
+  code : (pc : ℕ) (image : Option Image) → DoesMoves v v c (unwrap_or (option_map (λ image. resumed_with answer asked h plan (found image hart.regs pc) pc blade hart) image) (only blade))
+  code pc None = idle v c blade has sound
+  code pc (Some image) = with_found image pc
+
+  at : (end : End) → DoesMoves v v c (resumed_at end answer asked images h plan blade hart)
+  at (Running pc) = code pc (slice_get images plan.image)
+  at (Exit value) = idle v c blade has sound
+  at (Fault kind value pc) = idle v c blade has sound
 
 -- ---- the answer to a request
+
+awake-awake : (waits : Waits) (hart : HartView) → IsAwake waits (awake waits hart)
+awake-awake Step hart = refl
+awake-awake Drain hart = refl
 
 awake-queue : (waits : Waits) (hart : HartView) → (awake waits hart).queue.stores ≡ hart.queue.stores
 awake-queue Step hart = refl
 awake-queue Drain hart = refl
 
 -- the blade when a request of it has ended is sound
-pub awaking-sound : (images : List Image) (perms : PageView → Perm) (blade : BladeView) (asked : Asked) (hart : HartView) → IsSoundBlade images perms blade → hart_of blade asked.hart ≡ Some hart
-    → IsRequest images blade.plan.threads blade.harts asked → request_for asked.page blade.requests ≡ Some asked → IsSoundBlade images perms (awaking asked hart blade)
+pub awaking-sound : (perms : PageView → Perm) (blade : BladeView) (asked : Asked) (hart : HartView) → IsSoundBlade perms blade → hart_of blade asked.hart ≡ Some hart
+    → request_for asked.page blade.requests ≡ Some asked → IsSoundBlade perms (awaking asked hart blade)
 unfolding awaking
-awaking-sound images perms blade asked hart sound own request is = record {
+awaking-sound perms blade asked hart sound own is = record {
   cache = sound.cache;
   apart = apart-answered asked.page blade.requests sound.apart;
+  waiters = waiters-answered asked.page blade.requests sound.waiters;
   waiting = waiting-answered blade.harts hart asked blade.requests own sound.apart is sound.waiting;
   stores = allowed-hart perms blade.plan.threads blade.harts asked.hart hart (awake asked.waits hart) own sound.stores
       (λ plan thread all. subst (MayWriteAll perms plan.domain) (sym (awake-queue asked.waits hart)) all);
-  requests = awakes images blade.plan.threads blade.harts asked hart own request blade.requests sound.requests;
+  requests = awakes blade.plan.threads blade.harts asked hart own blade.requests sound.waiters is sound.requests;
 }
 
 -- the request for a page ends, and what waited for it goes on
-answers : (change : Answer) (images : List Image) (w other : World) (c : ℕ) (blade : BladeView) (page : PageView) (asked : Asked) (sent : List Msg)
-    → IsSoundBlade images w.perms blade → request_for page blade.requests ≡ Some asked → AllowsStores change images blade asked → FindsOnly change blade.cache.entries w.perms
+answers : (answer : Answer) (images : List Image) (w other : World) (c : ℕ) (blade : BladeView) (page : PageView) (asked : Asked) (sent : List Msg)
+    → IsSoundBlade w.perms blade → request_for page blade.requests ≡ Some asked → HoldsAsked answer (need_asked asked) blade.cache.entries → FindsOnly blade.cache.entries w.perms
     → other.perms ≡ w.perms
     → LeadsTo w other c (record blade { requests = answered page blade.requests }) sent w.flat
     → (noted : List Rattle.mind_base.specs.declared.notes.Note.Note)
-    → DoesMoves images w other c (and_then (record { blade = blade; sent = sent; noted = noted }) (λ after. resumed_for change images (request_for page after.requests) after))
-unfolding awaking AllowsStores FindsOnly
-answers change images w other c blade page asked sent sound is allows finds same_perms first noted =
-    let found_it = of_found (IsRequest images blade.plan.threads blade.harts) page blade.requests asked sound.requests is in
-    let ends = ends-by images blade asked asked.waits found_it.0 in
+    → DoesMoves w other c (and_then (record { blade = blade; sent = sent; noted = noted }) (λ after. resumed_for answer images (request_for page after.requests) after))
+unfolding awaking FindsOnly
+answers answer images w other c blade page asked sent sound is holds finds same_perms first noted =
+    let found_it = of_found (IsRequest blade.plan.threads blade.harts) page blade.requests asked sound.requests is in
+    let ends = ends-by blade asked asked.waits found_it.0 in
     let plan = ends.0 in
     let hart = ends.1 in
-    let e : Ends images blade asked plan hart = record { thread = ends.2; own = ends.3; request = found_it.0 } in
+    let e : Ends blade asked plan hart = record { thread = ends.2; own = ends.3; request = found_it.0 } in
     let new = awaking asked hart blade in
     let mid_blade : BladeView = record blade { requests = answered page blade.requests } in
     let mid = with_seen_blade c mid_blade sent w.flat other in
     let mid_has = has_blade c mid_blade sent w.flat other in
     let same_requests : answered asked.page blade.requests ≡ answered page blade.requests = ap (λ q. answered q blade.requests) found_it.1 in
     let has : HasBlade c new mid = record { frames = mid_has.frames; asks = λ q. mid_has.asks q ∙ sym (ap (λ rs. asked_in rs q) same_requests) } in
-    let does = resumes change images mid c asked asked.waits blade plan hart ends.3 found_it.0 ends.2 new refl refl
-    (hart_in-set blade.harts asked.hart hart (awake asked.waits hart) ends.3) has
-    (subst (λ p. IsSoundBlade images p new) (sym same_perms) (awaking-sound images w.perms blade asked hart sound ends.3 found_it.0 (ap (λ q. request_for q blade.requests) found_it.1 ∙ is)))
-    allows (subst (FindsOnly change blade.cache.entries) (sym same_perms) finds) in
-    let goes : DoesMoves images mid mid c (resumed_for change images (request_for page blade.requests) blade) =
-    subst (DoesMoves images mid mid c) (sym (resumed-is change images asked blade plan hart e) ∙ ap (λ a. resumed_for change images a blade) (sym is)) does in
+    let does = resumes answer images mid c new asked.hart plan (need_asked asked) asked.waits (awake asked.waits hart) has
+    (subst (λ p. IsSoundBlade p new) (sym same_perms) (awaking-sound w.perms blade asked hart sound ends.3 (ap (λ q. request_for q blade.requests) found_it.1 ∙ is)))
+    ends.2 (hart_in-set blade.harts asked.hart hart (awake asked.waits hart) ends.3) (awake-awake asked.waits hart) holds
+    (subst (FindsOnly blade.cache.entries) (sym same_perms) finds) in
+    let goes : DoesMoves mid mid c (resumed_for answer images (request_for page blade.requests) blade) =
+    subst (DoesMoves mid mid c) (sym (resumed-is answer images asked blade plan hart e) ∙ ap (λ a. resumed_for answer images a blade) (sym is)) does in
     record {
       flat = goes.flat;
       kept = goes.kept;
-      leads = leads_on w other c mid_blade (resumed_for change images (request_for page blade.requests) blade).blade sent
-          (resumed_for change images (request_for page blade.requests) blade).sent w.flat goes.flat first goes.leads;
-      sound = subst (λ p. IsSoundBlade images p (resumed_for change images (request_for page blade.requests) blade).blade) same_perms goes.sound;
+      leads = leads_on w other c mid_blade (resumed_for answer images (request_for page blade.requests) blade).blade sent
+          (resumed_for answer images (request_for page blade.requests) blade).sent w.flat goes.flat first goes.leads;
+      sound = subst (λ p. IsSoundBlade p (resumed_for answer images (request_for page blade.requests) blade).blade) same_perms goes.sound;
     }
 
 -- a request that the world has is found
@@ -216,9 +254,9 @@ came-held blade page frame is (Pushed out old) e = (found-put_pushed blade.cache
     ∙ ap (λ b. if b then Some frame else (if same_page page out then None else frame_of page blade.cache.entries)) (same_page-refl page)
 
 pub fill : (images : List Image) (w : World) (c : ℕ) (blade : BladeView) (page : PageView) (perm : Perm) (writable : Bool) (image : PageImageView) (behind : List Msg)
-    → IsCoherent w → HasBlade c blade w → IsSoundBlade images w.perms blade → w.downs c ≡ Fill page perm writable image ∷ behind
-    → DoesMoves images w (took c behind w) c (after_message images (Fill page perm writable image) blade)
-unfolding came AllowsStores FindsOnly HoldsToWrite
+    → IsCoherent w → HasBlade c blade w → IsSoundBlade w.perms blade → w.downs c ≡ Fill page perm writable image ∷ behind
+    → DoesMoves w (took c behind w) c (after_message images (Fill page perm writable image) blade)
+unfolding came HoldsAsked FindsOnly HoldsToWrite
 fill images w c blade page perm writable image behind coherent has sound head =
     let downs = downs-cons w c (Fill page perm writable image) behind (subst (AreDowns w c) head (coherent.downs c)) in
     let out : w.asks c page ≡ Some writable = downs.0.asked in
@@ -227,21 +265,16 @@ fill images w c blade page perm writable image behind coherent has sound head =
     let entries = entries_after_put blade.cache page frame in
     let after = with_entries blade entries in
     let held = came-held blade page frame sound.cache (put_of blade.cache page) refl in
-    let own_page = (of_found (IsRequest images blade.plan.threads blade.harts) page blade.requests asked.0 sound.requests asked.1).1 in
-    let after_sound : IsSoundBlade images w.perms after = record { cache = cache-put blade.cache page frame sound.cache; apart = sound.apart; requests = sound.requests; waiting = sound.waiting; stores = sound.stores } in
+    let own_page = (of_found (IsRequest blade.plan.threads blade.harts) page blade.requests asked.0 sound.requests asked.1).1 in
+    let after_sound : IsSoundBlade w.perms after = record { cache = cache-put blade.cache page frame sound.cache; apart = sound.apart; waiters = sound.waiters; requests = sound.requests; waiting = sound.waiting; stores = sound.stores } in
     let sent = sent_out (put_of blade.cache page) in
     let left : BladeView = record after { requests = answered page blade.requests } in
     let first = fills w c blade page perm writable image behind has sound.cache head (put_of blade.cache page) refl in
     let mid = with_seen_blade c left sent w.flat (took c behind w) in
     let mid_coherent : IsCoherent mid = run_keeps w mid first.moves coherent first.run in
     answers Filled images w (took c behind w) c after page asked.0 sent after_sound asked.1
-    (λ plan hart code pc thread store same needs e.
-    let s = storing (found code hart.regs pc) (around_held entries asked.0.hart plan.domain) pc (thread_of entries hart) thread store e in
-    let need = same_Some _ _ (sym needs ∙ s.needs) in
-    let is_page : page ≡ page_at (place_of plan.domain store.address) = sym own_page ∙ ap (λ n. n.page) need in
-    let is_write : writable ≡ true = sym asked.2 ∙ ap (λ n. n.write) need in
-    (frame, ap (λ q. frame_of q entries) (sym is_page) ∙ held, is_write))
-    (λ h domain. (refl, finds_allowed mid c left h domain mid_coherent (has_blade c left sent w.flat (took c behind w)))) refl
+    (λ write. (frame, ap (λ q. frame_of q entries) own_page ∙ held, sym asked.2 ∙ write))
+    (λ h domain. finds_allowed mid c left h domain mid_coherent (has_blade c left sent w.flat (took c behind w))) refl
     first _
 
 -- ---- a page that is denied
@@ -259,16 +292,13 @@ denied-asked w c page behind coherent head = by (w.asks c page) refl where
   by (Some write) out = (write, out)
 
 pub deny : (images : List Image) (w : World) (c : ℕ) (blade : BladeView) (page : PageView) (behind : List Msg)
-    → IsCoherent w → HasBlade c blade w → IsSoundBlade images w.perms blade → w.downs c ≡ Deny page ∷ behind
-    → DoesMoves images w (took c behind w) c (after_message images (Deny page) blade)
-unfolding AllowsStores FindsOnly HoldsToWrite
+    → IsCoherent w → HasBlade c blade w → IsSoundBlade w.perms blade → w.downs c ≡ Deny page ∷ behind
+    → DoesMoves w (took c behind w) c (after_message images (Deny page) blade)
+unfolding HoldsAsked FindsOnly
 deny images w c blade page behind coherent has sound head =
     let out = denied-asked w c page behind coherent head in
     let asked = asked_for blade.requests page out.0 (sym (has.asks page) ∙ out.1) in
-    let does = answers Denied images w (took c behind w) c blade page asked.0 [] sound asked.1
-    (λ plan hart code pc thread store same needs e.
-    let s = storing (found code hart.regs pc) (around_denied (around_held blade.cache.entries asked.0.hart plan.domain)) pc (thread_of blade.cache.entries hart) thread store e in
-    let never : false ≡ true = s.allowed in absurd (cc))
-    (λ h domain. (refl, λ page allowed. let never : ⊥ = cc in absurd never)) refl
+    let does = answers Denied images w (took c behind w) c blade page asked.0 [] sound asked.1 tt
+    (λ h domain. finds_allowed w c blade h domain coherent has) refl
     (denied c blade w page behind has head) [] in
     record { flat = does.flat; leads = does.leads; kept = does.kept; sound = does.sound }

@@ -59,15 +59,15 @@ did c act old new noted given = by (slice_get old.blades c) refl given where
   by (Some blade) there g = its blade there (act blade) refl g
 
 -- all blades are sound when one that did something is
-pub still_sound : (images : List Image) (c : ℕ) (blade : BladeView) (e : Effect) (old new : RackView) (noted : List Note) → slice_get old.blades c ≡ Some blade → BladeActs c e old new noted
-    → AreBladesSound images old → IsSoundBlade images (permission_at old.switch.protect) e.blade → AreBladesSound images new
-still_sound images c blade e old new noted there acts all its = subst (AreBladesSound images) (sym acts.after) each where
-  each : AreBladesSound images (with_net acts.net (with_blade c e.blade old))
+pub still_sound : (c : ℕ) (blade : BladeView) (e : Effect) (old new : RackView) (noted : List Note) → slice_get old.blades c ≡ Some blade → BladeActs c e old new noted
+    → AreBladesSound old → IsSoundBlade (permission_at old.switch.protect) e.blade → AreBladesSound new
+still_sound c blade e old new noted there acts all its = subst AreBladesSound (sym acts.after) each where
+  each : AreBladesSound (with_net acts.net (with_blade c e.blade old))
   each n other is = by (n == c) refl where
-    by : (b : Bool) → (n == c) ≡ b → IsSoundBlade images (permission_at old.switch.protect) other
+    by : (b : Bool) → (n == c) ≡ b → IsSoundBlade (permission_at old.switch.protect) other
     by true s =
         let same : e.blade ≡ other = same_Some _ _ (sym (slice_get-set old.blades c blade e.blade there) ∙ ap (slice_get (slice_set old.blades c e.blade)) (sym (eqb-true n c s)) ∙ is) in
-        subst (IsSoundBlade images (permission_at old.switch.protect)) same its
+        subst (IsSoundBlade (permission_at old.switch.protect)) same its
     by false s = all n other (sym (slice_get-set_other old.blades c e.blade n s) ∙ is)
 
 -- ---- events
@@ -87,15 +87,15 @@ newest_after c blade e old new noted flat newer there acts kept held page = by (
   by None e = kept page (sym now ∙ e)
   by (Some frame) e = sym (held page frame e)
 
-leads : (images : List Image) (c : ℕ) (act : BladeView → Option Effect) (old new : RackView) (noted : List Note) (flat : PageView → PageImageView)
-    → ((blade : BladeView) (e : Effect) → HasBlade c blade (seen old flat) → IsSoundBlade images (permission_at old.switch.protect) blade → act blade ≡ Some e → DoesMoves images (seen old flat) (seen old flat) c e)
-    → IsCoherent (seen old flat) → AreBladesSound images old → BladeDoes c act old new noted → BladeLeads images c (seen old flat) (seen new) new
-leads images c act old new noted flat moves safe all given =
+leads : (c : ℕ) (act : BladeView → Option Effect) (old new : RackView) (noted : List Note) (flat : PageView → PageImageView)
+    → ((blade : BladeView) (e : Effect) → HasBlade c blade (seen old flat) → IsSoundBlade (permission_at old.switch.protect) blade → act blade ≡ Some e → DoesMoves (seen old flat) (seen old flat) c e)
+    → IsCoherent (seen old flat) → AreBladesSound old → BladeDoes c act old new noted → BladeLeads c (seen old flat) (seen new) new
+leads c act old new noted flat moves safe all given =
     let d = did c act old new noted given in
     let does = moves d.blade d.effect (seen-has old flat c d.blade d.there) (all c d.blade d.there) d.does in
     let run = subst (Run (seen old flat) does.leads.moves) (sym (seen-acted c d.blade d.effect old new noted flat does.flat d.there d.acts)) does.leads.run in
     record {
-      leads = record { flat = does.flat; moves = does.leads.moves; run = run; sound = still_sound images c d.blade d.effect old new noted d.there d.acts all does.sound };
+      leads = record { flat = does.flat; moves = does.leads.moves; run = run; sound = still_sound c d.blade d.effect old new noted d.there d.acts all does.sound };
       newest = newest_after c d.blade d.effect old new noted flat does.flat d.there d.acts does.kept
           (λ page frame held. ((run_keeps (seen old flat) (seen new does.flat) does.leads.moves safe run).frames c page frame held).newest);
     }
@@ -113,29 +113,29 @@ of_hart P hart act old new noted given does = by (slice_get old.plan.threads har
   by None e does = absurd does
   by (Some thread) e does = record { thread = thread; planned = e; does = given thread.blade does }
 
-pub step_leads : (images : List Image) (hart : ℕ) (old new : RackView) (noted : List Note) (flat : PageView → PageImageView) → IsCoherent (seen old flat) → AreBladesSound images old
-    → Leads images (Step hart) old new noted → OfHart hart old (λ c. BladeLeads images c (seen old flat) (seen new) new)
-step_leads images hart old new noted flat safe all = of_hart (λ c. BladeLeads images c (seen old flat) (seen new) new) hart (after_step images hart) old new noted
-    (λ c. leads images c (after_step images hart) old new noted flat (λ blade e has sound is. step images (seen old flat) c blade hart e safe has sound is) safe all)
+pub step_leads : (images : List Image) (hart : ℕ) (old new : RackView) (noted : List Note) (flat : PageView → PageImageView) → IsCoherent (seen old flat) → AreBladesSound old
+    → Leads images (Step hart) old new noted → OfHart hart old (λ c. BladeLeads c (seen old flat) (seen new) new)
+step_leads images hart old new noted flat safe all = of_hart (λ c. BladeLeads c (seen old flat) (seen new) new) hart (after_step images hart) old new noted
+    (λ c. leads c (after_step images hart) old new noted flat (λ blade e has sound is. step images (seen old flat) c blade hart e safe has sound is) safe all)
 
-pub drain_leads : (images : List Image) (hart : ℕ) (old new : RackView) (noted : List Note) (flat : PageView → PageImageView) → IsCoherent (seen old flat) → AreBladesSound images old
-    → Leads images (Drain hart) old new noted → OfHart hart old (λ c. BladeLeads images c (seen old flat) (seen new) new)
-drain_leads images hart old new noted flat safe all = of_hart (λ c. BladeLeads images c (seen old flat) (seen new) new) hart (after_drain hart) old new noted
-    (λ c. leads images c (after_drain hart) old new noted flat (λ blade e has sound is. drain images (seen old flat) c blade hart e has sound is) safe all)
+pub drain_leads : (images : List Image) (hart : ℕ) (old new : RackView) (noted : List Note) (flat : PageView → PageImageView) → IsCoherent (seen old flat) → AreBladesSound old
+    → Leads images (Drain hart) old new noted → OfHart hart old (λ c. BladeLeads c (seen old flat) (seen new) new)
+drain_leads images hart old new noted flat safe all = of_hart (λ c. BladeLeads c (seen old flat) (seen new) new) hart (after_drain hart) old new noted
+    (λ c. leads c (after_drain hart) old new noted flat (λ blade e has sound is. drain (seen old flat) c blade hart e has sound is) safe all)
 
-pub evict_leads : (images : List Image) (c : ℕ) (page : PageView) (old new : RackView) (noted : List Note) (flat : PageView → PageImageView) → IsCoherent (seen old flat) → AreBladesSound images old
-    → Leads images (Evict c page) old new noted → BladeLeads images c (seen old flat) (seen new) new
-evict_leads images c page old new noted flat safe all = leads images c (λ blade. Some (given_up page blade)) old new noted flat
-    (λ blade e has sound is. subst (DoesMoves images (seen old flat) (seen old flat) c) (same_Some _ _ is) (evict images (seen old flat) c blade page has sound)) safe all
+pub evict_leads : (images : List Image) (c : ℕ) (page : PageView) (old new : RackView) (noted : List Note) (flat : PageView → PageImageView) → IsCoherent (seen old flat) → AreBladesSound old
+    → Leads images (Evict c page) old new noted → BladeLeads c (seen old flat) (seen new) new
+evict_leads images c page old new noted flat safe all = leads c (λ blade. Some (given_up page blade)) old new noted flat
+    (λ blade e has sound is. subst (DoesMoves (seen old flat) (seen old flat) c) (same_Some _ _ is) (evict (seen old flat) c blade page has sound)) safe all
 
 -- ---- messages
 
 -- any message that comes
 hears : (images : List Image) (w : World) (c : ℕ) (blade : BladeView) (message : Msg) (behind : List Msg)
-    → IsCoherent w → HasBlade c blade w → IsSoundBlade images w.perms blade → w.downs c ≡ message ∷ behind
-    → DoesMoves images w (took c behind w) c (after_message images message blade)
+    → IsCoherent w → HasBlade c blade w → IsSoundBlade w.perms blade → w.downs c ≡ message ∷ behind
+    → DoesMoves w (took c behind w) c (after_message images message blade)
 hears images w c blade message behind coherent has sound head = by message head (downs-cons w c message behind (subst (AreDowns w c) head (coherent.downs c))).0 where
-  by : (m : Msg) → w.downs c ≡ m ∷ behind → IsDown w c m behind → DoesMoves images w (took c behind w) c (after_message images m blade)
+  by : (m : Msg) → w.downs c ≡ m ∷ behind → IsDown w c m behind → DoesMoves w (took c behind w) c (after_message images m blade)
   by (Fill page perm writable image) head down = fill images w c blade page perm writable image behind coherent has sound head
   by (Deny page) head down = deny images w c blade page behind coherent has sound head
   by (Inv number range asked) head down = invalidate images w c blade number range asked behind has sound head
@@ -144,30 +144,30 @@ hears images w c blade message behind coherent has sound head = by message head 
 
 -- a message that a blade is handed, before those that it has not been handed yet
 pub blade_handed : (images : List Image) (old new : RackView) (flat : PageView → PageImageView) (c : ℕ) (message : Msg) (rest : List Msg) (noted : List Note)
-    → IsCoherent (handing c (message ∷ rest) (seen old flat)) → AreBladesSound images old → HandsTo Down images c message old new noted
-    → BladeLeads images c (handing c (message ∷ rest) (seen old flat)) (λ newer. handing c rest (seen new newer)) new
+    → IsCoherent (handing c (message ∷ rest) (seen old flat)) → AreBladesSound old → HandsTo Down images c message old new noted
+    → BladeLeads c (handing c (message ∷ rest) (seen old flat)) (λ newer. handing c rest (seen new newer)) new
 blade_handed images old new flat c message rest noted safe all given =
     let w = handing c (message ∷ rest) (seen old flat) in
     let behind = rest ++ pending_on old.net Down c in
     let d = did c (λ blade. Some (after_message images message blade)) old new noted given in
     let has : HasBlade c d.blade w = let h = seen-has old flat c d.blade d.there in record { frames = h.frames; asks = h.asks } in
-    let does : DoesMoves images w (took c behind w) c d.effect = subst (DoesMoves images w (took c behind w) c) (same_Some _ _ d.does)
+    let does : DoesMoves w (took c behind w) c d.effect = subst (DoesMoves w (took c behind w) c) (same_Some _ _ d.does)
     (hears images w c d.blade message behind safe has (all c d.blade d.there) (put-here c (message ∷ behind) (pending_on old.net Down))) in
     let newer = does.flat in
     let last : with_seen_blade c d.effect.blade d.effect.sent newer (took c behind w) ≡ handing c rest (with_seen_blade c d.effect.blade d.effect.sent newer (seen old flat)) =
     λ i. record (with_seen_blade c d.effect.blade d.effect.sent newer (seen old flat)) { downs = λ n. put-again c behind (message ∷ behind) (pending_on old.net Down) n i } in
     let run = subst (Run w does.leads.moves) (last ∙ ap (handing c rest) (sym (seen-acted c d.blade d.effect old new noted flat newer d.there d.acts))) does.leads.run in
     record {
-      leads = record { flat = newer; moves = does.leads.moves; run = run; sound = still_sound images c d.blade d.effect old new noted d.there d.acts all does.sound };
+      leads = record { flat = newer; moves = does.leads.moves; run = run; sound = still_sound c d.blade d.effect old new noted d.there d.acts all does.sound };
       newest = newest_after c d.blade d.effect old new noted flat newer d.there d.acts does.kept
           (λ page frame held. ((run_keeps w (handing c rest (seen new newer)) does.leads.moves safe run).frames c page frame held).newest);
     }
 
 -- and it may come to that blade
 pub handed_may_come : (images : List Image) (old : RackView) (flat : PageView → PageImageView) (c : ℕ) (blade : BladeView) (message : Msg) (rest : List Msg)
-    → IsCoherent (handing c (message ∷ rest) (seen old flat)) → AreBladesSound images old → slice_get old.blades c ≡ Some blade → MayCome blade message
+    → IsCoherent (handing c (message ∷ rest) (seen old flat)) → AreBladesSound old → slice_get old.blades c ≡ Some blade → MayCome blade message
 handed_may_come images old flat c blade message rest safe all there =
     let w = handing c (message ∷ rest) (seen old flat) in
     let behind = rest ++ pending_on old.net Down c in
     let has : HasBlade c blade w = let h = seen-has old flat c blade there in record { frames = h.frames; asks = h.asks } in
-    may_come images w c blade message behind safe has (all c blade there) (put-here c (message ∷ behind) (pending_on old.net Down))
+    may_come w c blade message behind safe has (all c blade there) (put-here c (message ∷ behind) (pending_on old.net Down))

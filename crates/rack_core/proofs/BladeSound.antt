@@ -2,26 +2,20 @@
 use Rattle.std.proofs.Common.{◌≡◌, ℕ, ◌==◌, Bool, true, false, cond, not, ap, sym, refl, subst, List, [], ◌∷◌, ◌++◌, slice_get, slice_set, Option, Some, None, ◌∙◌}
 use Rattle.std.specs.Prelude.{option_and_then}
 use Rattle.std.specs.List.{AllByRecursion}
-use Rattle.std.proofs.lemmas.Bool.{eqb-true}
+use Rattle.std.proofs.lemmas.Bool.{eqb-true, false≢true}
 use Rattle.std.proofs.lemmas.Option.{same_Some}
 use Rattle.mind_base.specs.Page.{PageView}
 use Rattle.mind_base.specs.Pending.{PendingView}
 use Rattle.mind_base.specs.declared.commands.Perm.{Perm}
-use Rattle.mind_base.specs.declared.ends.End.{End}
-use Rattle.mind_base.specs.declared.ends.End.TheVariants.{Running}
-use Rattle.mind_base.specs.declared.images.Image.{Image}
 use Rattle.mind_base.specs.declared.plans.ThreadPlan.{ThreadPlan}
-use Rattle.hart_effect.specs.Deed.{found}
-use Rattle.hart_effect.specs.Place.{place_of, page_at}
 use Rattle.page_cache.specs.PageCache.{same_page}
-use Rattle.page_cache.proofs.Laws.{same_page-true, same_page-refl}
+use Rattle.page_cache.proofs.Laws.{same_page-true}
 use Rattle.compute_blade.specs.Blade.{HartView, request_for, answered}
 use Rattle.compute_blade.specs.Messages.{awake}
-use Rattle.compute_blade.specs.Steps.{need_in}
 use Rattle.compute_blade.specs.declared.kept.Asked.{Asked}
 use Rattle.compute_blade.specs.declared.kept.Waits.{Waits}
 use Rattle.compute_blade.specs.declared.kept.Waits.TheVariants.{Step, Drain}
-use Rattle.rack_core.specs.BladeMoves.{hart_in, IsStepRequest, IsDrainRequest, IsRequestBy, IsRequest, MayWriteAll, AreStoresAllowed}
+use Rattle.rack_core.specs.BladeMoves.{hart_in, IsStepRequest, IsDrainRequest, IsRequestBy, IsRequest, AreWaitersApart, MayWriteAll, AreStoresAllowed}
 use Rattle.rack_core.proofs.Lookups.{slice_get-set, slice_get-set_other}
 
 abbrev pub Harts : Type 0
@@ -46,27 +40,22 @@ hart_in-other harts h new other e = ap (option_and_then (λ hart. hart)) (slice_
 abbrev pub HasOldest : PendingView → List PendingView → Type 0
 HasOldest oldest stores = (newer : List PendingView) × (stores ≡ oldest ∷ newer)
 
--- a hart whose step waits stands where it stood, and one whose drain waits has the same oldest store
+-- a hart whose step waits waits still, and so does one whose drain waits, which has the same oldest store
 pub record Continues (old new : HartView) : Type 0 where
-  pub steps : old.stepping ≡ true → (new.stepping ≡ true) × (new.end ≡ old.end) × (new.regs ≡ old.regs)
+  pub steps : old.stepping ≡ true → new.stepping ≡ true
   pub drains : old.draining ≡ true → (new.draining ≡ true) × ((oldest : PendingView) → HasOldest oldest old.queue.stores → HasOldest oldest new.queue.stores)
 
 -- a request whose hart is another one
-request-other : (images : List Image) (threads : List ThreadPlan) (harts : Harts) (h : ℕ) (new : HartView) (asked : Asked) → (asked.hart == h) ≡ false
-    → (waits : Waits) → IsRequestBy waits images threads harts asked → IsRequestBy waits images threads (slice_set harts h (Some new)) asked
-request-other images threads harts h new asked away Step r = record {
+request-other : (threads : List ThreadPlan) (harts : Harts) (h : ℕ) (new : HartView) (asked : Asked) → (asked.hart == h) ≡ false
+    → (waits : Waits) → IsRequestBy waits threads harts asked → IsRequestBy waits threads (slice_set harts h (Some new)) asked
+request-other threads harts h new asked away Step r = record {
   plan = r.plan;
   hart = r.hart;
-  image = r.image;
-  pc = r.pc;
   thread = r.thread;
   own = hart_in-other harts h new asked.hart away ∙ r.own;
   waits = r.waits;
-  runs = r.runs;
-  code = r.code;
-  needs = r.needs;
 }
-request-other images threads harts h new asked away Drain r = record {
+request-other threads harts h new asked away Drain r = record {
   plan = r.plan;
   hart = r.hart;
   oldest = r.oldest;
@@ -80,23 +69,17 @@ request-other images threads harts h new asked away Drain r = record {
 }
 
 -- a request of the hart itself
-step-same : (images : List Image) (threads : List ThreadPlan) (harts : Harts) (old new : HartView) (asked : Asked) → hart_in harts asked.hart ≡ Some old
-    → (old.stepping ≡ true → (new.stepping ≡ true) × (new.end ≡ old.end) × (new.regs ≡ old.regs))
-    → IsStepRequest images threads harts asked → IsStepRequest images threads (slice_set harts asked.hart (Some new)) asked
-step-same images threads harts old new asked own steps r =
+step-same : (threads : List ThreadPlan) (harts : Harts) (old new : HartView) (asked : Asked) → hart_in harts asked.hart ≡ Some old
+    → (old.stepping ≡ true → new.stepping ≡ true)
+    → IsStepRequest threads harts asked → IsStepRequest threads (slice_set harts asked.hart (Some new)) asked
+step-same threads harts old new asked own steps r =
     let is : r.hart ≡ old = same_Some _ _ (sym r.own ∙ own) in
-    let now = steps (ap (λ hart. hart.stepping) (sym is) ∙ r.waits) in
     record {
       plan = r.plan;
       hart = new;
-      image = r.image;
-      pc = r.pc;
       thread = r.thread;
       own = hart_in-set harts asked.hart old new own;
-      waits = now.0;
-      runs = now.1 ∙ ap (λ hart. hart.end) (sym is) ∙ r.runs;
-      code = r.code;
-      needs = ap (λ regs. need_in (found r.image regs r.pc) r.plan.domain) (now.2 ∙ ap (λ hart. hart.regs) (sym is)) ∙ r.needs;
+      waits = steps (ap (λ hart. hart.stepping) (sym is) ∙ r.waits);
     }
 
 drain-same : (threads : List ThreadPlan) (harts : Harts) (old new : HartView) (asked : Asked) → hart_in harts asked.hart ≡ Some old
@@ -119,27 +102,27 @@ drain-same threads harts old new asked own drains r =
       write = r.write;
     }
 
-request-same : (images : List Image) (threads : List ThreadPlan) (harts : Harts) (old new : HartView) (asked : Asked) → hart_in harts asked.hart ≡ Some old → Continues old new
-    → (waits : Waits) → IsRequestBy waits images threads harts asked → IsRequestBy waits images threads (slice_set harts asked.hart (Some new)) asked
-request-same images threads harts old new asked own goes Step r = step-same images threads harts old new asked own goes.steps r
-request-same images threads harts old new asked own goes Drain r = drain-same threads harts old new asked own goes.drains r
+request-same : (threads : List ThreadPlan) (harts : Harts) (old new : HartView) (asked : Asked) → hart_in harts asked.hart ≡ Some old → Continues old new
+    → (waits : Waits) → IsRequestBy waits threads harts asked → IsRequestBy waits threads (slice_set harts asked.hart (Some new)) asked
+request-same threads harts old new asked own goes Step r = step-same threads harts old new asked own goes.steps r
+request-same threads harts old new asked own goes Drain r = drain-same threads harts old new asked own goes.drains r
 
 -- by whether a request is of the hart
-of_hart : (images : List Image) (threads : List ThreadPlan) (harts : Harts) (h : ℕ) (new : HartView) (asked : Asked)
-    → (asked.hart ≡ h → IsRequest images threads (slice_set harts asked.hart (Some new)) asked)
-    → IsRequest images threads harts asked → IsRequest images threads (slice_set harts h (Some new)) asked
-of_hart images threads harts h new asked here r = by (asked.hart == h) refl where
-  by : (b : Bool) → (asked.hart == h) ≡ b → IsRequest images threads (slice_set harts h (Some new)) asked
-  by true e = let is = eqb-true asked.hart h e in subst (λ n. IsRequest images threads (slice_set harts n (Some new)) asked) is (here is)
-  by false e = request-other images threads harts h new asked e asked.waits r
+of_hart : (threads : List ThreadPlan) (harts : Harts) (h : ℕ) (new : HartView) (asked : Asked)
+    → (asked.hart ≡ h → IsRequest threads (slice_set harts asked.hart (Some new)) asked)
+    → IsRequest threads harts asked → IsRequest threads (slice_set harts h (Some new)) asked
+of_hart threads harts h new asked here r = by (asked.hart == h) refl where
+  by : (b : Bool) → (asked.hart == h) ≡ b → IsRequest threads (slice_set harts h (Some new)) asked
+  by true e = let is = eqb-true asked.hart h e in subst (λ n. IsRequest threads (slice_set harts n (Some new)) asked) is (here is)
+  by false e = request-other threads harts h new asked e asked.waits r
 
-pub goes_on : (images : List Image) (threads : List ThreadPlan) (harts : Harts) (h : ℕ) (old new : HartView) → hart_in harts h ≡ Some old → Continues old new
-    → (requests : List Asked) → AllByRecursion (IsRequest images threads harts) requests → AllByRecursion (IsRequest images threads (slice_set harts h (Some new))) requests
-goes_on images threads harts h old new own goes [] all = tt
-goes_on images threads harts h old new own goes (asked ∷ requests) all = (
-  of_hart images threads harts h new asked
-      (λ is. request-same images threads harts old new asked (ap (hart_in harts) is ∙ own) goes asked.waits all.0) all.0,
-  goes_on images threads harts h old new own goes requests all.1,
+pub goes_on : (threads : List ThreadPlan) (harts : Harts) (h : ℕ) (old new : HartView) → hart_in harts h ≡ Some old → Continues old new
+    → (requests : List Asked) → AllByRecursion (IsRequest threads harts) requests → AllByRecursion (IsRequest threads (slice_set harts h (Some new))) requests
+goes_on threads harts h old new own goes [] all = tt
+goes_on threads harts h old new own goes (asked ∷ requests) all = (
+  of_hart threads harts h new asked
+      (λ is. request-same threads harts old new asked (ap (hart_in harts) is ∙ own) goes asked.waits all.0) all.0,
+  goes_on threads harts h old new own goes requests all.1,
 )
 
 -- ---- a request is added
@@ -170,52 +153,58 @@ of_others P Q page step (asked ∷ requests) all = by (of_others P Q page step r
   by rest true e = rest
   by rest false e = (step asked e all.0, rest)
 
-never_same : (page other : PageView) → other ≡ page → same_page page other ≡ false → ⊥
-never_same page other is e = let no : true ≡ false = sym (ap (same_page page) is ∙ same_page-refl page) ∙ e in cc
+-- what two facts say of each request
+all-both : (P Q : Asked → Type 0) (requests : List Asked) → AllByRecursion P requests → AllByRecursion Q requests → AllByRecursion (λ asked. P asked × Q asked) requests
+all-both P Q [] all more = tt
+all-both P Q (asked ∷ requests) all more = ((all.0, more.0), all-both P Q requests all.1 more.1)
 
-same_need : (images : List Image) (threads : List ThreadPlan) (harts : Harts) (one two : Asked) → two.hart ≡ one.hart
-    → IsStepRequest images threads harts one → IsStepRequest images threads harts two → two.page ≡ one.page
-same_need images threads harts one two same a b =
-    let plan : b.plan ≡ a.plan = same_Some _ _ (sym b.thread ∙ ap (slice_get threads) same ∙ a.thread) in
-    let hart : b.hart ≡ a.hart = same_Some _ _ (sym b.own ∙ ap (hart_in harts) same ∙ a.own) in
-    let image : b.image ≡ a.image = same_Some _ _ (sym b.code ∙ ap (λ (p : ThreadPlan). slice_get images p.image) plan ∙ a.code) in
-    let pc : b.pc ≡ a.pc = same_Running b.pc a.pc (sym b.runs ∙ ap (λ (x : HartView). x.end) hart ∙ a.runs) in
-    let need = sym b.needs ∙ (λ i. need_in (found (image i) (hart i).regs (pc i)) (plan i).domain) ∙ a.needs in
-    ap (λ n. n.page) (same_Some _ _ need)
-  where
-    same_Running : (a b : ℕ) → (let e : End = Running a in e) ≡ Running b → a ≡ b
-    same_Running a b e = cc
+pub all-map : (P Q : Asked → Type 0) (requests : List Asked) → ((asked : Asked) → P asked → Q asked) → AllByRecursion P requests → AllByRecursion Q requests
+all-map P Q [] step all = tt
+all-map P Q (asked ∷ requests) step all = (step asked all.0, all-map P Q requests step all.1)
 
-same_store : (threads : List ThreadPlan) (harts : Harts) (one two : Asked) → two.hart ≡ one.hart
-    → IsDrainRequest threads harts one → IsDrainRequest threads harts two → two.page ≡ one.page
-same_store threads harts one two same a b =
-    let plan : b.plan ≡ a.plan = same_Some _ _ (sym b.thread ∙ ap (slice_get threads) same ∙ a.thread) in
-    let hart : b.hart ≡ a.hart = same_Some _ _ (sym b.own ∙ ap (hart_in harts) same ∙ a.own) in
-    let queue : b.oldest ∷ b.newer ≡ a.oldest ∷ a.newer = sym b.queue ∙ ap (λ (x : HartView). x.queue.stores) hart ∙ a.queue in
-    let oldest : b.oldest ≡ a.oldest = cc in
-    sym b.page ∙ (λ i. page_at (place_of (plan i).domain (oldest i).address)) ∙ a.page
+-- another request is waited for by something else
+abbrev pub WaitsElse : Asked → Asked → Type 0
+WaitsElse asked other = asked.hart ≡ other.hart → asked.waits ≡ other.waits → ⊥
+
+-- what waits for a request waits for no other one
+waiters-of : (page : PageView) (asked : Asked) (requests : List Asked) → AreWaitersApart requests → request_for page requests ≡ Some asked
+    → AllByRecursion (λ other. same_page page other.page ≡ false → WaitsElse asked other) requests
+waiters-of page asked [] apart e = tt
+waiters-of page asked (first ∷ requests) apart e = by (λ e. waiters-of page asked requests apart.1 e) (same_page page first.page) refl e where
+  by : (request_for page requests ≡ Some asked → AllByRecursion (λ other. same_page page other.page ≡ false → WaitsElse asked other) requests)
+      → (b : Bool) → same_page page first.page ≡ b → cond b (Some first) (request_for page requests) ≡ Some asked
+      → AllByRecursion (λ other. same_page page other.page ≡ false → WaitsElse asked other) (first ∷ requests)
+  by rest true s e =
+      let is : first ≡ asked = same_Some _ _ e in
+      (λ other. let never : false ≡ true = sym other ∙ s in absurd (false≢true never),
+        all-map (WaitsElse first) (λ other. same_page page other.page ≡ false → WaitsElse asked other) requests
+        (λ other else away. subst (λ a. WaitsElse a other) is else) apart.0)
+  by rest false s e =
+      let here : WaitsElse first asked = (of_found (WaitsElse first) page requests asked apart.0 e).0 in
+      (λ away hart waits. here (sym hart) (sym waits), rest e)
 
 -- the hart of a request that ends is awake, and what it waits for besides is still out
-still : (images : List Image) (threads : List ThreadPlan) (harts : Harts) (asked : Asked) (hart : HartView) → hart_in harts asked.hart ≡ Some hart
-    → (waits : Waits) → IsRequestBy waits images threads harts asked → (other : Asked) → other.hart ≡ asked.hart → same_page asked.page other.page ≡ false
-    → (kind : Waits) → IsRequestBy kind images threads harts other
-    → IsRequestBy kind images threads (slice_set harts other.hart (Some (awake waits hart))) other
-still images threads harts asked hart own Step r other same apart Step s =
-    absurd (never_same asked.page other.page (same_need images threads harts asked other same r s) apart)
-still images threads harts asked hart own Step r other same apart Drain s =
+still : (threads : List ThreadPlan) (harts : Harts) (asked : Asked) (hart : HartView) → hart_in harts asked.hart ≡ Some hart
+    → (waits : Waits) → (other : Asked) → other.hart ≡ asked.hart
+    → (kind : Waits) → (waits ≡ kind → ⊥) → IsRequestBy kind threads harts other
+    → IsRequestBy kind threads (slice_set harts other.hart (Some (awake waits hart))) other
+still threads harts asked hart own Step other same Step else s = absurd (else refl)
+still threads harts asked hart own Step other same Drain else s =
     drain-same threads harts hart (awake Step hart) other (ap (hart_in harts) same ∙ own) (λ e. (e, λ oldest q. q)) s
-still images threads harts asked hart own Drain r other same apart Step s =
-    step-same images threads harts hart (awake Drain hart) other (ap (hart_in harts) same ∙ own) (λ e. (e, refl, refl)) s
-still images threads harts asked hart own Drain r other same apart Drain s =
-    absurd (never_same asked.page other.page (same_store threads harts asked other same r s) apart)
+still threads harts asked hart own Drain other same Step else s =
+    step-same threads harts hart (awake Drain hart) other (ap (hart_in harts) same ∙ own) (λ e. e) s
+still threads harts asked hart own Drain other same Drain else s = absurd (else refl)
 
-pub awakes : (images : List Image) (threads : List ThreadPlan) (harts : Harts) (asked : Asked) (hart : HartView) → hart_in harts asked.hart ≡ Some hart
-    → IsRequest images threads harts asked → (requests : List Asked) → AllByRecursion (IsRequest images threads harts) requests
-    → AllByRecursion (IsRequest images threads (slice_set harts asked.hart (Some (awake asked.waits hart)))) (answered asked.page requests)
-awakes images threads harts asked hart own r requests all =
-    of_others (IsRequest images threads harts) (IsRequest images threads (slice_set harts asked.hart (Some (awake asked.waits hart)))) asked.page
-    (λ other apart s. of_hart images threads harts asked.hart (awake asked.waits hart) other
-    (λ is. still images threads harts asked hart own asked.waits r other is apart other.waits s) s) requests all
+pub awakes : (threads : List ThreadPlan) (harts : Harts) (asked : Asked) (hart : HartView) → hart_in harts asked.hart ≡ Some hart
+    → (requests : List Asked) → AreWaitersApart requests → request_for asked.page requests ≡ Some asked → AllByRecursion (IsRequest threads harts) requests
+    → AllByRecursion (IsRequest threads (slice_set harts asked.hart (Some (awake asked.waits hart)))) (answered asked.page requests)
+awakes threads harts asked hart own requests apart is all =
+    of_others (λ other. IsRequest threads harts other × (same_page asked.page other.page ≡ false → WaitsElse asked other))
+    (IsRequest threads (slice_set harts asked.hart (Some (awake asked.waits hart)))) asked.page
+    (λ other away s. of_hart threads harts asked.hart (awake asked.waits hart) other
+    (λ same. still threads harts asked hart own asked.waits other same other.waits (s.1 away (sym same)) s.0) s.0) requests
+    (all-both (IsRequest threads harts) (λ other. same_page asked.page other.page ≡ false → WaitsElse asked other) requests all
+    (waiters-of asked.page asked requests apart is))
 
 -- ---- stores that wait
 

@@ -40,11 +40,12 @@ all-resting plan number (thread ∷ threads) (suc h) hart e = all-resting plan n
 never_both : (b : Bool) → b ≡ false → b ≡ true → ⊥
 never_both b f t = let never : false ≡ true = sym f ∙ t in cc
 
-pub first_sound : (images : List Image) (perms : PageView → Perm) (plan : RackPlan) (number : ℕ) → 0 < slice_index plan.frames number → IsSoundBlade images perms (first_blade plan number)
+pub first_sound : (perms : PageView → Perm) (plan : RackPlan) (number : ℕ) → 0 < slice_index plan.frames number → IsSoundBlade perms (first_blade plan number)
 unfolding IsDistinct
-first_sound images perms plan number some = record {
+first_sound perms plan number some = record {
   cache = record { some = some; fits = omega arith; distinct = tt };
   apart = tt;
+  waiters = tt;
   requests = tt;
   waiting = λ h hart own. let rest = all-resting plan number plan.threads h hart own in
       record { step = λ s. absurd (never_both hart.stepping rest.0 s); drain = λ d. absurd (never_both hart.draining rest.1 d) };

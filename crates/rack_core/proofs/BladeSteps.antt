@@ -11,7 +11,7 @@ use Rattle.mind_base.specs.declared.images.Image.{Image}
 use Rattle.mind_base.specs.declared.plans.ThreadPlan.{ThreadPlan}
 use Rattle.hart_effect.specs.Access.{Around, may_write}
 use Rattle.hart_effect.specs.Deed.{Deed, Alone, Storing, found, carried_out, drains_first}
-use Rattle.hart_effect.specs.Place.{place_of, page_at}
+use Rattle.mind_base.specs.Place.{place_of, page_at}
 use Rattle.hart_effect.specs.Thread.{Thread}
 use Rattle.hart_effect.specs.declared.finds.Found.{Found}
 use Rattle.page_cache.specs.PageCache.{IsPageCache, same_page, frame_of, written_frame}
@@ -29,11 +29,11 @@ use Rattle.compute_blade.specs.declared.kept.Waits.{Waits}
 use Rattle.compute_blade.specs.declared.kept.Waits.TheVariants.{Step, Drain}
 use Rattle.coherence.specs.Facts.{IsCoherent, is_writable}
 use Rattle.coherence.specs.World.{World, put_page}
-use Rattle.rack_core.specs.BladeMoves.{HasBlade, LeadsTo, IsRequest, IsSoundBlade, DoesMoves, MayWriteAll, AreWaiting}
+use Rattle.rack_core.specs.BladeMoves.{HasBlade, LeadsTo, IsRequest, IsSoundBlade, DoesMoves, MayWriteAll, AreWaitersApart, AreWaiting}
 use Rattle.rack_core.proofs.BladeWorlds.{stays}
 use Rattle.rack_core.proofs.BladeActs.{asks, stores, uses}
 use Rattle.rack_core.proofs.BladeDeeds.{buffer_of, Allowed, Grows, grows, storing}
-use Rattle.rack_core.proofs.BladeWaits.{apart-more, waiting-kept, waiting-asked}
+use Rattle.rack_core.proofs.BladeWaits.{IsAwake, apart-more, waiters-more, waiting-kept, waiting-asked}
 use Rattle.rack_core.proofs.BladeSound.{Continues, HasOldest, goes_on, hart_in-set, all-more, allowed-hart, allowed-more}
 use Rattle.rack_core.proofs.Lookups.{Entries, unasked, found-with_first, found-used, cache-with_first}
 
@@ -42,19 +42,20 @@ pub of_harts : (w other : World) (c : ℕ) (blade : BladeView) (sent : List Msg)
 of_harts w other c blade sent flat h hart l = record { moves = l.moves; run = l.run }
 
 -- nothing is done
-pub idle : (images : List Image) (w : World) (c : ℕ) (blade : BladeView) → HasBlade c blade w → IsSoundBlade images w.perms blade → DoesMoves images w w c (only blade)
-idle images w c blade has sound = record { flat = w.flat; leads = stays c blade w has; kept = λ page e. refl; sound = sound }
+pub idle : (w : World) (c : ℕ) (blade : BladeView) → HasBlade c blade w → IsSoundBlade w.perms blade → DoesMoves w w c (only blade)
+idle w c blade has sound = record { flat = w.flat; leads = stays c blade w has; kept = λ page e. refl; sound = sound }
 
 -- a hart goes on, and the pages change
-sound-hart : (images : List Image) (perms : PageView → Perm) (blade : BladeView) (h : ℕ) (hart new : HartView) (entries : Entries) → IsSoundBlade images perms blade → hart_of blade h ≡ Some hart
+pub sound-hart : (perms : PageView → Perm) (blade : BladeView) (h : ℕ) (hart new : HartView) (entries : Entries) → IsSoundBlade perms blade → hart_of blade h ≡ Some hart
     → Continues hart new → new.stepping ≡ hart.stepping → new.draining ≡ hart.draining
     → ((plan : ThreadPlan) → slice_get blade.plan.threads h ≡ Some plan → MayWriteAll perms plan.domain hart.queue.stores → MayWriteAll perms plan.domain new.queue.stores)
-    → IsPageCache (holding blade.cache entries) → IsSoundBlade images perms (with_hart h new (with_entries blade entries))
-sound-hart images perms blade h hart new entries sound own goes steps drains allowed shape = record {
+    → IsPageCache (holding blade.cache entries) → IsSoundBlade perms (with_hart h new (with_entries blade entries))
+sound-hart perms blade h hart new entries sound own goes steps drains allowed shape = record {
   cache = shape;
   apart = sound.apart;
+  waiters = sound.waiters;
   waiting = waiting-kept blade.harts h hart new blade.requests own steps drains sound.waiting;
-  requests = goes_on images blade.plan.threads blade.harts h hart new own goes blade.requests sound.requests;
+  requests = goes_on blade.plan.threads blade.harts h hart new own goes blade.requests sound.requests;
   stores = allowed-hart perms blade.plan.threads blade.harts h hart new own sound.stores allowed;
 }
 
@@ -133,16 +134,16 @@ used-found need entries (Exit value) cache is = (λ other. refl, is)
 used-found need entries (Fault kind value pc) cache is = (λ other. refl, is)
 
 -- an instruction is performed by a hart whose step does not wait; where it stores at once, the page is held to be written
-pub performs : (images : List Image) (w : World) (c : ℕ) (blade : BladeView) (around : Around) (h : ℕ) (plan : ThreadPlan) (found : Found) (pc : ℕ) (hart : HartView)
-    → HasBlade c blade w → IsSoundBlade images w.perms blade → slice_get blade.plan.threads h ≡ Some plan → hart_of blade h ≡ Some hart → hart.stepping ≡ false
+pub performs : (w : World) (c : ℕ) (blade : BladeView) (around : Around) (h : ℕ) (plan : ThreadPlan) (found : Found) (pc : ℕ) (hart : HartView)
+    → HasBlade c blade w → IsSoundBlade w.perms blade → slice_get blade.plan.threads h ≡ Some plan → hart_of blade h ≡ Some hart → hart.stepping ≡ false
     → around.domain ≡ plan.domain → FindsAllowed around w.perms
     → ((thread : Thread) (store : PendingView) → carried_out found around pc (thread_of blade.cache.entries hart) ≡ Some (Storing thread store)
     → HoldsToWrite blade.cache.entries (page_at (place_of plan.domain store.address)))
-    → DoesMoves images w w c (performed_in around h plan found pc blade hart)
+    → DoesMoves w w c (performed_in around h plan found pc blade hart)
 unfolding buffer_of
-performs images w c blade around h plan found pc hart has sound thread_is own awake domain finds held = by (carried_out found around pc (thread_of blade.cache.entries hart)) refl where
-  by : (deed : Option Deed) → carried_out found around pc (thread_of blade.cache.entries hart) ≡ deed → DoesMoves images w w c (performed_by deed h plan found blade hart)
-  by None e = idle images w c blade has sound
+performs w c blade around h plan found pc hart has sound thread_is own awake domain finds held = by (carried_out found around pc (thread_of blade.cache.entries hart)) refl where
+  by : (deed : Option Deed) → carried_out found around pc (thread_of blade.cache.entries hart) ≡ deed → DoesMoves w w c (performed_by deed h plan found blade hart)
+  by None e = idle w c blade has sound
   by (Some (Alone thread)) e =
       let used = used-found (need_in found plan.domain) blade.cache.entries thread.end blade.cache sound.cache in
       let entries = frames_after (need_in found plan.domain) thread.end blade.cache.entries in
@@ -152,7 +153,7 @@ performs images w c blade around h plan found pc hart has sound thread_is own aw
         flat = w.flat;
         leads = of_harts w w c (with_entries blade entries) [] w.flat h new (stays c (with_entries blade entries) w (uses c blade w entries has used.0));
         kept = λ page e. refl;
-        sound = sound-hart images w.perms blade h hart new entries sound own (performed-goes around hart new awake refl grown) refl refl
+        sound = sound-hart w.perms blade h hart new entries sound own (performed-goes around hart new awake refl grown) refl refl
             (λ other its. performed-allowed around w.perms other.domain hart.queue.stores new.queue.stores (domain ∙ ap (λ (p : ThreadPlan). p.domain) (same_Some _ _ (sym thread_is ∙ its))) finds grown) used.1;
       }
   by (Some (Storing thread store)) e =
@@ -164,52 +165,56 @@ performs images w c blade around h plan found pc hart has sound thread_is own aw
         flat = effects.flat;
         leads = of_harts w w c (with_entries blade entries) [] effects.flat h new effects.leads;
         kept = effects.kept;
-        sound = sound-hart images w.perms blade h hart new entries sound own (performed-goes around hart new awake refl grown) refl refl
+        sound = sound-hart w.perms blade h hart new entries sound own (performed-goes around hart new awake refl grown) refl refl
             (λ other its. performed-allowed around w.perms other.domain hart.queue.stores new.queue.stores (domain ∙ ap (λ (p : ThreadPlan). p.domain) (same_Some _ _ (sym thread_is ∙ its))) finds grown)
             (effect-shape blade plan.domain (next_tag h hart.stores) store sound.cache);
       }
 
 -- ---- a page is asked for
 
-asked-sound : (images : List Image) (perms : PageView → Perm) (blade : BladeView) (h : ℕ) (hart new : HartView) (asked : Asked) → IsSoundBlade images perms blade → hart_of blade h ≡ Some hart
+asked-sound : (perms : PageView → Perm) (blade : BladeView) (h : ℕ) (hart new : HartView) (asked : Asked) → IsSoundBlade perms blade → hart_of blade h ≡ Some hart
     → Continues hart new → new.queue.stores ≡ hart.queue.stores → request_for asked.page blade.requests ≡ None
+    → AreWaitersApart (blade.requests ++ asked ∷ [])
     → AreWaiting (slice_set blade.harts h (Some new)) (blade.requests ++ asked ∷ [])
-    → IsRequest images blade.plan.threads (slice_set blade.harts h (Some new)) asked
-    → IsSoundBlade images perms (with_hart h new (record blade { requests = blade.requests ++ asked ∷ [] }))
-asked-sound images perms blade h hart new asked sound own goes same free waiting request = record {
+    → IsRequest blade.plan.threads (slice_set blade.harts h (Some new)) asked
+    → IsSoundBlade perms (with_hart h new (record blade { requests = blade.requests ++ asked ∷ [] }))
+asked-sound perms blade h hart new asked sound own goes same free waiters waiting request = record {
   cache = sound.cache;
   apart = apart-more blade.requests asked sound.apart free;
+  waiters = waiters;
   waiting = waiting;
   stores = allowed-hart perms blade.plan.threads blade.harts h hart new own sound.stores (λ plan thread all. subst (MayWriteAll perms plan.domain) (sym same) all);
-  requests = all-more (IsRequest images blade.plan.threads (slice_set blade.harts h (Some new))) blade.requests asked
-      (goes_on images blade.plan.threads blade.harts h hart new own goes blade.requests sound.requests) request;
+  requests = all-more (IsRequest blade.plan.threads (slice_set blade.harts h (Some new))) blade.requests asked
+      (goes_on blade.plan.threads blade.harts h hart new own goes blade.requests sound.requests) request;
 }
 
 same_queue : (waits : Waits) (hart : HartView) → (waiting waits hart).queue.stores ≡ hart.queue.stores
 same_queue Step hart = refl
 same_queue Drain hart = refl
 
-pub asks_for : (images : List Image) (w : World) (c : ℕ) (blade : BladeView) (h : ℕ) (waits : Waits) (need : Need) (hart : HartView)
-    → HasBlade c blade w → IsSoundBlade images w.perms blade → hart_of blade h ≡ Some hart → is_writable (frame_of need.page blade.cache.entries) ≡ false
-    → Continues hart (waiting waits hart)
-    → IsRequest images blade.plan.threads (slice_set blade.harts h (Some (waiting waits hart))) (record { page = need.page; write = need.write; hart = h; waits = waits })
-    → DoesMoves images w w c (asking h waits need blade hart)
-asks_for images w c blade h waits need hart has sound own unwritable goes request = by (is_asked need.page blade.requests) refl where
+pub asks_for : (w : World) (c : ℕ) (blade : BladeView) (h : ℕ) (waits : Waits) (need : Need) (hart : HartView)
+    → HasBlade c blade w → IsSoundBlade w.perms blade → hart_of blade h ≡ Some hart → is_writable (frame_of need.page blade.cache.entries) ≡ false
+    → IsAwake waits hart → Continues hart (waiting waits hart)
+    → IsRequest blade.plan.threads (slice_set blade.harts h (Some (waiting waits hart))) (record { page = need.page; write = need.write; hart = h; waits = waits })
+    → DoesMoves w w c (asking h waits need blade hart)
+asks_for w c blade h waits need hart has sound own unwritable awake goes request = by (is_asked need.page blade.requests) refl where
   asked : Asked
   asked = record { page = need.page; write = need.write; hart = h; waits = waits }
 
-  by : (b : Bool) → is_asked need.page blade.requests ≡ b → DoesMoves images w w c (if b then only blade else record {
+  by : (b : Bool) → is_asked need.page blade.requests ≡ b → DoesMoves w w c (if b then only blade else record {
     blade = with_hart h (waiting waits hart) (record blade { requests = blade.requests ++ record { page = need.page; write = need.write; hart = h; waits = waits } ∷ [] });
     sent = Rattle.wire_msg.specs.declared.msgs.Msg.TheVariants.Get need.page need.write ∷ [];
     noted = [];
   })
-  by true e = idle images w c blade has sound
+  by true e = idle w c blade has sound
   by false e = record {
     flat = w.flat;
     kept = λ page e. refl;
     leads = of_harts w w c (record blade { requests = blade.requests ++ asked ∷ [] }) _ w.flat h (waiting waits hart) (asks c blade w asked has e unwritable);
-    sound = asked-sound images w.perms blade h hart (waiting waits hart) asked sound own goes (same_queue waits hart)
-        (unasked need.page blade.requests e) (waiting-asked blade.harts hart asked blade.requests own sound.waiting) request;
+    sound = asked-sound w.perms blade h hart (waiting waits hart) asked sound own goes (same_queue waits hart)
+        (unasked need.page blade.requests e)
+        (waiters-more blade.plan.threads blade.harts blade.requests asked hart own awake sound.requests sound.waiters)
+        (waiting-asked blade.harts hart asked blade.requests own sound.waiting) request;
   }
 
 -- ---- a drain
@@ -226,16 +231,16 @@ not_to_write None e = refl
 not_to_write (Some frame) e = e
 
 -- a drain of a hart whose drain does not wait
-pub drains : (images : List Image) (w : World) (c : ℕ) (blade : BladeView) (h : ℕ) (plan : ThreadPlan) (queue : List PendingView) (hart : HartView)
-    → HasBlade c blade w → IsSoundBlade images w.perms blade → slice_get blade.plan.threads h ≡ Some plan → hart_of blade h ≡ Some hart → hart.draining ≡ false
-    → hart.queue.stores ≡ queue → DoesMoves images w w c (draining_by h plan queue blade hart)
-drains images w c blade h plan [] hart has sound thread own awake queue = idle images w c blade has sound
-drains images w c blade h plan (oldest ∷ newer) hart has sound thread own awake queue = by (steps.is_writable (frame_of page blade.cache.entries)) refl where
+pub drains : (w : World) (c : ℕ) (blade : BladeView) (h : ℕ) (plan : ThreadPlan) (queue : List PendingView) (hart : HartView)
+    → HasBlade c blade w → IsSoundBlade w.perms blade → slice_get blade.plan.threads h ≡ Some plan → hart_of blade h ≡ Some hart → hart.draining ≡ false
+    → hart.queue.stores ≡ queue → DoesMoves w w c (draining_by h plan queue blade hart)
+drains w c blade h plan [] hart has sound thread own awake queue = idle w c blade has sound
+drains w c blade h plan (oldest ∷ newer) hart has sound thread own awake queue = by (steps.is_writable (frame_of page blade.cache.entries)) refl where
   page : PageView
   page = page_at (place_of plan.domain oldest.address)
 
   by : (b : Bool) → steps.is_writable (frame_of (page_at (place_of plan.domain oldest.address)) blade.cache.entries) ≡ b
-      → DoesMoves images w w c (if b then drained h plan oldest newer blade hart else asking h Drain (record { page = page_at (place_of plan.domain oldest.address); write = true }) blade hart)
+      → DoesMoves w w c (if b then drained h plan oldest newer blade hart else asking h Drain (record { page = page_at (place_of plan.domain oldest.address); write = true }) blade hart)
   by true e =
       let entries = frames_with plan.domain oldest (next_tag h hart.stores) blade.cache.entries in
       let new = one_more (record hart { queue = record hart.queue { stores = newer } }) in
@@ -244,12 +249,12 @@ drains images w c blade h plan (oldest ∷ newer) hart has sound thread own awak
         flat = effects.flat;
         leads = of_harts w w c (with_entries blade entries) [] effects.flat h new effects.leads;
         kept = effects.kept;
-        sound = sound-hart images w.perms blade h hart new entries sound own (record { steps = λ s. (s, refl, refl); drains = λ d. let never : ⊥ = cc in absurd never }) refl refl
+        sound = sound-hart w.perms blade h hart new entries sound own (record { steps = λ s. s; drains = λ d. let never : ⊥ = cc in absurd never }) refl refl
             (λ other its all. (subst (MayWriteAll w.perms other.domain) queue all).1)
             (effect-shape blade plan.domain (next_tag h hart.stores) oldest sound.cache);
       }
-  by false e = asks_for images w c blade h Drain (record { page = page; write = true }) hart has sound own (not_to_write (frame_of page blade.cache.entries) e)
-      (record { steps = λ s. (s, refl, refl); drains = λ d. (refl, λ oldest q. q) })
+  by false e = asks_for w c blade h Drain (record { page = page; write = true }) hart has sound own (not_to_write (frame_of page blade.cache.entries) e) awake
+      (record { steps = λ s. s; drains = λ d. (refl, λ oldest q. q) })
       (record {
         plan = plan;
         hart = waiting Drain hart;
@@ -263,13 +268,13 @@ drains images w c blade h plan (oldest ∷ newer) hart has sound thread own awak
         write = refl;
       })
 
-drains_of : (images : List Image) (w : World) (c : ℕ) (blade : BladeView) (h : ℕ) (plan : ThreadPlan) (hart : HartView)
-    → HasBlade c blade w → IsSoundBlade images w.perms blade → slice_get blade.plan.threads h ≡ Some plan → hart_of blade h ≡ Some hart
-    → DoesMoves images w w c (drain_of h plan blade hart)
-drains_of images w c blade h plan hart has sound thread own = by hart.draining refl where
-  by : (b : Bool) → hart.draining ≡ b → DoesMoves images w w c (if b then only blade else draining_by h plan hart.queue.stores blade hart)
-  by true e = idle images w c blade has sound
-  by false e = drains images w c blade h plan hart.queue.stores hart has sound thread own e refl
+drains_of : (w : World) (c : ℕ) (blade : BladeView) (h : ℕ) (plan : ThreadPlan) (hart : HartView)
+    → HasBlade c blade w → IsSoundBlade w.perms blade → slice_get blade.plan.threads h ≡ Some plan → hart_of blade h ≡ Some hart
+    → DoesMoves w w c (drain_of h plan blade hart)
+drains_of w c blade h plan hart has sound thread own = by hart.draining refl where
+  by : (b : Bool) → hart.draining ≡ b → DoesMoves w w c (if b then only blade else draining_by h plan hart.queue.stores blade hart)
+  by true e = idle w c blade has sound
+  by false e = drains w c blade h plan hart.queue.stores hart has sound thread own e refl
 
 -- ---- a step
 
@@ -306,54 +311,43 @@ record Stands (images : List Image) (blade : BladeView) (h : ℕ) (plan : Thread
   code : slice_get images plan.image ≡ Some image
 
 steps-need : (images : List Image) (w : World) (c : ℕ) (blade : BladeView) (h : ℕ) (plan : ThreadPlan) (hart : HartView) (image : Image) (pc : ℕ)
-    → HasBlade c blade w → IsSoundBlade images w.perms blade → FindsAllowed (around_held blade.cache.entries h plan.domain) w.perms → Stands images blade h plan hart image pc
+    → HasBlade c blade w → IsSoundBlade w.perms blade → FindsAllowed (around_held blade.cache.entries h plan.domain) w.perms → Stands images blade h plan hart image pc
     → (need : Option Need) → need_in (found image hart.regs pc) plan.domain ≡ need
-    → DoesMoves images w w c (stepping_at need h plan (found image hart.regs pc) pc blade hart)
+    → DoesMoves w w c (stepping_at need h plan (found image hart.regs pc) pc blade hart)
 steps-need images w c blade h plan hart image pc has sound finds stands None needs =
-    performs images w c blade (around_held blade.cache.entries h plan.domain) h plan (found image hart.regs pc) pc hart has sound stands.thread stands.own stands.awake refl finds
+    performs w c blade (around_held blade.cache.entries h plan.domain) h plan (found image hart.regs pc) pc hart has sound stands.thread stands.own stands.awake refl finds
     (λ thread store e. let s = storing (found image hart.regs pc) (around_held blade.cache.entries h plan.domain) pc (thread_of blade.cache.entries hart) thread store e in
     let same = sym needs ∙ s.needs in let never : ⊥ = cc in absurd never)
 steps-need images w c blade h plan hart image pc has sound finds stands (Some need) needs = by (serves (found image hart.regs pc) (frame_of need.page blade.cache.entries)) refl where
   by : (b : Bool) → serves (found image hart.regs pc) (frame_of need.page blade.cache.entries) ≡ b
-      → DoesMoves images w w c (if b then performed h plan (found image hart.regs pc) pc blade hart else asking h Step need blade hart)
-  by true e = performs images w c blade (around_held blade.cache.entries h plan.domain) h plan (found image hart.regs pc) pc hart has sound stands.thread stands.own stands.awake refl finds
+      → DoesMoves w w c (if b then performed h plan (found image hart.regs pc) pc blade hart else asking h Step need blade hart)
+  by true e = performs w c blade (around_held blade.cache.entries h plan.domain) h plan (found image hart.regs pc) pc hart has sound stands.thread stands.own stands.awake refl finds
       (λ thread store d.
       let s = storing (found image hart.regs pc) (around_held blade.cache.entries h plan.domain) pc (thread_of blade.cache.entries hart) thread store d in
       let page : need.page ≡ page_at (place_of plan.domain store.address) = ap (λ n. n.page) (same_Some _ _ (sym needs ∙ s.needs)) in
       served blade.cache.entries (page_at (place_of plan.domain store.address)) (found image hart.regs pc)
       (ap (λ q. serves (found image hart.regs pc) (frame_of q blade.cache.entries)) (sym page) ∙ e) s.writes s.allowed)
-  by false e = asks_for images w c blade h Step need hart has sound stands.own (unserved (found image hart.regs pc) (frame_of need.page blade.cache.entries) e)
-      (record { steps = λ s. (refl, refl, refl); drains = λ d. (d, λ oldest q. q) })
-      (record {
-        plan = plan;
-        hart = waiting Step hart;
-        image = image;
-        pc = pc;
-        thread = stands.thread;
-        own = hart_in-set blade.harts h hart (waiting Step hart) stands.own;
-        waits = refl;
-        runs = stands.runs;
-        code = stands.code;
-        needs = needs;
-      })
+  by false e = asks_for w c blade h Step need hart has sound stands.own (unserved (found image hart.regs pc) (frame_of need.page blade.cache.entries) e) stands.awake
+      (record { steps = λ s. refl; drains = λ d. (d, λ oldest q. q) })
+      (record { plan = plan; hart = waiting Step hart; thread = stands.thread; own = hart_in-set blade.harts h hart (waiting Step hart) stands.own; waits = refl })
 
 steps-by : (images : List Image) (w : World) (c : ℕ) (blade : BladeView) (h : ℕ) (plan : ThreadPlan) (hart : HartView) (image : Image) (pc : ℕ)
-    → HasBlade c blade w → IsSoundBlade images w.perms blade → FindsAllowed (around_held blade.cache.entries h plan.domain) w.perms → Stands images blade h plan hart image pc
-    → DoesMoves images w w c (stepping_by h plan (found image hart.regs pc) pc blade hart)
+    → HasBlade c blade w → IsSoundBlade w.perms blade → FindsAllowed (around_held blade.cache.entries h plan.domain) w.perms → Stands images blade h plan hart image pc
+    → DoesMoves w w c (stepping_by h plan (found image hart.regs pc) pc blade hart)
 steps-by images w c blade h plan hart image pc has sound finds stands = by (drains_first (found image hart.regs pc) hart.queue.stores hart.queue.capacity) where
-  by : (b : Bool) → DoesMoves images w w c (if b then drain_of h plan blade hart else stepping_at (need_in (found image hart.regs pc) plan.domain) h plan (found image hart.regs pc) pc blade hart)
-  by true = drains_of images w c blade h plan hart has sound stands.thread stands.own
+  by : (b : Bool) → DoesMoves w w c (if b then drain_of h plan blade hart else stepping_at (need_in (found image hart.regs pc) plan.domain) h plan (found image hart.regs pc) pc blade hart)
+  by true = drains_of w c blade h plan hart has sound stands.thread stands.own
   by false = steps-need images w c blade h plan hart image pc has sound finds stands (need_in (found image hart.regs pc) plan.domain) refl
 
 steps-at : (images : List Image) (w : World) (c : ℕ) (blade : BladeView) (h : ℕ) (plan : ThreadPlan) (hart : HartView) (image : Image)
-    → HasBlade c blade w → IsSoundBlade images w.perms blade → FindsAllowed (around_held blade.cache.entries h plan.domain) w.perms → slice_get blade.plan.threads h ≡ Some plan → hart_of blade h ≡ Some hart → slice_get images plan.image ≡ Some image
-    → (end : End) → hart.end ≡ end → DoesMoves images w w c (step_at end h plan image blade hart)
+    → HasBlade c blade w → IsSoundBlade w.perms blade → FindsAllowed (around_held blade.cache.entries h plan.domain) w.perms → slice_get blade.plan.threads h ≡ Some plan → hart_of blade h ≡ Some hart → slice_get images plan.image ≡ Some image
+    → (end : End) → hart.end ≡ end → DoesMoves w w c (step_at end h plan image blade hart)
 steps-at images w c blade h plan hart image has sound finds thread own code (Running pc) runs = by hart.stepping refl where
-  by : (b : Bool) → hart.stepping ≡ b → DoesMoves images w w c (if b then only blade else stepping_by h plan (found image hart.regs pc) pc blade hart)
-  by true e = idle images w c blade has sound
+  by : (b : Bool) → hart.stepping ≡ b → DoesMoves w w c (if b then only blade else stepping_by h plan (found image hart.regs pc) pc blade hart)
+  by true e = idle w c blade has sound
   by false e = steps-by images w c blade h plan hart image pc has sound finds (record { thread = thread; own = own; awake = e; runs = runs; code = code })
-steps-at images w c blade h plan hart image has sound finds thread own code (Exit value) runs = idle images w c blade has sound
-steps-at images w c blade h plan hart image has sound finds thread own code (Fault kind value pc) runs = idle images w c blade has sound
+steps-at images w c blade h plan hart image has sound finds thread own code (Exit value) runs = idle w c blade has sound
+steps-at images w c blade h plan hart image has sound finds thread own code (Fault kind value pc) runs = idle w c blade has sound
 
 -- ---- the calls
 
@@ -380,19 +374,19 @@ finds_allowed w c blade h domain coherent has page = by (frame_of page blade.cac
   by None e allowed = let never : ⊥ = cc in absurd never
   by (Some frame) e allowed = ap may_write (sym (coherent.frames c page frame (has.frames page ∙ e)).perm) ∙ allowed
 
-pub step : (images : List Image) (w : World) (c : ℕ) (blade : BladeView) (h : ℕ) (e : Effect) → IsCoherent w → HasBlade c blade w → IsSoundBlade images w.perms blade
-    → after_step images h blade ≡ Some e → DoesMoves images w w c e
+pub step : (images : List Image) (w : World) (c : ℕ) (blade : BladeView) (h : ℕ) (e : Effect) → IsCoherent w → HasBlade c blade w → IsSoundBlade w.perms blade
+    → after_step images h blade ≡ Some e → DoesMoves w w c e
 step images w c blade h e coherent has sound given =
     let o = for_hart-some blade h (λ plan hart. option_map (λ image. step_at hart.end h plan image blade hart) (slice_get images plan.image)) e given in
     by o (slice_get images o.plan.image) refl o.does
   where
     by : (o : OfHart blade h (λ plan hart. option_map (λ image. step_at hart.end h plan image blade hart) (slice_get images plan.image)) e)
-        → (code : Option Image) → slice_get images o.plan.image ≡ code → option_map (λ image. step_at o.hart.end h o.plan image blade o.hart) code ≡ Some e → DoesMoves images w w c e
+        → (code : Option Image) → slice_get images o.plan.image ≡ code → option_map (λ image. step_at o.hart.end h o.plan image blade o.hart) code ≡ Some e → DoesMoves w w c e
     by o None f d = let never : ⊥ = cc in absurd never
-    by o (Some image) f d = subst (DoesMoves images w w c) (same_Some _ _ d) (steps-at images w c blade h o.plan o.hart image has sound (finds_allowed w c blade h o.plan.domain coherent has) o.thread o.own f o.hart.end refl)
+    by o (Some image) f d = subst (DoesMoves w w c) (same_Some _ _ d) (steps-at images w c blade h o.plan o.hart image has sound (finds_allowed w c blade h o.plan.domain coherent has) o.thread o.own f o.hart.end refl)
 
-pub drain : (images : List Image) (w : World) (c : ℕ) (blade : BladeView) (h : ℕ) (e : Effect) → HasBlade c blade w → IsSoundBlade images w.perms blade
-    → after_drain h blade ≡ Some e → DoesMoves images w w c e
-drain images w c blade h e has sound given =
+pub drain : (w : World) (c : ℕ) (blade : BladeView) (h : ℕ) (e : Effect) → HasBlade c blade w → IsSoundBlade w.perms blade
+    → after_drain h blade ≡ Some e → DoesMoves w w c e
+drain w c blade h e has sound given =
     let o = for_hart-some blade h (λ plan hart. Some (drain_of h plan blade hart)) e given in
-    subst (DoesMoves images w w c) (same_Some _ _ o.does) (drains_of images w c blade h o.plan o.hart has sound o.thread o.own)
+    subst (DoesMoves w w c) (same_Some _ _ o.does) (drains_of w c blade h o.plan o.hart has sound o.thread o.own)

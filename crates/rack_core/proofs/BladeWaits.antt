@@ -1,7 +1,7 @@
 -- Requests stay apart, and a hart waits only for one that is out.
 use Rattle.std.proofs.Common.{◌≡◌, inl, inr, ℕ, ◌==◌, Bool, true, false, cond, not, ap, sym, refl, subst, List, [], ◌∷◌, ◌++◌, slice_set, Some, None, ◌∙◌}
 use Rattle.std.specs.List.{AllByRecursion}
-use Rattle.std.proofs.lemmas.Bool.{eqb-true, eq-eqb}
+use Rattle.std.proofs.lemmas.Bool.{eqb-true, eq-eqb, false≢true}
 use Rattle.std.proofs.lemmas.Option.{same_Some}
 use Rattle.mind_base.specs.Page.{PageView}
 use Rattle.page_cache.specs.PageCache.{same_page}
@@ -13,8 +13,9 @@ use Rattle.compute_blade.specs.Steps.{waiting}
 use Rattle.compute_blade.specs.declared.kept.Asked.{Asked}
 use Rattle.compute_blade.specs.declared.kept.Waits.{Waits}
 use Rattle.compute_blade.specs.declared.kept.Waits.TheVariants.{Step, Drain}
-use Rattle.rack_core.specs.BladeMoves.{hart_in, AreRequestsApart, IsOut, HasAsked, AreWaiting}
-use Rattle.rack_core.proofs.BladeSound.{Harts, hart_in-set, hart_in-other, all-more, of_others}
+use Rattle.mind_base.specs.declared.plans.ThreadPlan.{ThreadPlan}
+use Rattle.rack_core.specs.BladeMoves.{hart_in, IsRequestBy, IsRequest, AreRequestsApart, AreWaitersApart, IsOut, HasAsked, AreWaiting}
+use Rattle.rack_core.proofs.BladeSound.{Harts, hart_in-set, hart_in-other, all-more, all-map, of_others, WaitsElse}
 
 -- ---- requests stay apart
 
@@ -43,6 +44,42 @@ apart-answered page (first ∷ requests) apart = by (apart-answered page request
   by : AreRequestsApart (answered page requests) → (b : Bool) → AreRequestsApart (cond (not b) (first ∷ answered page requests) (answered page requests))
   by rest true = rest
   by rest false = (of_others (λ other. same_page first.page other.page ≡ false) (λ other. same_page first.page other.page ≡ false) page (λ other away h. h) requests apart.0, rest)
+
+-- ---- what waits for requests
+
+waiters-joined : (requests : List Asked) (asked : Asked) → AreWaitersApart requests → AllByRecursion (λ other. WaitsElse other asked) requests → AreWaitersApart (requests ++ asked ∷ [])
+waiters-joined [] asked apart all = (tt, tt)
+waiters-joined (first ∷ requests) asked apart all = (all-more (WaitsElse first) requests asked apart.0 all.0, waiters-joined requests asked apart.1 all.1)
+
+-- the hart's step, or its drain, does not wait
+abbrev pub IsAwake : Waits → HartView → Type 0
+IsAwake Step hart = hart.stepping ≡ false
+IsAwake Drain hart = hart.draining ≡ false
+
+-- what does not wait is not what a request is out for
+not-waited : (threads : List ThreadPlan) (harts : Harts) (asked : Asked) (hart : HartView) → hart_in harts asked.hart ≡ Some hart → IsAwake asked.waits hart
+    → (other : Asked) → IsRequest threads harts other → WaitsElse other asked
+not-waited threads harts asked hart own awake other r same waits = by asked.waits awake other.waits waits r where
+  its : (found : HartView) → hart_in harts other.hart ≡ Some found → found ≡ hart
+  its found at = same_Some _ _ (sym at ∙ ap (hart_in harts) same ∙ own)
+
+  by : (kind : Waits) → IsAwake kind hart → (k : Waits) → k ≡ kind → IsRequestBy k threads harts other → ⊥
+  by Step free Step e r = false≢true (sym free ∙ ap (λ (x : HartView). x.stepping) (sym (its r.hart r.own)) ∙ r.waits)
+  by Drain free Drain e r = false≢true (sym free ∙ ap (λ (x : HartView). x.draining) (sym (its r.hart r.own)) ∙ r.waits)
+  by Step free Drain e r = let never : ⊥ = cc in never
+  by Drain free Step e r = let never : ⊥ = cc in never
+
+pub waiters-more : (threads : List ThreadPlan) (harts : Harts) (requests : List Asked) (asked : Asked) (hart : HartView) → hart_in harts asked.hart ≡ Some hart → IsAwake asked.waits hart
+    → AllByRecursion (IsRequest threads harts) requests → AreWaitersApart requests → AreWaitersApart (requests ++ asked ∷ [])
+waiters-more threads harts requests asked hart own awake all apart =
+    waiters-joined requests asked apart (all-map (IsRequest threads harts) (λ other. WaitsElse other asked) requests (not-waited threads harts asked hart own awake) all)
+
+pub waiters-answered : (page : PageView) (requests : List Asked) → AreWaitersApart requests → AreWaitersApart (answered page requests)
+waiters-answered page [] apart = tt
+waiters-answered page (first ∷ requests) apart = by (waiters-answered page requests apart.1) (same_page page first.page) where
+  by : AreWaitersApart (answered page requests) → (b : Bool) → AreWaitersApart (cond (not b) (first ∷ answered page requests) (answered page requests))
+  by rest true = rest
+  by rest false = (of_others (WaitsElse first) (WaitsElse first) page (λ other away h. h) requests apart.0, rest)
 
 -- ---- what is out
 

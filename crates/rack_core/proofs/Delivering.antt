@@ -29,12 +29,12 @@ abbrev pub AskOn : LinkKind → (PageView → Option (ℕ × ℕ)) → ℕ → L
 AskOn kind places number messages = AllByRecursion (AsksOn kind places number) messages
 
 pub all_handed : (images : List Image) (kind : LinkKind) (number : ℕ) (messages : List Msg) (old new : RackView) (flat : PageView → PageImageView) (noted : List Note)
-    → IsCoherent (with_front kind number messages (seen old flat)) → IsSound images old → number < 8 → AskOn kind (place_in old.switch) number messages
-    → HandsAll images (record { kind = kind; number = number }) messages old new noted → After images kind number [] old new
+    → IsCoherent (with_front kind number messages (seen old flat)) → IsSound old → number < 8 → AskOn kind (place_in old.switch) number messages
+    → HandsAll images (record { kind = kind; number = number }) messages old new noted → After kind number [] old new
 all_handed images kind number [] old new flat noted safe sound lt asks hands = record {
   flat = flat;
   coherent = subst (λ rack. IsCoherent (with_front kind number [] (seen rack flat))) (sym hands.0) safe;
-  sound = subst (IsSound images) (sym hands.0) sound;
+  sound = subst IsSound (sym hands.0) sound;
   places = ap (λ (r : RackView). place_in r.switch) hands.0;
 }
 all_handed images kind number (message ∷ rest) old new flat noted safe sound lt asks hands =
@@ -125,9 +125,9 @@ still_pending To c taken old net fifo only asked m = by (m == c) refl where
       (all_front (AsksAt (place_in old.switch) c) taken (pending_on net To c) (subst (AllByRecursion (AsksAt (place_in old.switch) c)) fifo (asked c))).1
   by false e = subst (AllByRecursion (AsksAt (place_in old.switch) m)) (sym (other_link (record { kind = To; number = c }) old.net net only To m (flip m c e))) (asked m)
 
-pub with_net-sound : (images : List Image) (kind : LinkKind) (c : ℕ) (taken : List Msg) (old : RackView) (net : NetView) → pending_on old.net kind c ≡ taken ++ pending_on net kind c
-    → ChangesOnly (record { kind = kind; number = c }) old.net net → IsSound images old → IsSound images (with_net net old)
-with_net-sound images kind c taken old net fifo only sound = record {
+pub with_net-sound : (kind : LinkKind) (c : ℕ) (taken : List Msg) (old : RackView) (net : NetView) → pending_on old.net kind c ≡ taken ++ pending_on net kind c
+    → ChangesOnly (record { kind = kind; number = c }) old.net net → IsSound old → IsSound (with_net net old)
+with_net-sound kind c taken old net fifo only sound = record {
   blades = sound.blades;
   switch = sound.switch;
   asked = still_pending kind c taken old net fifo only sound.asked;
@@ -137,21 +137,21 @@ with_net-sound images kind c taken old net fifo only sound = record {
 -- ---- a delivery, and any other change of a link
 
 pub delivers : (images : List Image) (name : LinkName) (side : Side) (k : ℕ) (old new : RackView) (noted : List Note)
-    → name.number < 8 → IsSafe images old → Delivers images name side k old new noted → IsSafe images new
+    → name.number < 8 → IsSafe old → Delivers images name side k old new noted → IsSafe new
 delivers images name side k old new noted lt safe given =
     let fifo = given.gives.fifo in
     let before = gave_on name.kind name.number given.taken old given.net safe.flat fifo given.only in
     let after = all_handed images name.kind name.number given.taken (with_net given.net old) new safe.flat noted (subst IsCoherent before safe.coherent)
-    (with_net-sound images name.kind name.number given.taken old given.net fifo given.only safe.sound) lt
+    (with_net-sound name.kind name.number given.taken old given.net fifo given.only safe.sound) lt
     (asks_taken name.kind name.number given.taken old given.net fifo safe.sound.asked) given.handed in
     record { flat = after.flat; coherent = subst IsCoherent (none_left name.kind name.number (seen new after.flat)) after.coherent; sound = after.sound }
 
-pub net_changes : (images : List Image) (name : LinkName) (old : RackView) (net : NetView) → (links_of net name).pending ≡ (links_of old.net name).pending → ChangesOnly name old.net net
-    → IsSafe images old → IsSafe images (with_net net old)
-net_changes images name old net same only safe =
+pub net_changes : (name : LinkName) (old : RackView) (net : NetView) → (links_of net name).pending ≡ (links_of old.net name).pending → ChangesOnly name old.net net
+    → IsSafe old → IsSafe (with_net net old)
+net_changes name old net same only safe =
     let fifo : pending_on old.net name.kind name.number ≡ [] ++ pending_on net name.kind name.number = sym same in
     record {
       flat = safe.flat;
       coherent = subst IsCoherent (none_left name.kind name.number (seen (with_net net old) safe.flat)) (subst IsCoherent (gave_on name.kind name.number [] old net safe.flat fifo only) safe.coherent);
-      sound = with_net-sound images name.kind name.number [] old net fifo only safe.sound;
+      sound = with_net-sound name.kind name.number [] old net fifo only safe.sound;
     }

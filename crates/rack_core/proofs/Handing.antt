@@ -39,10 +39,10 @@ AsksOn kind places number message = Unit {0}
 
 -- what comes of it: the rack is coherent with the rest still to be handed over, and sound, and pages lie
 -- where they lay
-pub record After (images : List Image) (kind : LinkKind) (number : ℕ) (rest : List Msg) (old new : RackView) : Type 0 where
+pub record After (kind : LinkKind) (number : ℕ) (rest : List Msg) (old new : RackView) : Type 0 where
   pub flat : PageView → PageImageView
   pub coherent : IsCoherent (with_front kind number rest (seen new flat))
-  pub sound : IsSound images new
+  pub sound : IsSound new
   pub places : place_in new.switch ≡ place_in old.switch
 
 -- ---- a compute blade
@@ -63,8 +63,8 @@ blade_leaves c act old new noted does =
       tos = λ m. ap (λ (r : RackView). pending_on r.net To m) acts.after ∙ pending-away c d.effect.sent old.net acts.net acts.sent To m refl;
     }
 
-pub still_sound : (images : List Image) (old new : RackView) → Leaves old new → AreBladesSound images new → IsSound images old → IsSound images new
-still_sound images old new leaves blades sound = record {
+pub still_sound : (old new : RackView) → Leaves old new → AreBladesSound new → IsSound old → IsSound new
+still_sound old new leaves blades sound = record {
   blades = blades;
   switch = subst (λ (s : SwitchView). Rattle.rack_core.specs.SwitchMoves.IsSoundSwitch s) (sym leaves.switch) sound.switch;
   asked = λ m. subst (λ (s : SwitchView). AllByRecursion (AsksAt (place_in s) m) (pending_on new.net To m)) (sym leaves.switch)
@@ -74,15 +74,15 @@ still_sound images old new leaves blades sound = record {
 }
 
 handed_down : (images : List Image) (number : ℕ) (message : Msg) (rest : List Msg) (old new : RackView) (flat : PageView → PageImageView) (noted : List Note)
-    → IsCoherent (with_front Down number (message ∷ rest) (seen old flat)) → IsSound images old → HandsTo Down images number message old new noted
-    → After images Down number rest old new
+    → IsCoherent (with_front Down number (message ∷ rest) (seen old flat)) → IsSound old → HandsTo Down images number message old new noted
+    → After Down number rest old new
 handed_down images number message rest old new flat noted safe sound hands =
     let led = blade_handed images old new flat number message rest noted safe sound.blades hands in
     let leaves = blade_leaves number (λ blade. Some (after_message images message blade)) old new noted hands in
     record {
       flat = led.leads.flat;
       coherent = run_keeps _ _ led.leads.moves safe led.leads.run;
-      sound = still_sound images old new leaves led.leads.sound sound;
+      sound = still_sound old new leaves led.leads.sound sound;
       places = ap place_in leaves.switch;
     }
 
@@ -109,18 +109,18 @@ put-at : {X : Type 0} (k : ℕ) (x : X) (f : ℕ → X) → put k x f k ≡ x
 put-at k x f = ap (λ b. if b then x else f k) (eq-eqb k k refl)
 
 -- what the switch does leaves blades and memory blades
-switch_sound : (images : List Image) (first last : World) (old new : RackView) → IsSound images old → Handed first last new
-    → new.blades ≡ old.blades → new.memories ≡ old.memories → first.perms ≡ permission_at old.switch.protect → first.places ≡ place_in old.switch → IsSound images new
-switch_sound images first last old new sound handed blades memories perms places = record {
-  blades = λ c blade e. subst (λ f. IsSoundBlade images f blade) (sym perms ∙ handed.places.perms) (sound.blades c blade (ap (λ bs. slice_get bs c) (sym blades) ∙ e));
+switch_sound : (first last : World) (old new : RackView) → IsSound old → Handed first last new
+    → new.blades ≡ old.blades → new.memories ≡ old.memories → first.perms ≡ permission_at old.switch.protect → first.places ≡ place_in old.switch → IsSound new
+switch_sound first last old new sound handed blades memories perms places = record {
+  blades = λ c blade e. subst (λ f. IsSoundBlade f blade) (sym perms ∙ handed.places.perms) (sound.blades c blade (ap (λ bs. slice_get bs c) (sym blades) ∙ e));
   switch = handed.sound;
   asked = handed.asked;
   room = λ m pages e. subst (λ f. LieBelow f m (length pages)) (sym places ∙ handed.places.places) (sound.room m pages (ap (λ ms. slice_get ms m) (sym memories) ∙ e));
 }
 
 handed_up : (images : List Image) (number : ℕ) (message : Msg) (rest : List Msg) (old new : RackView) (flat : PageView → PageImageView) (noted : List Note)
-    → IsCoherent (with_front Up number (message ∷ rest) (seen old flat)) → IsSound images old → number < 8 → HandsTo Up images number message old new noted
-    → After images Up number rest old new
+    → IsCoherent (with_front Up number (message ∷ rest) (seen old flat)) → IsSound old → number < 8 → HandsTo Up images number message old new noted
+    → After Up number rest old new
 handed_up images number message rest old new flat noted safe sound lt hands =
     let w = with_front Up number (message ∷ rest) (seen old flat) in
     let head = subst (AreUps w number) (put-at number (message ∷ (rest ++ pending_on old.net Up number)) (pending_on old.net Up)) (safe.ups number) in
@@ -128,21 +128,21 @@ handed_up images number message rest old new flat noted safe sound lt hands =
     record {
       flat = flat;
       coherent = run_keeps _ _ handed.moves.0 safe handed.moves.1;
-      sound = switch_sound images w (with_front Up number rest (seen new flat)) old new sound handed
+      sound = switch_sound w (with_front Up number rest (seen new flat)) old new sound handed
           (ap (λ (r : RackView). r.blades) hands.after) (ap (λ (r : RackView). r.memories) hands.after) refl refl;
       places = sym handed.places.places;
     }
 
 handed_from : (images : List Image) (number : ℕ) (message : Msg) (rest : List Msg) (old new : RackView) (flat : PageView → PageImageView) (noted : List Note)
-    → IsCoherent (with_front From number (message ∷ rest) (seen old flat)) → IsSound images old → number < 8 → HandsTo From images number message old new noted
-    → After images From number rest old new
+    → IsCoherent (with_front From number (message ∷ rest) (seen old flat)) → IsSound old → number < 8 → HandsTo From images number message old new noted
+    → After From number rest old new
 handed_from images number message rest old new flat noted safe sound lt hands =
     let w = with_front From number (message ∷ rest) (seen old flat) in
     let handed = switch_handed_from old new flat number message rest noted safe sound.switch sound.asked lt hands in
     record {
       flat = flat;
       coherent = run_keeps _ _ handed.moves.0 safe handed.moves.1;
-      sound = switch_sound images w (with_front From number rest (seen new flat)) old new sound handed
+      sound = switch_sound w (with_front From number rest (seen new flat)) old new sound handed
           (ap (λ (r : RackView). r.blades) hands.after) (ap (λ (r : RackView). r.memories) hands.after) refl refl;
       places = sym handed.places.places;
     }
@@ -169,8 +169,8 @@ room_after places memories number images later there same room m pages e = by (m
   by false is = room m pages (sym (slice_get-set_other memories number later m is) ∙ e)
 
 handed_to : (images : List Image) (number : ℕ) (message : Msg) (rest : List Msg) (old new : RackView) (flat : PageView → PageImageView) (noted : List Note)
-    → IsCoherent (with_front To number (message ∷ rest) (seen old flat)) → IsSound images old → AsksAt (place_in old.switch) number message → HandsTo To images number message old new noted
-    → After images To number rest old new
+    → IsCoherent (with_front To number (message ∷ rest) (seen old flat)) → IsSound old → AsksAt (place_in old.switch) number message → HandsTo To images number message old new noted
+    → After To number rest old new
 handed_to images number message rest old new flat noted safe sound asks hands =
     let fits = asked_for (place_in old.switch) number (length hands.images) message asks (sound.room number hands.images hands.before) in
     let led = memory_handed old new flat number message rest noted safe hands fits in
@@ -182,7 +182,7 @@ handed_to images number message rest old new flat noted safe sound asks hands =
       flat = flat;
       coherent = run_keeps _ _ led.0 safe led.1;
       sound = record {
-        blades = λ c blade e. subst (λ (s : SwitchView). IsSoundBlade images (permission_at s.protect) blade) (sym switch)
+        blades = λ c blade e. subst (λ (s : SwitchView). IsSoundBlade (permission_at s.protect) blade) (sym switch)
             (sound.blades c blade (ap (λ (r : RackView). slice_get r.blades c) (sym hands.after) ∙ e));
         switch = subst (λ (s : SwitchView). Rattle.rack_core.specs.SwitchMoves.IsSoundSwitch s) (sym switch) sound.switch;
         asked = memory_keeps old new number message noted hands sound.asked;
@@ -194,8 +194,8 @@ handed_to images number message rest old new flat noted safe sound asks hands =
 -- ---- whichever it is
 
 pub handed_over : (images : List Image) (kind : LinkKind) (number : ℕ) (message : Msg) (rest : List Msg) (old new : RackView) (flat : PageView → PageImageView) (noted : List Note)
-    → IsCoherent (with_front kind number (message ∷ rest) (seen old flat)) → IsSound images old → number < 8 → AsksOn kind (place_in old.switch) number message
-    → HandsTo kind images number message old new noted → After images kind number rest old new
+    → IsCoherent (with_front kind number (message ∷ rest) (seen old flat)) → IsSound old → number < 8 → AsksOn kind (place_in old.switch) number message
+    → HandsTo kind images number message old new noted → After kind number rest old new
 handed_over images Up number message rest old new flat noted safe sound lt asks hands = handed_up images number message rest old new flat noted safe sound lt hands
 handed_over images Down number message rest old new flat noted safe sound lt asks hands = handed_down images number message rest old new flat noted safe sound hands
 handed_over images To number message rest old new flat noted safe sound lt asks hands = handed_to images number message rest old new flat noted safe sound asks hands

@@ -51,5 +51,4 @@ pub mod StandPages
 pub mod StandElsewhere
 pub mod StandFills
 pub mod StandMids
-pub mod StandNeeds
 pub mod StandCame

@@ -1,5 +1,5 @@
 -- What a hart does at its blade leads the machine on: by the label that the blade noted, or by none.
-use Rattle.std.proofs.Common.{◌≡◌, ℕ, zero, suc, ◌+◌, ◌==◌, ◌∙◌, Bool, true, false, ap, sym, refl, subst, List, [], ◌∷◌, ◌++◌, Option, Some, None, slice_get, slice_set, unwrap_or}
+use Rattle.std.proofs.Common.{◌≡◌, arith, ℕ, zero, suc, ◌+◌, ◌==◌, ◌∙◌, Bool, true, false, ap, sym, refl, subst, List, [], ◌∷◌, ◌++◌, Option, Some, None, slice_get, slice_set, unwrap_or}
 use Rattle.std.specs.Prelude.{if◌then◌else◌}
 use Rattle.std.proofs.lemmas.Bool.{eqb-true}
 use Rattle.std.proofs.lemmas.Option.{same_Some}
@@ -14,7 +14,7 @@ use Rattle.mind_base.specs.declared.images.Image.{Image}
 use Rattle.mind_base.specs.declared.notes.Note.TheVariants as note
 use Rattle.hart_effect.specs.Access.{Around}
 use Rattle.hart_effect.specs.Deed.{Deed, Alone, Storing, found, carried_out, drains_first}
-use Rattle.hart_effect.specs.Place.{place_of, page_at}
+use Rattle.mind_base.specs.Place.{place_of, page_at}
 use Rattle.hart_effect.specs.Thread.{Thread}
 use Rattle.hart_effect.specs.declared.finds.Found.{Found}
 use Rattle.page_cache.specs.PageCache.{frame_of, same_page}
@@ -32,11 +32,12 @@ use Rattle.tso_machine.specs.Replay.{Whole, advanced, labels, replay}
 use Rattle.tso_machine.specs.State.{Setup, State}
 use Rattle.tso_machine.specs.Step.{done_by}
 use Rattle.wire_msg.specs.declared.msgs.Msg.TheVariants.{Get}
-use Rattle.rack_core.specs.BladeMoves.{image_or}
+use Rattle.rack_core.specs.BladeMoves.{hart_in, image_or}
 use Rattle.rack_core.specs.Rack.{RackView}
 use Rattle.rack_core.specs.Stands.{IsHartAt, StandsFor, machine_thread}
-use Rattle.rack_core.specs.StandRuns.{ArePending, AreQueuesPending, HasOnePlan, GoesWith, BladeBecame, AreNewest, LeadsMachine}
+use Rattle.rack_core.specs.StandRuns.{ArePending, AreQueuesPending, AreCounted, HasOnePlan, GoesWith, BladeBecame, AreNewest, LeadsMachine}
 use Rattle.rack_core.proofs.BladeDeeds.{storing}
+use Rattle.rack_core.proofs.BladeSound.{hart_in-set}
 use Rattle.rack_core.proofs.Lookups.{found-used, slice_get-set, slice_get-set_other}
 use Rattle.rack_core.proofs.StandChanges.{OneChanged, one-changed, has-place}
 use Rattle.rack_core.proofs.StandHarts.{Entries, IsHeld, HoldsFor, held-coherent, holds-serving, drain-stands}
@@ -50,7 +51,7 @@ use Rattle.rack_core.proofs.StandTags.{hart-below}
 
 -- what a blade did leads the machine on, whatever the new rack is and whatever its newest images are called
 abbrev pub Runs : List Image → Setup → RackView → (PageView → PageImageView) → State → ℕ → Effect → Type 0
-Runs images setup old flat m c e = (new : RackView) (newer : PageView → PageImageView) → BladeBecame c e.blade old new → AreNewest e.blade.cache.entries flat newer
+Runs images setup old flat m c e = (new : RackView) (newer : PageView → PageImageView) → BladeBecame c e.blade old new → AreCounted new → AreNewest e.blade.cache.entries flat newer
     → LeadsMachine setup m e.noted new newer
 
 -- ---- nothing happens
@@ -103,12 +104,23 @@ plan-one c blade old new became plan all = record { fit = subst IsFit (sym becam
         let both = sym none ∙ ap (slice_get (slice_set old.blades c blade)) (sym number) ∙ put in
         let never : ⊥ = cc in absurd never
 
+-- the hart that changed is in its place
+at-now : (h : ℕ) (was now : HartView) (old new : RackView) (at : IsHartAt old h was) (blade : BladeView) → new.plan ≡ old.plan → new.blades ≡ slice_set old.blades at.plan.blade blade
+    → blade.harts ≡ slice_set at.blade.harts h (Some now) → IsHartAt new h now
+at-now h was now old new at blade plan blades harts = record {
+  plan = at.plan;
+  blade = blade;
+  thread = ap (λ p. slice_get p.threads h) plan ∙ at.thread;
+  there = ap (λ all. slice_get all at.plan.blade) blades ∙ slice_get-set old.blades at.plan.blade at.blade blade at.there;
+  own = ap (λ all. hart_in all h) harts ∙ hart_in-set at.blade.harts h was now at.own;
+}
+
 -- a hart that changed in nothing that the machine sees
 quiet : (images : List Image) (setup : Setup) (old : RackView) (flat : PageView → PageImageView) (m : State) → GoesWith images setup old flat m → (h : ℕ) (hart : HartView) (at : IsHartAt old h hart)
     → (now : HartView) (e : Effect) → e.blade.plan ≡ at.blade.plan → e.blade.harts ≡ slice_set at.blade.harts h (Some now) → e.blade.cache.entries ≡ at.blade.cache.entries → e.noted ≡ []
     → machine_thread flat now ≡ machine_thread flat hart → now.queue.stores ≡ hart.queue.stores → now.stores ≡ hart.stores → now.reserved ≡ hart.reserved
     → Runs images setup old flat m at.plan.blade e
-quiet images setup old flat m goes h hart at now e plan harts entries noted thread stores counts reserved new newer became newest =
+quiet images setup old flat m goes h hart at now e plan harts entries noted thread stores counts reserved new newer became counted newest =
     let one = one-changed h hart now old new at e.blade became.plan became.blades harts in
     let same : newer ≡ flat = newest-same at.blade.cache.entries e.blade.cache.entries flat newer (are-held images setup old flat m goes h hart at) (λ page. ap (frame_of page) entries) newest in
     record {
@@ -154,8 +166,9 @@ stores-run : (images : List Image) (setup : Setup) (old : RackView) (flat : Page
     → IsPending store.address store.size → ArePending now.queue.stores
     → replay setup m (labels e.noted) ≡ Whole (done_by h at.plan.domain m (Storing (machine_thread flat now) store))
     → Runs images setup old flat m at.plan.blade e
-stores-run images setup old flat m goes h hart at now store e plan harts entries held counts keeps pending queue run new newer became newest =
+stores-run images setup old flat m goes h hart at now store e plan harts entries held counts keeps pending queue run new newer became counted newest =
     let one = one-changed h hart now old new at e.blade became.plan became.blades harts in
+    let fits = counted h now (at-now h hart now old new at e.blade became.plan became.blades harts) in
     let sound = goes.sound at.plan.blade at.blade at.there in
     let same : newer ≡ flat_with at.plan.domain store (next_tag h hart.stores) flat =
     newest-stored at.blade.cache.entries at.plan.domain store (next_tag h hart.stores) held.frame flat newer (are-held images setup old flat m goes h hart at) sound.cache.distinct held.held
@@ -165,7 +178,7 @@ stores-run images setup old flat m goes h hart at now store e plan harts entries
       run = run;
       stands = subst (λ f. StandsFor new f (done_by h at.plan.domain m (Storing (machine_thread flat now) store))) (sym same)
           (stands-stored h at.plan.domain hart now store old new flat m
-          (record { one = one; below = hart-below old h hart goes.one.fit at; unspent = goes.unspent h hart at; counts = counts; keeps = keeps; pending = pending; perms = became.perms }) goes.stands);
+          (record { one = one; below = hart-below old h hart goes.one.fit at; unspent = (let more : now.stores ≡ hart.stores + 1 = counts in omega arith); counts = counts; keeps = keeps; pending = pending; perms = became.perms }) goes.stands);
       pending = queues-one h hart now old new one goes.pending queue;
       one = plan-one at.plan.blade e.blade old new became (plan ∙ goes.one.blades at.plan.blade at.blade at.there) goes.one;
     }
@@ -209,7 +222,7 @@ performs-run images setup old flat m goes h hart at image pc exec = by (carried_
   fits deed e = pending-done finds around pc thread deed (found-size image hart.regs pc) (goes.pending h hart at) e
 
   alone : (new : Thread) → carried_out finds around pc thread ≡ Some (Alone new) → Runs images setup old flat m at.plan.blade (performed_by (Some (Alone new)) h at.plan finds at.blade hart)
-  alone new e rack newer became newest =
+  alone new e rack newer became counted newest =
       let now = hart_after at.plan.domain finds at.blade.cache.entries hart (Alone new) in
       let blade = steps.done_by h at.plan finds at.blade hart (Alone new) in
       let one = one-changed h hart now old rack at blade became.plan became.blades refl in

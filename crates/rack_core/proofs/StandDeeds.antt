@@ -21,11 +21,10 @@ use Rattle.hart_core.specs.declared.outcome.LockedKind.{LockedKind}
 use Rattle.hart_core.specs.declared.outcome.LockedKind.TheVariants as locked
 use Rattle.hart_effect.specs.Access.{memory_byte, seen_byte, number_of, may_read, may_write, denied}
 use Rattle.hart_effect.specs.Deed.{Deed, Alone, Storing, acted, carried_out, called, faulted, put_out, continued, reserving, exchanged, unless_denied, stored_if, holds_reservation, must_wait}
-use Rattle.hart_effect.specs.Place.{place_of, page_at, granule_at}
+use Rattle.mind_base.specs.Place.{place_of, page_at, granule_at, Granule}
 use Rattle.hart_effect.specs.Thread.{Thread}
 use Rattle.hart_effect.specs.declared.finds.Found.{Found}
 use Rattle.hart_effect.specs.declared.finds.Found.TheVariants.{Outside, Unknown, Asks}
-use Rattle.hart_effect.specs.declared.granules.Granule.{Granule}
 use Rattle.compute_blade.specs.Steps.{need_in}
 use Rattle.compute_blade.specs.declared.kept.Need.{Need}
 

@@ -20,7 +20,7 @@ use Rattle.rack_core.specs.Events.{BladeActs, HartDoes, Leads}
 use Rattle.rack_core.specs.Rack.{RackView}
 use Rattle.rack_core.specs.Seen.{seen, frame_at}
 use Rattle.rack_core.specs.Stands.{IsHartAt}
-use Rattle.rack_core.specs.StandRuns.{GoesWith, BladeBecame, AreNewest, LeadsMachine, GoesOn, AreUnspent}
+use Rattle.rack_core.specs.StandRuns.{GoesWith, BladeBecame, AreNewest, LeadsMachine, GoesOn, AreCounted}
 use Rattle.rack_core.proofs.BladeHanded.{did, step_leads, drain_leads}
 use Rattle.rack_core.proofs.BladeSteps.{for_hart-some}
 use Rattle.rack_core.proofs.Lookups.{slice_get-set}
@@ -47,10 +47,10 @@ newest-held c blade e old new noted flat newer there acts newest page = newest p
 -- what a blade does runs on for the rack
 pub acts-run : (images : List Image) (setup : Setup) (old new : RackView) (noted : List Note) (flat newer : PageView → PageImageView) (m : State) (c : ℕ) (blade : BladeView) (e : Effect)
     → slice_get old.blades c ≡ Some blade → BladeActs c e old new noted → ((page : PageView) → newer page ≡ image_or (flat page) (frame_at new.blades c page))
-    → Runs images setup old flat m c e → LeadsMachine setup m noted new newer
-acts-run images setup old new noted flat newer m c blade e there acts newest runs =
+    → AreCounted new → Runs images setup old flat m c e → LeadsMachine setup m noted new newer
+acts-run images setup old new noted flat newer m c blade e there acts newest counted runs =
     subst (λ n. LeadsMachine setup m n new newer) (sym acts.notes)
-    (runs new newer (became c e old new noted acts) (newest-held c blade e old new noted flat newer there acts newest))
+    (runs new newer (became c e old new noted acts) counted (newest-held c blade e old new noted flat newer there acts newest))
 
 -- ---- a hart of the rack
 
@@ -98,45 +98,44 @@ hart-runs : (images : List Image) (setup : Setup) (old new : RackView) (noted : 
     → ((thread : ThreadPlan) → slice_get old.plan.threads h ≡ Some thread → (blade : BladeView) → slice_get old.blades thread.blade ≡ Some blade → (e : Effect) → act blade ≡ Some e
     → Runs images setup old flat m thread.blade e)
     → (thread : ThreadPlan) → slice_get old.plan.threads h ≡ Some thread → ((page : PageView) → newer page ≡ image_or (flat page) (frame_at new.blades thread.blade page))
-    → HartDoes (slice_get old.plan.threads h) act old new noted → LeadsMachine setup m noted new newer
-hart-runs images setup old new noted flat newer m h act runs thread planned newest given =
+    → AreCounted new → HartDoes (slice_get old.plan.threads h) act old new noted → LeadsMachine setup m noted new newer
+hart-runs images setup old new noted flat newer m h act runs thread planned newest counted given =
     let d = did thread.blade act old new noted (subst (λ t. HartDoes t act old new noted) planned given) in
-    acts-run images setup old new noted flat newer m thread.blade d.blade d.effect d.there d.acts newest (runs thread planned d.blade d.there d.effect d.does)
+    acts-run images setup old new noted flat newer m thread.blade d.blade d.effect d.there d.acts newest counted (runs thread planned d.blade d.there d.effect d.does)
 
 -- A step goes on: the rack is coherent, and the labels noted lead the machine to a state that it stands for.
 pub step-goes : (images : List Image) (setup : Setup) (h : ℕ) (old new : RackView) (noted : List Note) (flat : PageView → PageImageView) (m : State) → IsCoherent (seen old flat)
-    → GoesWith images setup old flat m → Leads images (Step h) old new noted → GoesOn images setup m noted new
-step-goes images setup h old new noted flat m coherent goes given =
+    → GoesWith images setup old flat m → Leads images (Step h) old new noted → AreCounted new → GoesOn images setup m noted new
+step-goes images setup h old new noted flat m coherent goes given counted =
     let led = step_leads images h old new noted flat coherent goes.sound given in
     record {
       flat = led.does.leads.flat;
       coherent = run_keeps (seen old flat) (seen new led.does.leads.flat) led.does.leads.moves coherent led.does.leads.run;
       sound = led.does.leads.sound;
-      machine = hart-runs images setup old new noted flat led.does.leads.flat m h (after_step images h) (step-does images setup old flat m goes h) led.thread led.planned led.does.newest given;
+      machine = hart-runs images setup old new noted flat led.does.leads.flat m h (after_step images h) (step-does images setup old flat m goes h) led.thread led.planned led.does.newest counted given;
     }
 
 -- So does a drain.
 pub drain-goes : (images : List Image) (setup : Setup) (h : ℕ) (old new : RackView) (noted : List Note) (flat : PageView → PageImageView) (m : State) → IsCoherent (seen old flat)
-    → GoesWith images setup old flat m → Leads images (Drain h) old new noted → GoesOn images setup m noted new
-drain-goes images setup h old new noted flat m coherent goes given =
+    → GoesWith images setup old flat m → Leads images (Drain h) old new noted → AreCounted new → GoesOn images setup m noted new
+drain-goes images setup h old new noted flat m coherent goes given counted =
     let led = drain_leads images h old new noted flat coherent goes.sound given in
     record {
       flat = led.does.leads.flat;
       coherent = run_keeps (seen old flat) (seen new led.does.leads.flat) led.does.leads.moves coherent led.does.leads.run;
       sound = led.does.leads.sound;
-      machine = hart-runs images setup old new noted flat led.does.leads.flat m h (after_drain h) (drain-does images setup old flat m goes h) led.thread led.planned led.does.newest given;
+      machine = hart-runs images setup old new noted flat led.does.leads.flat m h (after_drain h) (drain-does images setup old flat m goes h) led.thread led.planned led.does.newest counted given;
     }
 
--- What goes on goes with the machine's next state, in a rack of the same plan whose stores are not spent.
-pub goes-on : (images : List Image) (setup : Setup) (m : State) (noted : List Note) (new : RackView) → setup.plan ≡ new.plan → setup.images ≡ images → AreUnspent new
+-- What goes on goes with the machine's next state, in a rack of the same plan.
+pub goes-on : (images : List Image) (setup : Setup) (m : State) (noted : List Note) (new : RackView) → setup.plan ≡ new.plan → setup.images ≡ images
     → (on : GoesOn images setup m noted new) → GoesWith images setup new on.flat on.machine.next
-goes-on images setup m noted new plan code unspent on = record {
+goes-on images setup m noted new plan code on = record {
   plan = plan;
   code = code;
   one = on.machine.one;
   frames = on.coherent.frames;
   sound = on.sound;
   pending = on.machine.pending;
-  unspent = unspent;
   stands = on.machine.stands;
 }

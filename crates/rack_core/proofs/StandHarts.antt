@@ -9,9 +9,8 @@ use Rattle.mind_base.specs.Permission.{permission_of}
 use Rattle.mind_base.specs.declared.ends.End.TheVariants.{Running}
 use Rattle.mind_base.specs.declared.images.Image.{Image}
 use Rattle.hart_effect.specs.Deed.{Storing, found, carried_out, executed, executed_at, drained, drained_of, holds_reservation}
-use Rattle.hart_effect.specs.Place.{place_of, page_at, page_with, granule_at, same_granule}
+use Rattle.mind_base.specs.Place.{place_of, page_at, page_with, granule_at, same_granule, Granule}
 use Rattle.hart_effect.specs.declared.finds.Found.{Found}
-use Rattle.hart_effect.specs.declared.granules.Granule.{Granule}
 use Rattle.page_cache.specs.PageCache.{frame_of}
 use Rattle.page_cache.specs.declared.frames.Frame.{Frame}
 use Rattle.page_image.specs.PageImage.{PageImageView, tag_at}

@@ -19,11 +19,10 @@ use Rattle.hart_core.specs.declared.outcome.Act.TheVariants as act
 use Rattle.hart_core.specs.declared.outcome.LockedKind.TheVariants as locked
 use Rattle.hart_effect.specs.Access.{may_read, may_write, denied}
 use Rattle.hart_effect.specs.Deed.{Deed, Alone, Storing, found, acted, carried_out, called, faulted, put_out, continued, unless_denied, stored_if, holds_reservation, must_wait, reserving}
-use Rattle.hart_effect.specs.Place.{place_of, page_at, page_with, granule_at}
+use Rattle.mind_base.specs.Place.{place_of, page_at, page_with, granule_at, Granule}
 use Rattle.hart_effect.specs.Thread.{Thread}
 use Rattle.hart_effect.specs.declared.finds.Found.{Found}
 use Rattle.hart_effect.specs.declared.finds.Found.TheVariants.{Outside, Unknown, Asks}
-use Rattle.hart_effect.specs.declared.granules.Granule.{Granule}
 use Rattle.page_image.specs.PageImage.{PageImageView, tag_at}
 use Rattle.compute_blade.specs.Blade.{HartView}
 use Rattle.compute_blade.specs.Frames.{around_held, held_perm, held_tag, tag_in, thread_of}

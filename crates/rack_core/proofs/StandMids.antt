@@ -65,7 +65,7 @@ one-of P h was now old new one all its n hart at = by (n == h) refl where
 -- state, where it has coherent frames and sound blades.
 pub mid-goes : (images : List Image) (setup : Setup) (old mid : RackView) (flat : PageView → PageImageView) (m : State) → GoesWith images setup old flat m → (h : ℕ) (hart : HartView) (at : IsHartAt old h hart)
     → (waits : Waits) (blade : BladeView) → BladeBecame at.plan.blade blade old mid → blade.plan ≡ at.blade.plan → blade.harts ≡ slice_set at.blade.harts h (Some (awake waits hart))
-    → AreFrames (seen mid flat) → AreBladesSound images mid → GoesWith images setup mid flat m
+    → AreFrames (seen mid flat) → AreBladesSound mid → GoesWith images setup mid flat m
 mid-goes images setup old mid flat m goes h hart at waits blade became plan harts frames sound =
     let now = awake waits hart in
     let one = one-changed h hart now old mid at blade became.plan became.blades harts in
@@ -76,7 +76,6 @@ mid-goes images setup old mid flat m goes h hart at waits blade became plan hart
       frames = frames;
       sound = sound;
       pending = one-of (λ x. ArePending x.queue.stores) h hart now old mid one goes.pending (subst ArePending (sym (awake-waiting waits hart)) (goes.pending h hart at));
-      unspent = one-of (λ x. x.stores < last_store) h hart now old mid one goes.unspent (subst (λ n. n < last_store) (sym (awake-stores waits hart)) (goes.unspent h hart at));
       stands = stands-same h hart now old mid flat m
           (record { one = one; counts = awake-stores waits hart; keeps = λ r k. goes.stands.kept h hart r at (sym (awake-reserved waits hart) ∙ k); perms = became.perms }) goes.stands
           (awake-thread flat waits hart);

@@ -25,7 +25,7 @@ use Rattle.rack_core.specs.Events.{Leads}
 use Rattle.rack_core.specs.Rack.{RackView}
 use Rattle.rack_core.specs.Seen.{seen}
 use Rattle.rack_core.specs.Stands.{IsHartAt, StandsFor}
-use Rattle.rack_core.specs.StandRuns.{GoesWith, BladeBecame, GoesOn}
+use Rattle.rack_core.specs.StandRuns.{AreCounted, GoesWith, BladeBecame, GoesOn}
 use Rattle.rack_core.proofs.BladeCalls.{given_up-changes, lowered-changes}
 use Rattle.rack_core.proofs.BladeHanded.{did, evict_leads}
 use Rattle.rack_core.proofs.Lookups.{slice_get-set, slice_get-set_other, found-without, found-with_change}
@@ -72,7 +72,7 @@ hart-before c blade changed old new there became harts n hart at = by (at.plan.b
 -- the rack stands for the same state
 pub pages-run : (images : List Image) (setup : Setup) (old : RackView) (flat : PageView → PageImageView) (m : State) → GoesWith images setup old flat m → (c : ℕ) (blade : BladeView)
     → slice_get old.blades c ≡ Some blade → (e : Effect) → PagesAlone flat blade e → Runs images setup old flat m c e
-pages-run images setup old flat m goes c blade there e alone new newer became newest =
+pages-run images setup old flat m goes c blade there e alone new newer became counted newest =
     let same : newer ≡ flat = newest-same e.blade.cache.entries e.blade.cache.entries flat newer alone.held (λ page. refl) newest in
     let before = hart-before c blade e.blade old new there became alone.harts in
     record {
@@ -173,8 +173,8 @@ blade-held rack flat frames c blade there page frame e =
     (frames c page frame (ap (option_and_then (λ blade. frame_of page blade.cache.entries)) there ∙ e)).newest
 
 pub evict-goes : (images : List Image) (setup : Setup) (c : ℕ) (page : PageView) (old new : RackView) (noted : List Note) (flat : PageView → PageImageView) (m : State) → IsCoherent (seen old flat)
-    → GoesWith images setup old flat m → Leads images (Evict c page) old new noted → GoesOn images setup m noted new
-evict-goes images setup c page old new noted flat m coherent goes given =
+    → GoesWith images setup old flat m → Leads images (Evict c page) old new noted → AreCounted new → GoesOn images setup m noted new
+evict-goes images setup c page old new noted flat m coherent goes given counted =
     let led = evict_leads images c page old new noted flat coherent goes.sound given in
     let d = did c (λ blade. Some (given_up page blade)) old new noted given in
     let alone = subst (PagesAlone flat d.blade) (same_Some _ _ d.does)
@@ -183,5 +183,5 @@ evict-goes images setup c page old new noted flat m coherent goes given =
       flat = led.leads.flat;
       coherent = run_keeps (seen old flat) (seen new led.leads.flat) led.leads.moves coherent led.leads.run;
       sound = led.leads.sound;
-      machine = acts-run images setup old new noted flat led.leads.flat m c d.blade d.effect d.there d.acts led.newest (pages-run images setup old flat m goes c d.blade d.there d.effect alone);
+      machine = acts-run images setup old new noted flat led.leads.flat m c d.blade d.effect d.there d.acts led.newest counted (pages-run images setup old flat m goes c d.blade d.there d.effect alone);
     }

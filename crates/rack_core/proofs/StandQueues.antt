@@ -21,7 +21,7 @@ use Rattle.hart_core.specs.declared.outcome.Act.TheVariants as act
 use Rattle.hart_core.specs.declared.outcome.LockedKind.TheVariants as locked
 use Rattle.hart_effect.specs.Access.{Around, read_denied}
 use Rattle.hart_effect.specs.Deed.{Deed, Alone, Storing, found, found_word, found_instr, word_at, acted, carried_out, called, faulted, put_out, continued, unless_denied, stored_if, holds_reservation}
-use Rattle.hart_effect.specs.Place.{place_of, granule_at}
+use Rattle.mind_base.specs.Place.{place_of, granule_at}
 use Rattle.hart_effect.specs.Thread.{Thread}
 use Rattle.hart_effect.specs.declared.finds.Found.{Found}
 use Rattle.hart_effect.specs.declared.finds.Found.TheVariants.{Outside, Unknown, Asks}

@@ -9,11 +9,10 @@ use Rattle.hart_core.specs.declared.outcome.Act.TheVariants as act
 use Rattle.hart_core.specs.declared.outcome.LockedKind.{LockedKind}
 use Rattle.hart_core.specs.declared.outcome.LockedKind.TheVariants as locked
 use Rattle.hart_effect.specs.Deed.{Alone}
-use Rattle.hart_effect.specs.Place.{place_of, page_with, granule_at}
+use Rattle.mind_base.specs.Place.{place_of, page_with, granule_at, Granule}
 use Rattle.hart_effect.specs.Thread.{Thread}
 use Rattle.hart_effect.specs.declared.finds.Found.{Found}
 use Rattle.hart_effect.specs.declared.finds.Found.TheVariants.{Outside, Unknown, Asks}
-use Rattle.hart_effect.specs.declared.granules.Granule.{Granule}
 use Rattle.page_cache.specs.PageCache.{frame_of}
 use Rattle.page_cache.specs.declared.frames.Frame.{Frame}
 use Rattle.page_image.specs.PageImage.{PageImageView, tag_at}

@@ -3,8 +3,7 @@ use Rattle.std.proofs.Common.{◌≡◌, ℕ, ◌+◌, ◌<◌, ◌==◌, ◌∙
 use Rattle.std.proofs.lemmas.Bool.{eqb-true}
 use Rattle.std.proofs.lemmas.Option.{slice_get-map}
 use Rattle.hart_effect.specs.Deed.{Storing}
-use Rattle.hart_effect.specs.Place.{place_of, granule_at}
-use Rattle.hart_effect.specs.declared.granules.Granule.{Granule}
+use Rattle.mind_base.specs.Place.{place_of, granule_at, Granule}
 use Rattle.mind_base.specs.Page.{PageView, page_of}
 use Rattle.mind_base.specs.Pending.{PendingView, IsPending}
 use Rattle.page_image.specs.PageImage.{PageImageView}

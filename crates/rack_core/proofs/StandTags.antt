@@ -3,8 +3,7 @@ use Rattle.std.proofs.Common.{◌≡◌, ℕ, ◌+◌, ◌/◌, ◌%◌, ◌^◌
 use Rattle.std.specs.Prelude.{if◌then◌else◌}
 use Rattle.std.proofs.lemmas.Bool.{eqb-true, eqb-false, eq-eqb, ne_eqb, and_parts, and_from, both_ways}
 use Rattle.std.proofs.lemmas.Option.{slice_get_within}
-use Rattle.hart_effect.specs.Place.{place_of, granule_at, same_granule, page_with}
-use Rattle.hart_effect.specs.declared.granules.Granule.{Granule}
+use Rattle.mind_base.specs.Place.{place_of, granule_at, same_granule, page_with, Granule}
 use Rattle.mind_base.specs.Fit.{IsFit}
 use Rattle.mind_base.specs.Page.{PageView, page_of}
 use Rattle.mind_base.specs.Pending.{PendingView}

@@ -10,7 +10,6 @@ use Rattle.mind_base.specs.Fit.{Within, IsFit}
 use Rattle.mind_base.specs.Home.{home_of}
 use Rattle.mind_base.specs.declared.commands.Perm.{Perm}
 use Rattle.mind_base.specs.declared.commands.Perm.TheVariants.{No}
-use Rattle.mind_base.specs.declared.images.Image.{Image}
 use Rattle.mind_base.specs.declared.links.LinkKind.{LinkKind}
 use Rattle.mind_base.specs.declared.links.LinkKind.TheVariants.{Up, Down, To, From}
 use Rattle.mind_base.specs.declared.links.LinkName.{LinkName}
@@ -115,10 +114,10 @@ some_frames [] c all lt = absurd (omega (arith, lt))
 some_frames (n ∷ frames) zero all lt = omega (arith, all.0.0)
 some_frames (n ∷ frames) (suc c) all lt = some_frames frames c all.1 (omega (arith, lt))
 
-blades_sound : (images : List Image) (plan : RackPlan) (rack : RackView) → IsFit plan → IsStart plan rack → AreBladesSound images rack
-blades_sound images plan rack fit h c blade e =
+blades_sound : (plan : RackPlan) (rack : RackView) → IsFit plan → IsStart plan rack → AreBladesSound rack
+blades_sound plan rack fit h c blade e =
     let is = blade_is plan c blade (ap (λ (blades : List BladeView). slice_get blades c) (sym h.blades) ∙ e) in
-    subst (IsSoundBlade images (permission_at rack.switch.protect)) (sym is.1) (first_sound images (permission_at rack.switch.protect) plan c (some_frames plan.frames c fit.frames is.0))
+    subst (IsSoundBlade (permission_at rack.switch.protect)) (sym is.1) (first_sound (permission_at rack.switch.protect) plan c (some_frames plan.frames c fit.frames is.0))
 
 switch_sound : (plan : RackPlan) (switch : SwitchView) → IsFit plan → IsFirstSwitch plan switch → IsSoundSwitch switch
 switch_sound plan switch fit h = record {
@@ -150,12 +149,12 @@ enough plan rack h memory pages e page phys at =
     let below = home-below plan.memories memory blade.memory page phys blade.own (sym (lies plan rack.switch page h.switch) ∙ at) in
     omega (arith, below, blade.is)
 
-pub starts : (images : List Image) (plan : RackPlan) (rack : RackView) → IsFit plan → IsStart plan rack → IsSafe images rack
-starts images plan rack fit h = record {
+pub starts : (plan : RackPlan) (rack : RackView) → IsFit plan → IsStart plan rack → IsSafe rack
+starts plan rack fit h = record {
   flat = λ page. zero_image;
   coherent = subst IsCoherent (sym (first_seen plan rack h)) (coherence.starts (place_in rack.switch) (permission_at rack.switch.protect) (are_placed plan rack.switch fit h.switch));
   sound = record {
-    blades = blades_sound images plan rack fit h;
+    blades = blades_sound plan rack fit h;
     switch = switch_sound plan rack.switch fit h.switch;
     asked = none_asked_of plan rack h;
     room = enough plan rack h;

@@ -4,18 +4,14 @@ use Rattle.std.specs.List.{AllByRecursion}
 use Rattle.mind_base.specs.Page.{PageView}
 use Rattle.mind_base.specs.Pending.{PendingView}
 use Rattle.mind_base.specs.declared.commands.Perm.{Perm}
-use Rattle.mind_base.specs.declared.ends.End.TheVariants.{Running}
-use Rattle.mind_base.specs.declared.images.Image.{Image}
 use Rattle.mind_base.specs.declared.plans.ThreadPlan.{ThreadPlan}
 use Rattle.hart_effect.specs.Access.{may_write}
-use Rattle.hart_effect.specs.Deed.{found}
-use Rattle.hart_effect.specs.Place.{place_of, page_at}
+use Rattle.mind_base.specs.Place.{place_of, page_at}
 use Rattle.page_cache.specs.PageCache.{IsPageCache, frame_of, same_page}
 use Rattle.page_cache.specs.declared.frames.Frame.{Frame}
 use Rattle.page_image.specs.PageImage.{PageImageView}
 use Rattle.wire_msg.specs.declared.msgs.Msg.{Msg}
 use Rattle.compute_blade.specs.Blade.{HartView, BladeView, Effect, request_for}
-use Rattle.compute_blade.specs.Steps.{need_in}
 use Rattle.compute_blade.specs.declared.kept.Asked.{Asked}
 use Rattle.compute_blade.specs.declared.kept.Waits.{Waits}
 use Rattle.compute_blade.specs.declared.kept.Waits.TheVariants.{Step, Drain}
@@ -58,19 +54,13 @@ pub record LeadsTo (w other : World) (c : ℕ) (blade : BladeView) (sent : List 
 abbrev pub hart_in : List (Option HartView) → ℕ → Option HartView
 hart_in harts h = option_and_then (λ hart. hart) (slice_get harts h)
 
--- A request for which a step waits: its hart runs, waits, and stands at an instruction that needs just that
--- page, to write where the request is for writing.
-pub record IsStepRequest (images : List Image) (threads : List ThreadPlan) (harts : List (Option HartView)) (asked : Asked) : Type 0 where
+-- A request for which a step waits: its hart is the blade's, and its step waits.
+pub record IsStepRequest (threads : List ThreadPlan) (harts : List (Option HartView)) (asked : Asked) : Type 0 where
   pub plan : ThreadPlan
   pub hart : HartView
-  pub image : Image
-  pub pc : ℕ
   pub thread : slice_get threads asked.hart ≡ Some plan
   pub own : hart_in harts asked.hart ≡ Some hart
   pub waits : hart.stepping ≡ true
-  pub runs : hart.end ≡ Running pc
-  pub code : slice_get images plan.image ≡ Some image
-  pub needs : need_in (found image hart.regs pc) plan.domain ≡ Some (record { page = asked.page; write = asked.write })
 
 -- A request for which a drain waits: it is for writing, and its hart waits with its oldest store in that page.
 pub record IsDrainRequest (threads : List ThreadPlan) (harts : List (Option HartView)) (asked : Asked) : Type 0 where
@@ -85,12 +75,12 @@ pub record IsDrainRequest (threads : List ThreadPlan) (harts : List (Option Hart
   pub page : page_at (place_of plan.domain oldest.address) ≡ asked.page
   pub write : asked.write ≡ true
 
-abbrev pub IsRequestBy : Waits → List Image → List ThreadPlan → List (Option HartView) → Asked → Type 0
-IsRequestBy Step images threads harts asked = IsStepRequest images threads harts asked
-IsRequestBy Drain images threads harts asked = IsDrainRequest threads harts asked
+abbrev pub IsRequestBy : Waits → List ThreadPlan → List (Option HartView) → Asked → Type 0
+IsRequestBy Step threads harts asked = IsStepRequest threads harts asked
+IsRequestBy Drain threads harts asked = IsDrainRequest threads harts asked
 
-abbrev pub IsRequest : List Image → List ThreadPlan → List (Option HartView) → Asked → Type 0
-IsRequest images threads harts asked = IsRequestBy asked.waits images threads harts asked
+abbrev pub IsRequest : List ThreadPlan → List (Option HartView) → Asked → Type 0
+IsRequest threads harts asked = IsRequestBy asked.waits threads harts asked
 
 -- stores of a domain that wait lie in pages that it may write
 abbrev pub MayWriteAll : (PageView → Perm) → ℕ → List PendingView → Type 0
@@ -106,6 +96,12 @@ abbrev pub AreRequestsApart : List Asked → Type 0
 AreRequestsApart [] = Unit {0}
 AreRequestsApart (asked ∷ requests) = AllByRecursion (λ other. same_page asked.page other.page ≡ false) requests × AreRequestsApart requests
 
+-- no two requests are waited for by one step, or by one drain, of a hart
+abbrev pub AreWaitersApart : List Asked → Type 0
+AreWaitersApart [] = Unit {0}
+AreWaitersApart (asked ∷ requests) =
+    AllByRecursion (λ other. asked.hart ≡ other.hart → asked.waits ≡ other.waits → ⊥) requests × AreWaitersApart requests
+
 -- a request is out for which hart h's step waits, or its drain
 abbrev pub IsOut : ℕ → Waits → List Asked → Type 0
 IsOut h waits [] = ⊥
@@ -119,22 +115,23 @@ pub record HasAsked (h : ℕ) (requests : List Asked) (hart : HartView) : Type 0
 abbrev pub AreWaiting : List (Option HartView) → List Asked → Type 0
 AreWaiting harts requests = (h : ℕ) (hart : HartView) → hart_in harts h ≡ Some hart → HasAsked h requests hart
 
--- Its cache is one; its requests are apart, and for each of them a step or a drain waits; its harts wait only
--- for requests that are out; and their stores are allowed.
-pub record IsSoundBlade (images : List Image) (perms : PageView → Perm) (blade : BladeView) : Type 0 where
+-- Its cache is one; its requests are for pages apart, and for each of them a step or a drain waits, which waits
+-- for no other; its harts wait only for requests that are out; and their stores are allowed.
+pub record IsSoundBlade (perms : PageView → Perm) (blade : BladeView) : Type 0 where
   pub cache : IsPageCache blade.cache
   pub apart : AreRequestsApart blade.requests
-  pub requests : AllByRecursion (IsRequest images blade.plan.threads blade.harts) blade.requests
+  pub waiters : AreWaitersApart blade.requests
+  pub requests : AllByRecursion (IsRequest blade.plan.threads blade.harts) blade.requests
   pub waiting : AreWaiting blade.harts blade.requests
   pub stores : AreStoresAllowed perms blade.plan.threads blade.harts
 
 -- What a blade does leads on by moves, and leaves it sound. The newest image changes of no page but one that
 -- the blade then holds.
-pub record DoesMoves (images : List Image) (w other : World) (c : ℕ) (e : Effect) : Type 0 where
+pub record DoesMoves (w other : World) (c : ℕ) (e : Effect) : Type 0 where
   pub flat : PageView → PageImageView
   pub leads : LeadsTo w other c e.blade e.sent flat
   pub kept : (page : PageView) → frame_of page e.blade.cache.entries ≡ None → flat page ≡ w.flat page
-  pub sound : IsSoundBlade images w.perms e.blade
+  pub sound : IsSoundBlade w.perms e.blade
 
 -- ---- the rack
 
@@ -143,8 +140,8 @@ abbrev pub handing : ℕ → List Msg → World → World
 handing c messages w = record w { downs = put c (messages ++ w.downs c) w.downs }
 
 -- all blades of the rack are sound
-abbrev pub AreBladesSound : List Image → RackView → Type 0
-AreBladesSound images rack = (c : ℕ) (blade : BladeView) → slice_get rack.blades c ≡ Some blade → IsSoundBlade images (permission_at rack.switch.protect) blade
+abbrev pub AreBladesSound : RackView → Type 0
+AreBladesSound rack = (c : ℕ) (blade : BladeView) → slice_get rack.blades c ≡ Some blade → IsSoundBlade (permission_at rack.switch.protect) blade
 
 -- the image of a frame, where there is one
 abbrev pub image_or : PageImageView → Option Frame → PageImageView
@@ -152,14 +149,14 @@ image_or image None = image
 image_or image (Some frame) = frame.image
 
 -- moves lead from a world to one that is seen with some newest images, and the rack has sound blades then
-pub record BladesLead (images : List Image) (first : World) (last : (PageView → PageImageView) → World) (rack : RackView) : Type 0 where
+pub record BladesLead (first : World) (last : (PageView → PageImageView) → World) (rack : RackView) : Type 0 where
   pub flat : PageView → PageImageView
   pub moves : List Move
   pub run : Run first moves (last flat)
-  pub sound : AreBladesSound images rack
+  pub sound : AreBladesSound rack
 
 -- The same of one thing that blade c does: the newest image of each page is then the one that the blade
 -- holds, or what it was.
-pub record BladeLeads (images : List Image) (c : ℕ) (first : World) (last : (PageView → PageImageView) → World) (rack : RackView) : Type 0 where
-  pub leads : BladesLead images first last rack
+pub record BladeLeads (c : ℕ) (first : World) (last : (PageView → PageImageView) → World) (rack : RackView) : Type 0 where
+  pub leads : BladesLead first last rack
   pub newest : (page : PageView) → leads.flat page ≡ image_or (first.flat page) (frame_at rack.blades c page)

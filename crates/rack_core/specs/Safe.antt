@@ -16,17 +16,17 @@ use Rattle.rack_core.specs.Seen.{seen}
 use Rattle.rack_core.specs.SwitchMoves.{IsSoundSwitch, AreAsked, LieBelow}
 
 -- Blades and switch are sound; memory blades are asked for pages that lie there, and have an image for each.
-pub record IsSound (images : List Image) (rack : RackView) : Type 0 where
-  pub blades : AreBladesSound images rack
+pub record IsSound (rack : RackView) : Type 0 where
+  pub blades : AreBladesSound rack
   pub switch : IsSoundSwitch rack.switch
   pub asked : AreAsked rack
   pub room : (memory : ℕ) (pages : List PageImageView) → slice_get rack.memories memory ≡ Some pages → LieBelow (place_in rack.switch) memory (length pages)
 
 -- there is a newest image of each page with which the rack is coherent, and it is sound
-pub record IsSafe (images : List Image) (rack : RackView) : Type 0 where
+pub record IsSafe (rack : RackView) : Type 0 where
   pub flat : PageView → PageImageView
   pub coherent : IsCoherent (seen rack flat)
-  pub sound : IsSound images rack
+  pub sound : IsSound rack
 
 -- a link that the event delivers on is one of at most 8 of its kind
 abbrev pub IsOfRack : Event → Type 0

@@ -1,5 +1,5 @@
 -- The labels that an event notes lead the machine on, to a state that the rack stands for.
-use Rattle.std.specs.Prelude.{◌≡◌, ◌<◌, ℕ, List, slice_get, slice_set, Some}
+use Rattle.std.specs.Prelude.{◌≡◌, ◌≤◌, ℕ, List, slice_get, slice_set, Some}
 use Rattle.std.specs.List.{AllByRecursion}
 use Rattle.mind_base.specs.Fit.{IsFit}
 use Rattle.mind_base.specs.Page.{PageView}
@@ -27,9 +27,9 @@ ArePending stores = AllByRecursion (λ store. IsPending store.address store.size
 abbrev pub AreQueuesPending : RackView → Type 0
 AreQueuesPending rack = (h : ℕ) (hart : HartView) → IsHartAt rack h hart → ArePending hart.queue.stores
 
--- no hart's stores are spent: the call of its next one would say so
-abbrev pub AreUnspent : RackView → Type 0
-AreUnspent rack = (h : ℕ) (hart : HartView) → IsHartAt rack h hart → hart.stores < last_store
+-- of each hart no more stores took effect than have tags, as the blades say of their harts
+abbrev pub AreCounted : RackView → Type 0
+AreCounted rack = (h : ℕ) (hart : HartView) → IsHartAt rack h hart → hart.stores ≤ last_store
 
 -- the rack's plan is one of a rack, and each blade has it
 pub record HasOnePlan (rack : RackView) : Type 0 where
@@ -42,9 +42,8 @@ pub record GoesWith (images : List Image) (setup : Setup) (rack : RackView) (fla
   pub code : setup.images ≡ images
   pub one : HasOnePlan rack
   pub frames : AreFrames (seen rack flat)
-  pub sound : AreBladesSound images rack
+  pub sound : AreBladesSound rack
   pub pending : AreQueuesPending rack
-  pub unspent : AreUnspent rack
   pub stands : StandsFor rack flat state
 
 -- blade c became this one, and the switch permits what it did
@@ -70,5 +69,5 @@ pub record LeadsMachine (setup : Setup) (state : State) (noted : List Note) (rac
 pub record GoesOn (images : List Image) (setup : Setup) (state : State) (noted : List Note) (rack : RackView) : Type 0 where
   pub flat : PageView → PageImageView
   pub coherent : IsCoherent (seen rack flat)
-  pub sound : AreBladesSound images rack
+  pub sound : AreBladesSound rack
   pub machine : LeadsMachine setup state noted rack flat

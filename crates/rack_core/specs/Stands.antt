@@ -1,9 +1,8 @@
 -- The rack stands for a state of the abstract machine: the same threads, and the newest images have the
 -- machine's bytes.
 use Rattle.std.specs.Prelude.{◌≡◌, ◌≤◌, ◌<◌, ℕ, ◌/◌, ◌%◌, ◌==◌, slice_get, slice_index, Option, Some, None, if◌then◌else◌}
-use Rattle.hart_effect.specs.Place.{page_with}
+use Rattle.mind_base.specs.Place.{page_with, Granule}
 use Rattle.hart_effect.specs.Thread.{Thread}
-use Rattle.hart_effect.specs.declared.granules.Granule.{Granule}
 use Rattle.mind_base.specs.Page.{PageView, page_of}
 use Rattle.mind_base.specs.Permission.{permission_of}
 use Rattle.mind_base.specs.declared.plans.ThreadPlan.{ThreadPlan}

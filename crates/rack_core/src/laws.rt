@@ -13,7 +13,7 @@ ghost use Rattle.rack_core.specs.Events.{Leads};
 ghost use Rattle.rack_core.specs.Rack.{RackView};
 ghost use Rattle.rack_core.specs.Safe.{IsSafe, IsOfRack, Reaches, AreOfRack};
 ghost use Rattle.rack_core.specs.Seen.{frame_at, region_at, seen};
-ghost use Rattle.rack_core.specs.StandRuns.{GoesWith, GoesOn};
+ghost use Rattle.rack_core.specs.StandRuns.{GoesWith, GoesOn, AreCounted};
 ghost use Rattle.tso_machine.specs.State.{Setup, State};
 ghost use Rattle.rack_core.specs.Start.{IsStart};
 
@@ -22,21 +22,21 @@ ghost use Rattle.rack_core.specs.Start.{IsStart};
 /// of the rack of every plan that fits, before its first event.
 pub fn every_event_keeps_coherence()
     ensures event_keeps { (images : List image) (e : event) (old new : RackView) (noted : List note)
-        → IsOfRack e → IsSafe images old → Leads images e old new noted → IsSafe images new }
+        → IsOfRack e → IsSafe old → Leads images e old new noted → IsSafe new }
     ensures run_keeps { (images : List image) (events : List event) (old new : RackView) (noted : List note)
-        → AreOfRack events → IsSafe images old → Reaches images events old new noted → IsSafe images new }
-    ensures starts { (images : List image) (plan : rack_plan) (rack : RackView)
-        → IsFit plan → IsStart plan rack → IsSafe images rack }
+        → AreOfRack events → IsSafe old → Reaches images events old new noted → IsSafe new }
+    ensures starts { (plan : rack_plan) (rack : RackView)
+        → IsFit plan → IsStart plan rack → IsSafe rack }
 {}
 
 /// In every such rack a page that a blade may write is held by no other blade, and all blades that hold a
 /// page have the same bytes and tags of it.
 pub fn one_writer_in_the_rack()
-    ensures single_writer { (images : List image) (rack : RackView) (a b : ℕ) (page : PageView) (f g : frame)
-        → IsSafe images rack → frame_at rack.blades a page ≡ Some f → f.writable ≡ true
+    ensures single_writer { (rack : RackView) (a b : ℕ) (page : PageView) (f g : frame)
+        → IsSafe rack → frame_at rack.blades a page ≡ Some f → f.writable ≡ true
         → frame_at rack.blades b page ≡ Some g → a ≡ b }
-    ensures same_image { (images : List image) (rack : RackView) (a b : ℕ) (page : PageView) (f g : frame)
-        → IsSafe images rack → frame_at rack.blades a page ≡ Some f → frame_at rack.blades b page ≡ Some g
+    ensures same_image { (rack : RackView) (a b : ℕ) (page : PageView) (f g : frame)
+        → IsSafe rack → frame_at rack.blades a page ≡ Some f → frame_at rack.blades b page ≡ Some g
         → f.image ≡ g.image }
 {}
 
@@ -60,11 +60,11 @@ pub fn caches_agree()
 {}
 
 /// A step and a drain of a hart in a rack that stands for a state of the abstract machine note labels that lead
-/// the machine, whole, to a state that the rack stands for afterwards, while no hart's stores are spent: the
-/// same threads, and the newest images have the machine's bytes.
+/// the machine, whole, to a state that the rack stands for afterwards: the same threads, and the newest images
+/// have the machine's bytes. Of no hart more stores took effect than have tags, as its blade says.
 pub fn steps_and_drains_run_the_machine()
     ensures step { (images : List image) (setup : Setup) (h : ℕ) (old new : RackView) (noted : List note) (flat : PageView → PageImageView) (m : State)
-        → IsCoherent (seen old flat) → GoesWith images setup old flat m → Leads images (Step h) old new noted → GoesOn images setup m noted new }
+        → IsCoherent (seen old flat) → GoesWith images setup old flat m → Leads images (Step h) old new noted → AreCounted new → GoesOn images setup m noted new }
     ensures drain { (images : List image) (setup : Setup) (h : ℕ) (old new : RackView) (noted : List note) (flat : PageView → PageImageView) (m : State)
-        → IsCoherent (seen old flat) → GoesWith images setup old flat m → Leads images (Drain h) old new noted → GoesOn images setup m noted new }
+        → IsCoherent (seen old flat) → GoesWith images setup old flat m → Leads images (Drain h) old new noted → AreCounted new → GoesOn images setup m noted new }
 {}
