@@ -1,16 +1,11 @@
--- The rack of the tests is fit, and its machine keeps its threads.
-use Rattle.std.proofs.Common.{◌≡◌, ℕ, zero, suc, ◌-◌, ◌^◌, ◌≤◌, ◌∙◌, Bool, true, false, ◌&&◌, not, List, [], ◌∷◌, length, ap, sym, refl, subst, arith, Option, Some, None}
+-- The rack of the tests is fit.
+use Rattle.std.proofs.Common.{◌≡◌, ℕ, zero, suc, ◌-◌, ◌^◌, ◌≤◌, Bool, true, false, ◌&&◌, not, List, [], ◌∷◌, length, sym, refl, subst, arith}
 use Rattle.mind_base.specs.Cover.{count_below, sum_below, is_uniform, has_uniform_parent, is_in_cover, cover_of}
 use Rattle.mind_base.specs.Fit.{IsFit, FitImages}
 use Rattle.mind_base.specs.declared.commands.Perm.TheVariants.{No}
 use Rattle.mind_base.specs.declared.images.Image.{Image}
 use Rattle.mind_base.specs.declared.plans.RackPlan.{RackPlan}
-use Rattle.tso_machine.specs.State.{State}
-use Rattle.tso_machine.specs.Step.{after}
-use Rattle.tso_machine.specs.Machine.{MachineView, Leads, LeadsTo}
-use Rattle.tso_machine.specs.declared.labels.Label.{Label}
-use Rattle.tso_machine.proofs.Threads.{after-length}
-use Rattle.report_text.specs.Sample.{sample_plan, HasThree}
+use Rattle.report_text.specs.Sample.{sample_plan}
 
 false-right : (a b : Bool) → (a && false) && b ≡ false
 false-right true b = refl
@@ -82,22 +77,3 @@ images-fit plan name images low high e f h k =
     let P : RackPlan → Type 0 = λ p. FitImages p.images images in
     let Q : List Image → Type 0 = λ is. FitImages (sample_plan name).images is in
     subst P (sym e) (subst Q (sym f) (sample-images low high name h k))
-
--- by what a step leads to
-three-by : (old new : MachineView) (label : Label) (enabled : Bool) (h : HasThree old) (o : Option State) → after old.setup h.state label ≡ o
-    → LeadsTo enabled old new o → HasThree new
-three-by old new label enabled h None e leads = subst HasThree (sym leads.1) h
-three-by old new label enabled h (Some state) e leads = record {
-  state = state;
-  stands = leads.1;
-  three = after-length old.setup h.state state label e ∙ h.three;
-}
-
-pub three-after : (old new : MachineView) (label : Label) (enabled : Bool) → HasThree old → Leads enabled label old new → HasThree new
-three-after old new label enabled h leads = three-by old new label enabled h (after old.setup h.state label) refl (leads h.state h.stands)
-
-pub three-threads : (machine : MachineView) (plan : RackPlan) (name : List ℕ) → HasThree machine → plan ≡ sample_plan name → length machine.threads ≡ length plan.threads
-three-threads machine plan name h e = ap length h.stands.threads ∙ h.three ∙ sym (ap (λ p. length p.threads) e)
-
-pub plan-few : (plan : RackPlan) (name : List ℕ) → plan ≡ sample_plan name → length plan.threads ≤ 64
-plan-few plan name e = let three : length plan.threads ≡ 3 = ap (λ p. length p.threads) e in omega arith

@@ -1,10 +1,8 @@
 -- A small rack that the tests run: three threads on one blade, the first two in one image.
-use Rattle.std.specs.Prelude.{◌≡◌, ℕ, List, [], ◌∷◌, length}
+use Rattle.std.specs.Prelude.{ℕ, List, [], ◌∷◌}
 use Rattle.mind_base.specs.declared.plans.PolicyKind.TheVariants.{Threshold}
 use Rattle.mind_base.specs.declared.plans.RackPlan.{RackPlan}
 use Rattle.mind_base.specs.declared.plans.ThreadPlan.{ThreadPlan}
-use Rattle.tso_machine.specs.State.{State}
-use Rattle.tso_machine.specs.Machine.{MachineView, StandsFor}
 
 abbrev pub sample_thread : ℕ → ThreadPlan
 sample_thread image = record { blade = 0; domain = 0; image = image; queue = 1 }
@@ -25,9 +23,3 @@ sample_plan name = record {
   threads = sample_thread 0 ∷ sample_thread 0 ∷ sample_thread 1 ∷ [];
   maps = [];
 }
-
--- the machine stands for a state of three threads
-pub record HasThree (machine : MachineView) : Type 0 where
-  pub state : State
-  pub stands : StandsFor machine state
-  pub three : length state.threads ≡ 3

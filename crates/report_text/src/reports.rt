@@ -11,7 +11,7 @@ use tso_machine::Machine;
 /// The report of a run, each line ended by LF: `mind 1`, a line for each thread in order, a line for each
 /// command in order, and the line of counts. The machine is one made from this plan and these commands, at
 /// the end of the run, and the log is that of the run. A command ended as the machine took it, or as the
-/// first move of its number in the log did; else it waits. Plans have at most 64 threads.
+/// first move of its number in the log did; else it waits.
 pub fn report(
     alloc: Global,
     plan: &RackPlan,
@@ -20,17 +20,14 @@ pub fn report(
     log: &Log,
 ) -> Result<Vec<u8>, NoMemory>
     requires made { machine.now.setup.plan ≡ plan.now }
-    requires threads { length machine.now.threads ≡ length plan.now.threads }
-    requires few { length plan.now.threads ≤ 64 }
     requires commands { machine.now.setup.commands ≡ commands.now }
     requires few_commands { length commands.now ≤ 1000000 }
     ensures { IfOk result (λ text. text.items ≡ report_text commands.now machine.now.threads machine.now.taken log.now.notes) }
 {
-    let count = plan.threads.len() as u8;
     let mut out = Vec::new(alloc);
     out.extend_from_slice(b"mind 1")?;
     out.extend_from_slice(b"\n")?;
-    put_threads(alloc, &mut out, machine, count)?;
+    put_threads(alloc, &mut out, machine)?;
     put_commands(alloc, &mut out, machine, commands, log)?;
     let counts = counts_in(alloc, log)?;
     put_counts(alloc, &mut out, &counts)?;

@@ -1,7 +1,7 @@
 //! Whole reports and lines of counts, written by hand from the format.
 
-ghost use Rattle.std.specs.Prelude.{◌≡◌, ◌<◌, ◌≤◌, [], ◌∷◌, length, IfOk, OnOk};
-ghost use Rattle.report_text.specs.Sample.{sample_plan, HasThree};
+ghost use Rattle.std.specs.Prelude.{◌≡◌, ◌<◌, ◌≤◌, [], ◌∷◌, length, IfOk};
+ghost use Rattle.report_text.specs.Sample.{sample_plan};
 
 use crate::counts::{counts_in, put_counts};
 use crate::report;
@@ -94,7 +94,6 @@ fn machine_of(
     requires few { length commands.now ≤ 1000000 }
     ensures plan { IfOk result (λ machine. machine.setup.plan ≡ plan.now) }
     ensures commands { IfOk result (λ machine. machine.setup.commands ≡ commands.now) }
-    ensures three { IfOk result (λ machine. HasThree machine) }
 {
     let images = images_in(alloc)?;
     let machine = Machine::start(alloc, plan, images.as_slice(), commands)?;
@@ -102,9 +101,7 @@ fn machine_of(
 }
 
 fn run_thread(machine: &mut Machine, hart: u8, steps: u8) -> Result<(), NoMemory>
-    requires { HasThree machine.old }
-    ensures setup { machine.new.setup ≡ machine.old.setup }
-    ensures three { OnOk result (HasThree machine.new) }
+    ensures { machine.new.setup ≡ machine.old.setup }
 {
     for i in 0..steps {
         machine.step(Label::Exec { hart })?;
@@ -113,9 +110,7 @@ fn run_thread(machine: &mut Machine, hart: u8, steps: u8) -> Result<(), NoMemory
 }
 
 fn take_commands(machine: &mut Machine, count: u32) -> Result<(), NoMemory>
-    requires { HasThree machine.old }
-    ensures setup { machine.new.setup ≡ machine.old.setup }
-    ensures three { OnOk result (HasThree machine.new) }
+    ensures { machine.new.setup ≡ machine.old.setup }
 {
     for index in 0..count {
         machine.step(Label::Command { index })?;
@@ -135,7 +130,6 @@ fn report_on(
     requires made { machine.now.setup.plan ≡ plan.now }
     requires commands { machine.now.setup.commands ≡ commands.now }
     requires few { length commands.now ≤ 1000000 }
-    requires three { HasThree machine.now }
 {
     let text = report(alloc, plan, machine, commands, log)?;
     Ok(text)
@@ -153,7 +147,6 @@ fn stopped_machine(
     requires few { length commands.now ≤ 1000000 }
     ensures plan { IfOk result (λ machine. machine.setup.plan ≡ plan.now) }
     ensures commands { IfOk result (λ machine. machine.setup.commands ≡ commands.now) }
-    ensures three { IfOk result (λ machine. HasThree machine) }
 {
     let mut machine = machine_of(alloc, name, plan, commands)?;
     run_thread(&mut machine, 0, 6)?;

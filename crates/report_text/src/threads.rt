@@ -1,4 +1,4 @@
-ghost use Rattle.std.specs.Prelude.{◌≡◌, ◌++◌, OnOk, length};
+ghost use Rattle.std.specs.Prelude.{◌≡◌, ◌++◌, OnOk};
 ghost use Rattle.report_text.specs.ThreadLine.{fault_word, end_text, output_text, thread_line_of, thread_lines};
 
 use crate::texts::{put_bytes, put_decimal, put_word};
@@ -79,17 +79,11 @@ fn put_thread(
     Ok(())
 }
 
-/// The lines of the first `count` threads, which are all.
-pub fn put_threads(
-    alloc: Global,
-    out: &mut Vec<u8>,
-    machine: &Machine,
-    count: u8,
-) -> Result<(), NoMemory>
-    requires { count ≡ length machine.now.threads }
+/// The lines of all threads.
+pub fn put_threads(alloc: Global, out: &mut Vec<u8>, machine: &Machine) -> Result<(), NoMemory>
     ensures { OnOk result (out.new.items ≡ out.old.items ++ thread_lines machine.now.threads) }
 {
-    for hart in 0..count {
+    for hart in 0..machine.thread_count() {
         put_thread(alloc, out, hart, machine.end(hart), machine.output(hart))?;
     }
     Ok(())

@@ -1,6 +1,5 @@
 use Rattle.std.proofs.Common.{◌≡◌}
-use Rattle.report_text.specs.Sample.{HasThree}
 use Rattle.report_text.proofs.tests.run_thread.Given as goal
 
 abbrev pub invariant-loop-i : goal.invariant-loop-i
-invariant-loop-i l = (l.machine.setup ≡ l.fn.machine.setup) × HasThree l.machine
+invariant-loop-i l = l.machine.setup ≡ l.fn.machine.setup
