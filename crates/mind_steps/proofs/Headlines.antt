@@ -1,17 +1,13 @@
 -- A run that went through all its events has the headline.
-use Rattle.std.proofs.Common.{◌≡◌, ℕ, List, length, ◌∙◌, ap, sym, refl, subst}
-use Rattle.std.proofs.lemmas.List.{length-map}
+use Rattle.std.proofs.Common.{◌≡◌, ℕ, List, ◌∙◌, ap, sym, refl, subst}
 use Rattle.mind_base.specs.declared.commands.Command.{Command}
 use Rattle.mind_base.specs.declared.events.Event.{Event}
 use Rattle.mind_base.specs.declared.notes.Note.{Note}
-use Rattle.mind_base.specs.declared.plans.ThreadPlan.{ThreadPlan}
 use Rattle.journal_text.specs.Journal.{journal_text_of}
-use Rattle.hart_effect.specs.Thread.{first_thread}
-use Rattle.tso_machine.specs.State.{Setup, State, start_state, image_at}
+use Rattle.tso_machine.specs.State.{Setup, State, start_state}
 use Rattle.tso_machine.specs.Replay.{labels, Replayed, Whole, Stuck, replay}
 use Rattle.tso_machine.specs.Machine.{MachineView, StandsFor, Replays, ReplaysTo}
 use Rattle.tso_machine.specs.declared.labels.Replay.TheVariants as answer
-use Rattle.tso_machine.proofs.Threads.{replay-length}
 use Rattle.report_text.specs.Report.{report_text}
 use Rattle.mind_steps.specs.Run.{stage_after, events, IsRun, Headline, JournalHeadline, IsReportOf, IsStuckAt}
 use Rattle.mind_steps.specs.Running.{Runs}
@@ -70,14 +66,3 @@ stuck-checked setup machine new notes n same stands replays =
       by-end : (r : Replayed) → replay setup (start_state setup) (labels notes) ≡ r → ReplaysTo (answer.Stuck n) new r → IsStuckAt setup notes n
       by-end (Whole state) is ends = absurd ends
       by-end (Stuck k state) is ends = (state, is ∙ ap (λ m. Stuck m state) (sym ends.0))
-
--- there are as many threads as the plan has
-pub length-checked : (setup : Setup) (machine new : MachineView) (notes : List Note) → machine.setup ≡ setup
-    → StandsFor machine (start_state setup) → Replays answer.Whole (labels notes) machine new → length new.threads ≡ length setup.plan.threads
-length-checked setup machine new notes same stands replays =
-    let P : Setup → Type 0 = λ u. ReplaysTo answer.Whole new (replay u (start_state setup) (labels notes)) in
-    by-end (replay setup (start_state setup) (labels notes)) refl (subst P same (replays (start_state setup) stands)) where
-      by-end : (r : Replayed) → replay setup (start_state setup) (labels notes) ≡ r → ReplaysTo answer.Whole new r → length new.threads ≡ length setup.plan.threads
-      by-end (Whole state) is ends = ap length ends.threads ∙ replay-length setup (start_state setup) state (labels notes) is
-          ∙ length-map setup.plan.threads (λ (t : ThreadPlan). first_thread (image_at setup.plan.images t.image))
-      by-end (Stuck n state) is ends = absurd ends

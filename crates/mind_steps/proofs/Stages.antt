@@ -2,14 +2,11 @@
 use Rattle.std.proofs.Common.{◌≡◌, ℕ, suc, ◌+◌, ◌⊎◌, inl, inr, ◌∙◌, Bool, true, false, ◌||◌, cond, List, [], ◌∷◌, ◌++◌, length, ap, sym, refl, subst, Option, Some, None, append-nil, take, arith}
 use Rattle.std.specs.List.{list_any, slice_get, cons_option}
 use Rattle.std.proofs.lemmas.List.Elements.{filter_map-append}
-use Rattle.std.proofs.lemmas.List.{length-map}
 use Rattle.mind_base.specs.declared.events.Event.{Event}
 use Rattle.mind_base.specs.declared.events.Event.TheVariants as event
 use Rattle.mind_base.specs.declared.notes.Note.{Note}
 use Rattle.mind_base.specs.declared.notes.Note.TheVariants as note
-use Rattle.mind_base.specs.declared.plans.ThreadPlan.{ThreadPlan}
-use Rattle.hart_effect.specs.Thread.{first_thread}
-use Rattle.tso_machine.specs.State.{Setup, State, start_state, image_at}
+use Rattle.tso_machine.specs.State.{Setup, State, start_state}
 use Rattle.tso_machine.specs.Step.{after}
 use Rattle.tso_machine.specs.Replay.{labels, label_of, Whole, advanced, replay}
 use Rattle.tso_machine.specs.Machine.{MachineView, StandsFor}
@@ -17,7 +14,6 @@ use Rattle.tso_machine.specs.Scheduled.{step_label, drain_label}
 use Rattle.tso_machine.specs.declared.labels.Label.{Label}
 use Rattle.tso_machine.specs.declared.labels.Label.TheVariants as label
 use Rattle.tso_machine.proofs.Runs.{labels-none, labels-some, replay-more, whole-front, take-at}
-use Rattle.tso_machine.proofs.Threads.{after-length}
 use Rattle.mind_steps.specs.Run.{Stage, noted, note_of, went_on, labelled, event_after, stage_from, first_stage, stage_after, is_event, event_of, events, below, before_last, Stands}
 use Rattle.mind_steps.specs.Running.{IsAt, DoesEvent, Runs}
 
@@ -134,26 +130,6 @@ pub stage-events : (setup : Setup) (es : List Event) → events (stage_after set
 unfolding HasEvents
 stage-events setup es = keeps setup HasEvents events-note (events-step setup) refl es
 
--- ---- there are as many threads as the plan has
-
-HasThreads : Setup → ℕ → Stage → Type 0
-HasThreads setup index stage = length stage.state.threads ≡ length setup.plan.threads
-
-threads-note : (setup : Setup) (stage : Stage) (index : ℕ) → HasThreads setup index stage → HasThreads setup (suc index) (noted stage index)
-unfolding HasThreads
-threads-note setup stage index h = h
-
-threads-step : (setup : Setup) (stage : Stage) (index : ℕ) (l : Label) (o : Option State) → after setup stage.state l ≡ o
-    → HasThreads setup index stage → HasThreads setup index (went_on stage l o)
-unfolding HasThreads
-threads-step setup stage index l None e h = h
-threads-step setup stage index l (Some next) e h = after-length setup stage.state next l e ∙ h
-
-pub stage-length : (setup : Setup) (es : List Event) → length (stage_after setup es).state.threads ≡ length setup.plan.threads
-unfolding HasThreads
-stage-length setup es = keeps setup (HasThreads setup) (threads-note setup) (threads-step setup)
-    (length-map setup.plan.threads (λ (t : ThreadPlan). first_thread (image_at setup.plan.images t.image))) es
-
 -- ---- what stands where memory ran out
 
 any-last : (ns : List Note) (index : ℕ) → list_any is_event (ns ++ note.Event index ∷ []) ≡ true
@@ -236,9 +212,6 @@ runs-more-at setup es i e old new before behind at there runs does same =
     let P : List Event → Type 0 = λ xs. Runs setup xs new behind in
     let Q : ℕ → Type 0 = λ n. DoesEvent n e old before new behind in
     subst P (sym (take-at es i e at)) (runs-more setup (take i es) e old new before behind runs (subst Q (sym there) does) same)
-
-pub runs-length : (setup : Setup) (es : List Event) (machine : MachineView) (notes : List Note) → Runs setup es machine notes → length machine.threads ≡ length setup.plan.threads
-runs-length setup es machine notes runs = ap length runs.stage.1.threads ∙ stage-length setup es
 
 pub runs-as : (u v : Setup) (es : List Event) (machine : MachineView) (notes : List Note) → u ≡ v → Runs u es machine notes → Runs v es machine notes
 runs-as u v es machine notes e runs = let P : Setup → Type 0 = λ x. Runs x es machine notes in subst P e runs

@@ -3,14 +3,8 @@ use Rattle.tso_machine.specs.Machine.{Replays}
 use Rattle.tso_machine.specs.Replay.{labels}
 use Rattle.tso_machine.specs.declared.labels.Replay.{Replay}
 use Rattle.mind_steps.specs.Run.{setup_of}
-use Rattle.mind_steps.proofs.Headlines.{report-checked, stuck-checked, length-checked}
+use Rattle.mind_steps.proofs.Headlines.{report-checked, stuck-checked}
 use Rattle.mind_steps.proofs.checking.check.Goals as goal
-
-pub report-requires-clause-threads : goal.report-requires-clause-threads
-report-requires-clause-threads c =
-    let P : Replay → Type 0 = λ a. Replays a (labels c.args.journal.now.notes) c.in_ok-machine.machine c.replay.new.self in
-    length-checked (setup_of c.args.plan.now c.args.images.now) c.in_ok-machine.machine c.replay.new.self c.args.journal.now.notes
-    c.in_ok-machine.ensures.setup c.in_ok-machine.ensures.start (subst P c.in-Whole.is c.in_ok-replay.ensures.ok)
 
 pub returns-in-Whole : goal.returns-in-Whole
 returns-in-Whole c =
