@@ -1,3 +1,4 @@
+pub mod Acting
 pub mod Chains
 pub mod Keeping
 pub mod Moving

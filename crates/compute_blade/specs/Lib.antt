@@ -1,3 +1,4 @@
+pub mod Actions
 pub mod Blade
 pub mod Denials
 pub mod Frames

@@ -6,8 +6,10 @@ mod denials;
 mod frames;
 mod harts;
 mod kept;
+mod laws;
 mod needs;
 mod requests;
 
 pub use blades::ComputeBlade;
 pub use kept::{Asked, Reservation, Waits};
+pub use laws::calls_are_actions;

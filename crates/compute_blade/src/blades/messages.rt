@@ -35,10 +35,11 @@ impl ComputeBlade {
         }
     }
 
-    /// Takes a message of the switch. A `Fill` brings the page that a step or a drain waited for, and it
-    /// is performed; a `Deny` lets the step that waited fault; `Inv` and `Lower` take pages of a range
-    /// away, or the leave to write them, and are acknowledged. `Spent` comes where a store would be its
-    /// hart's 2^58th.
+    /// Takes a message of the switch. A `Fill` brings the page that a step or a drain waited for, and what
+    /// waited goes on; a `Deny` ends the hart whose step waited by a fault of its access. A step goes on only
+    /// where its instruction needs just what was asked for; else it waits no longer, and nothing else is done.
+    /// `Inv` and `Lower` take pages of a range away, or the leave to write them, and are acknowledged. `Spent`
+    /// comes where a store would be the 2^58th of the hart that waited.
     pub fn receive(
         &mut self,
         msg: Msg,
