@@ -23,6 +23,7 @@ pub IsTable-put : (table : TableView) (o : Outlier) (os : List Outlier) → IsTa
 IsTable-put table o os is e within block fits = record {
   apart = is.apart;
   few = is.few;
+  spare = is.spare;
   ordered = subst IsOrdered (sym e) (ordered-put o table.outliers is.ordered);
   limit = is.limit;
   within = within;
@@ -34,6 +35,7 @@ pub IsTable-filter : (table : TableView) (test : Outlier → Bool) (os : List Ou
 IsTable-filter table test os is e fewer = record {
   apart = is.apart;
   few = is.few;
+  spare = is.spare;
   ordered = subst IsOrdered (sym e) (ordered-filter test table.outliers is.ordered);
   limit = is.limit;
   within = omega (arith, is.within);

@@ -16,6 +16,7 @@ pub record TableView : Type 0 where
 pub record IsTable (table : TableView) : Type 0 where
   pub apart : AreApart (all_homes table.homes)
   pub few : length table.homes ≤ 8
+  pub spare : All (λ m. m.spare ≤ 4096) table.homes
   pub blocks : All (λ o. IsRange o.range.domain o.range.base o.range.log) table.outliers
   pub ordered : IsOrdered table.outliers
   pub limit : table.slots < 2 ^ 32

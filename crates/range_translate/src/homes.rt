@@ -9,7 +9,8 @@ use std::alloc::Global;
 /// How many pages these runs have together.
 pub fn pages_of(homes: &[Span]) -> u32
     requires { AreApart homes.now }
-    ensures { result ≡ pages_of homes.now }
+    ensures pages { result ≡ pages_of homes.now }
+    ensures few { result ≤ 16777216 }
 {
     let mut pages = 0;
     for span in homes {
@@ -53,7 +54,8 @@ pub fn home_of(memories: &[MemoryPlan], page: Page) -> Option<(u8, u32)>
 pub fn spare_base(memories: &[MemoryPlan], memory: usize) -> u32
     requires apart { AreApart (all_homes memories.now) }
     requires there { memory < length memories.now }
-    ensures { slice_get (map (λ m. pages_of m.homes) memories.now) memory ≡ Some result }
+    ensures pages { slice_get (map (λ m. pages_of m.homes) memories.now) memory ≡ Some result }
+    ensures few { result ≤ 16777216 }
 {
     pages_of(memories[memory].homes.as_slice())
 }

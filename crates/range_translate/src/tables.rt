@@ -148,7 +148,9 @@ impl Table {
     /// How many home pages the memory blade has, which is the physical number of its first spare page.
     pub fn spare_base(&self, memory: u8) -> u32
         requires { memory < length self.now.homes }
-        ensures { slice_get (map (λ m. pages_of m.homes) self.now.homes) memory ≡ Some result }
+        ensures pages { slice_get (map (λ m. pages_of m.homes) self.now.homes) memory ≡ Some result }
+        ensures few { result ≤ 16777216 }
+        ensures table { IsTable self.now }
     {
         homes::spare_base(self.memories.as_slice(), memory as usize)
     }

@@ -15,7 +15,7 @@ pub loop-span-preserved : goal.loop-span-preserved
 loop-span-preserved c =
     let r = read_one c.args.homes.now c.loop-span.span-index c.loop-span.pages c.span-item.result c.requires c.loop-span-test.true c.span-item.is
     (subst IsSpanView c.span.view_is c.span.invariant) c.loop-span.invariant.spans c.loop-span.invariant.sum in
-    record { spans = r.spans; sum = omega (arith, r.sum, ap (λ (s : SpanView). s.pages) c.span.view_is) }
+    record { spans = r.spans; sum = omega (arith, r.sum, ap (λ (s : SpanView). s.pages) c.span.view_is); few = omega (arith, r.few, ap (λ (s : SpanView). s.pages) c.span.view_is) }
 
-pub returns : goal.returns
-returns c = omega (arith, c.loop-span.invariant.sum, ap pages_of (take_all c.loop-span.span-index c.args.homes.now (omega arith)))
+pub returns-clause-pages : goal.returns-clause-pages
+returns-clause-pages c = omega (arith, c.loop-span.invariant.sum, ap pages_of (take_all c.loop-span.span-index c.args.homes.now (omega arith)))

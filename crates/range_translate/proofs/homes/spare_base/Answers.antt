@@ -13,10 +13,10 @@ pages_of-requires c =
     subst AreApart (sym (c.as_slice.ensures ∙ ap (λ (p : MemoryPlan). p.homes) (sym m.is)))
     (AreApart-one c.args.memories.now c.args.memory m.result c.requires.apart c.requires.there m.is)
 
-pub returns : goal.returns
-returns c =
+pub returns-clause-pages : goal.returns-clause-pages
+returns-clause-pages c =
     let m = c.index-memories-memory in
-    let pages : c.pages_of.result ≡ pages_of m.result.homes = c.pages_of.ensures ∙ ap pages_of (c.as_slice.ensures ∙ ap (λ (p : MemoryPlan). p.homes) (sym m.is)) in
+    let pages : c.pages_of.result ≡ pages_of m.result.homes = c.pages_of.ensures.pages ∙ ap pages_of (c.as_slice.ensures ∙ ap (λ (p : MemoryPlan). p.homes) (sym m.is)) in
     slice_get-map (λ (p : MemoryPlan). pages_of p.homes) c.args.memories.now c.args.memory
     ∙ ap (option_map (λ (p : MemoryPlan). pages_of p.homes)) (slice_get_read c.args.memories.now _ c.args.memory m.result refl c.requires.there m.is)
     ∙ ap (λ (n : ℕ). Some n) (sym pages)
