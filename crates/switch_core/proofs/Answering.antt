@@ -46,8 +46,7 @@ abbrev pub answered_in : List Entry → ℕ
 answered_in [] = 0
 answered_in (e ∷ es) = cond (is_answered e.busy) 1 0 + answered_in es
 
-record EndsFirst (es : List Entry) (x : RangeView × State) : Type 0 where
-  noted : flat_map noted_end es ≡ note.Region x.0 x.1 ∷ flat_map noted_end (with_first_ended es)
+record EndsFirst (es : List Entry) : Type 0 where
   same : map ended (with_first_ended es) ≡ map ended es
   fewer : answered_in es ≡ answered_in (with_first_ended es) + 1
 
@@ -57,49 +56,37 @@ first-changed-here e es t = ap (λ (b : Bool). cond b (finished e ∷ es) (e ∷
 first-changed-later : (e : Entry) (es : List Entry) → is_answered e.busy ≡ false → with_first_ended (e ∷ es) ≡ e ∷ with_first_ended es
 first-changed-later e es f = ap (λ (b : Bool). cond b (finished e ∷ es) (e ∷ with_first_ended es)) f
 
-step-here : (e : Entry) (es : List Entry) (x : RangeView × State) → is_answered e.busy ≡ true → (e.range, target_of e e.busy) ≡ x → EndsFirst (e ∷ es) x
-step-here e es x t same-x =
+step-here : (e : Entry) (es : List Entry) → is_answered e.busy ≡ true → EndsFirst (e ∷ es)
+step-here e es t =
     let w : with_first_ended (e ∷ es) ≡ finished e ∷ es = first-changed-here e es t in
-    let told : flat_map noted_end (e ∷ es) ≡ note.Region e.range (target_of e e.busy) ∷ flat_map noted_end es =
-    ap (λ (b : Bool). cond b (note.Region e.range (target_of e e.busy) ∷ []) [] ++ flat_map noted_end es) t in
     let count : answered_in (e ∷ es) ≡ 1 + answered_in es = ap (λ (b : Bool). cond b 1 0 + answered_in es) t in
     let left : answered_in (with_first_ended (e ∷ es)) ≡ 0 + answered_in es = ap answered_in w in
     record {
-      noted = told ∙ ap (λ (y : RangeView × State). note.Region y.0 y.1 ∷ flat_map noted_end es) same-x ∙ sym (ap (λ (ys : List Entry). note.Region x.0 x.1 ∷ flat_map noted_end ys) w);
       same = ap (map ended) w ∙ sym (ap (λ (b : Bool). cond b (finished e) e ∷ map ended es) t);
       fewer = omega (arith, count, left);
     }
 
-step-later : (e : Entry) (es : List Entry) (x : RangeView × State) → is_answered e.busy ≡ false → EndsFirst es x → EndsFirst (e ∷ es) x
-step-later e es x f h =
+step-later : (e : Entry) (es : List Entry) → is_answered e.busy ≡ false → EndsFirst es → EndsFirst (e ∷ es)
+step-later e es f h =
     let w : with_first_ended (e ∷ es) ≡ e ∷ with_first_ended es = first-changed-later e es f in
-    let told : (ys : List Entry) → flat_map noted_end (e ∷ ys) ≡ flat_map noted_end ys =
-    λ ys. ap (λ (b : Bool). cond b (note.Region e.range (target_of e e.busy) ∷ []) [] ++ flat_map noted_end ys) f in
     let left : answered_in (with_first_ended (e ∷ es)) ≡ cond (is_answered e.busy) 1 0 + answered_in (with_first_ended es) = ap answered_in w in
     record {
-      noted = told es ∙ h.noted ∙ ap (λ (ns : List Note). note.Region x.0 x.1 ∷ ns) (sym (told (with_first_ended es))) ∙ sym (ap (λ (ys : List Entry). note.Region x.0 x.1 ∷ flat_map noted_end ys) w);
       same = ap (map ended) w ∙ ap (λ (ys : List Entry). ended e ∷ ys) h.same;
       fewer = omega (arith, h.fewer, left);
     }
 
-ended-of : Entry → RangeView × State
-ended-of e = (e.range, target_of e e.busy)
-
 some-is : {A : Type 0} (a b : A) → Some a ≡ Some b → a ≡ b
 some-is a b e = (cc)
 
-ends-first : (es : List Entry) (x : RangeView × State) → first_ended es ≡ Some x → EndsFirst es x
+ends-first : (es : List Entry) (x : RangeView × State) → first_ended es ≡ Some x → EndsFirst es
 ends-first [] x h = absurd (cc)
 ends-first (e ∷ es) x h =
     elim (cases_Bool (is_answered e.busy)) [
-      | inl t ↦
-          let found : first_ended (e ∷ es) ≡ Some (e.range, target_of e e.busy) =
-          ap (λ (b : Bool). option_map {T = Entry} {U = RangeView × State} (λ y. (y.range, target_of y y.busy)) (cond b (Some e) (find (λ y. is_answered y.busy) es))) t in
-          step-here e es x t (some-is (e.range, target_of e e.busy) x (sym found ∙ h))
+      | inl t ↦ step-here e es t
       | inr f ↦
           let found : first_ended (e ∷ es) ≡ first_ended es =
           ap (λ (b : Bool). option_map {T = Entry} {U = RangeView × State} (λ y. (y.range, target_of y y.busy)) (cond b (Some e) (find (λ y. is_answered y.busy) es))) f in
-          step-later e es x f (ends-first es x (sym found ∙ h))
+          step-later e es f (ends-first es x (sym found ∙ h))
     ]
 
 -- none waits for nobody
@@ -119,12 +106,11 @@ none-answered (e ∷ es) h =
     ]
 
 record EndsNone (es : List Entry) : Type 0 where
-  noted : flat_map noted_end es ≡ []
   same : map ended es ≡ es
   left : with_first_ended es ≡ es
 
 ends-none : (es : List Entry) → first_ended es ≡ None → EndsNone es
-ends-none [] h = record { noted = refl; same = refl; left = refl }
+ends-none [] h = record { same = refl; left = refl }
 ends-none (e ∷ es) h =
     elim (cases_Bool (is_answered e.busy)) [
       | inl t ↦
@@ -137,7 +123,6 @@ ends-none (e ∷ es) h =
           ap (λ (b : Bool). option_map {T = Entry} {U = RangeView × State} (λ y. (y.range, target_of y y.busy)) (cond b (Some e) (find (λ y. is_answered y.busy) es))) f in
           let rest = ends-none es (sym found ∙ h) in
           record {
-            noted = ap (λ (b : Bool). cond b (note.Region e.range (target_of e e.busy) ∷ []) [] ++ flat_map noted_end es) f ∙ rest.noted;
             same = ap (λ (b : Bool). cond b (finished e) e ∷ map ended es) f ∙ ap (λ (ys : List Entry). e ∷ ys) rest.same;
             left = first-changed-later e es f ∙ ap (λ (ys : List Entry). e ∷ ys) rest.left;
           }
