@@ -1,3 +1,5 @@
 pub mod Decimals
 pub mod Growth
+pub mod Judgements
 pub mod Prefix
+pub mod Spellings

@@ -26,7 +26,7 @@ at_start lines read e =
     let P : List Note → Type 0 = λ ns. Reading lines ns lines 2 in
     subst P (sym e) (record { within = tt; front = refl; number = refl; room = omega arith; only = λ notes within is. record { more = notes; within = within; is = refl; left = is } })
 
-line_some : (note : Note) → 0 < length (note_line note)
+pub line_some : (note : Note) → 0 < length (note_line note)
 line_some (Event index) = omega arith
 line_some (Exec hart) = omega arith
 line_some (Drain hart) = omega arith

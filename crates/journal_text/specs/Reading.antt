@@ -2,7 +2,7 @@
 use Rattle.std.specs.Prelude.{◌≡◌, ℕ, ◌+◌, List, [], ◌++◌, length, Result, Ok, Err}
 use Rattle.mind_base.specs.Log.{LogView}
 use Rattle.mind_base.specs.declared.notes.Note.{Note}
-use Rattle.journal_text.specs.Journal.{heading, note_line, note_lines, IsJournalNote, AreJournalNotes}
+use Rattle.journal_text.specs.Journal.{heading, note_line, note_lines, journal_text_of, IsJournalNote, AreJournalNotes}
 use Rattle.journal_text.specs.declared.refusals.JournalFault.{JournalFault}
 use Rattle.journal_text.specs.declared.refusals.JournalFault.TheVariants.{Head, Line}
 use Rattle.journal_text.specs.declared.refusals.JournalRefusal.{JournalRefusal}
@@ -31,6 +31,12 @@ pub record IsBadLine (lines : List ℕ) (line : ℕ) : Type 0 where
 abbrev pub IsFault : List ℕ → ℕ → JournalFault → Type 0
 IsFault bytes line Head = (line ≡ 1) × LacksHeading bytes
 IsFault bytes line Line = (lines : List ℕ) × (bytes ≡ heading ++ lines) × IsBadLine lines line
+
+-- How a text is judged: it is the journal of these notes, whose numbers are within bounds, or it is none by this first
+-- fault, at this line.
+abbrev pub IsJudged : List ℕ → Result (List Note) (ℕ × JournalFault) → Type 0
+IsJudged bytes (Ok notes) = AreJournalNotes notes × (bytes ≡ journal_text_of notes)
+IsJudged bytes (Err (line, what)) = IsFault bytes line what
 
 -- a refusal names the first fault of the text, where it is not want of memory
 abbrev pub IsRefusal : List ℕ → JournalRefusal → Type 0

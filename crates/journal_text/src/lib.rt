@@ -2,6 +2,7 @@
 #![tactic(auto)]
 
 mod fields;
+mod laws;
 mod lines;
 mod notes;
 mod parts;
@@ -9,6 +10,7 @@ mod reading;
 mod refusals;
 mod writing;
 
+pub use laws::one_judgement;
 pub use reading::journal_of;
 pub use refusals::{JournalFault, JournalRefusal};
 pub use writing::journal;
