@@ -1,9 +1,9 @@
 -- The rack stands for a state of the abstract machine: the same threads, and the newest images have the
 -- machine's bytes.
 use Rattle.std.specs.Prelude.{◌≡◌, ◌≤◌, ◌<◌, ℕ, ◌/◌, ◌%◌, ◌==◌, slice_get, slice_index, Option, Some, None, if◌then◌else◌}
-use Rattle.mind_base.specs.Place.{page_with, Granule}
+use Rattle.mind_base.specs.Place.{index_in_page, page_with, Granule}
 use Rattle.hart_effect.specs.Thread.{Thread}
-use Rattle.mind_base.specs.Page.{PageView, page_of}
+use Rattle.mind_base.specs.Page.{PageView, page_of, page_offset_at}
 use Rattle.mind_base.specs.Permission.{permission_of}
 use Rattle.mind_base.specs.declared.plans.ThreadPlan.{ThreadPlan}
 use Rattle.page_image.specs.PageImage.{PageImageView, IsPageImage, tag_at}
@@ -18,7 +18,7 @@ use Rattle.rack_core.specs.Rack.{RackView}
 abbrev pub reserved_in : (PageView → PageImageView) → Option Reservation → Option Granule
 reserved_in flat None = None
 reserved_in flat (Some kept) =
-    if tag_at (flat (page_with kept.granule)) (kept.granule.number % 64) == kept.tag then Some kept.granule else None
+    if tag_at (flat (page_with kept.granule)) (index_in_page kept.granule) == kept.tag then Some kept.granule else None
 
 -- a hart of a blade as a thread of the machine
 abbrev pub machine_thread : (PageView → PageImageView) → HartView → Thread
@@ -44,7 +44,7 @@ IsPast rack tag = (hart : HartView) → IsHartAt rack (tag % 64) hart → tag / 
 
 pub record StandsFor (rack : RackView) (flat : PageView → PageImageView) (state : State) : Type 0 where
   pub threads : (h : ℕ) (hart : HartView) → IsHartAt rack h hart → slice_get state.threads h ≡ Some (machine_thread flat hart)
-  pub bytes : (domain address : ℕ) → byte_of state.writes domain address ≡ slice_index (flat (page_of domain address)).bytes (address % 4096)
+  pub bytes : (domain address : ℕ) → byte_of state.writes domain address ≡ slice_index (flat (page_of domain address)).bytes (page_offset_at address)
   pub perms : permission_of state.perms ≡ permission_at rack.switch.protect
   pub images : (page : PageView) → IsPageImage (flat page)
   pub tags : (page : PageView) (granule : ℕ) → granule < 64 → IsPast rack (tag_at (flat page) granule)
