@@ -4,7 +4,6 @@ use Rattle.std.specs.Prelude.{IsSomeAnd, IfSome}
 use Rattle.mind_base.specs.Page.{PageView}
 use Rattle.mind_base.specs.declared.commands.Perm.{Perm}
 use Rattle.mind_base.specs.declared.commands.Perm.TheVariants.{No, R, Rw}
-use Rattle.mind_base.specs.declared.images.Image.{Image}
 use Rattle.hart_effect.specs.Access.{may_write}
 use Rattle.wire_msg.specs.declared.msgs.Msg.{Msg}
 use Rattle.wire_msg.specs.declared.msgs.Msg.TheVariants.{Fill, Deny, Inv, Lower}

@@ -175,10 +175,11 @@ waiters-of page asked (first ∷ requests) apart e = by (λ e. waiters-of page a
       → (b : Bool) → same_page page first.page ≡ b → cond b (Some first) (request_for page requests) ≡ Some asked
       → AllByRecursion (λ other. same_page page other.page ≡ false → WaitsElse asked other) (first ∷ requests)
   by rest true s e =
-      let is : first ≡ asked = same_Some _ _ e in
-      (λ other. let never : false ≡ true = sym other ∙ s in absurd (false≢true never),
+      let is : first ≡ asked = same_Some _ _ e in (
+        λ other. let never : false ≡ true = sym other ∙ s in absurd (false≢true never),
         all-map (WaitsElse first) (λ other. same_page page other.page ≡ false → WaitsElse asked other) requests
-        (λ other else away. subst (λ a. WaitsElse a other) is else) apart.0)
+            (λ other else away. subst (λ a. WaitsElse a other) is else) apart.0,
+      )
   by rest false s e =
       let here : WaitsElse first asked = (of_found (WaitsElse first) page requests asked apart.0 e).0 in
       (λ away hart waits. here (sym hart) (sym waits), rest e)

@@ -1,5 +1,5 @@
 -- Between a page that came and what waited for it: the request has ended, and its hart waits no longer.
-use Rattle.std.proofs.Common.{◌≡◌, ℕ, zero, suc, ◌==◌, ◌<◌, ◌∙◌, Bool, true, false, ap, sym, refl, subst, List, [], ◌∷◌, ◌++◌, Some, slice_set}
+use Rattle.std.proofs.Common.{◌≡◌, ℕ, zero, suc, ◌==◌, ◌∙◌, Bool, true, false, ap, sym, refl, subst, List, [], ◌∷◌, ◌++◌, Some, slice_set}
 use Rattle.std.proofs.lemmas.Bool.{eqb-true}
 use Rattle.mind_base.specs.Page.{PageView}
 use Rattle.mind_base.specs.declared.images.Image.{Image}
@@ -7,7 +7,7 @@ use Rattle.mind_base.specs.declared.notes.Note.TheVariants as note
 use Rattle.page_cache.specs.declared.frames.Put.{Put}
 use Rattle.page_cache.specs.declared.frames.Put.TheVariants.{Fresh, Replaced, Pushed}
 use Rattle.page_image.specs.PageImage.{PageImageView}
-use Rattle.compute_blade.specs.Blade.{HartView, BladeView, last_store}
+use Rattle.compute_blade.specs.Blade.{HartView, BladeView}
 use Rattle.compute_blade.specs.Messages.{awake}
 use Rattle.compute_blade.specs.Pages.{noted_out}
 use Rattle.compute_blade.specs.declared.kept.Waits.{Waits}
