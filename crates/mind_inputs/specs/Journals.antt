@@ -1,5 +1,5 @@
 -- A journal, read and judged behind the inputs of a run.
-use Rattle.std.specs.Prelude.{◌≡◌, ℕ, List, Option, Result, Ok, Err}
+use Rattle.std.specs.Prelude.{◌≡◌, ℕ, List, Option, Some, Result, Ok, Err}
 use Rattle.mind_base.specs.Log.{LogView}
 use Rattle.mind_base.specs.Store.{Files}
 use Rattle.mind_base.specs.declared.notes.Note.{Note}
@@ -59,6 +59,11 @@ AfterRun holds journal (Accepts accepted) answer = (notes : Result (List Note) E
 -- the inputs of a run are read and judged, then the journal of this name
 abbrev pub JudgesCheck : Option Files → Paths → List ℕ → Result Checkable Ending → Type 0
 JudgesCheck holds paths journal answer = (judged : Judged) × Judges holds paths judged × AfterRun holds journal judged answer
+
+-- the files of a check are judged so, and in no other way
+abbrev pub IsOnlyJudgement : Files → Paths → List ℕ → Result Checkable Ending → Type 0
+IsOnlyJudgement files paths journal answer = JudgesCheck (Some files) paths journal answer
+    × ((other : Result Checkable Ending) → JudgesCheck (Some files) paths journal other → other ≡ answer)
 
 -- inputs that were read, and a log
 abbrev pub checkable : Result (Accepted × LogView) Stopped → Result Checkable Stopped

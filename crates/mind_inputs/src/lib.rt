@@ -2,12 +2,14 @@
 #![tactic(auto)]
 
 mod journals;
+mod laws;
 mod loaded;
 mod loading;
 mod refusals;
 mod stopped;
 
 pub use journals::{load_for_check, load_journal};
+pub use laws::the_files_are_judged_one_way;
 pub use loaded::Loaded;
 pub use loading::load;
 pub use refusals::Refusal;
