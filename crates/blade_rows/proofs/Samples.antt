@@ -1,76 +1,31 @@
--- The rack of the tests is fit, and its blade is ready.
-use Rattle.std.proofs.Common.{◌≡◌, ℕ, zero, suc, ◌-◌, ◌^◌, ◌≤◌, Bool, true, false, ◌&&◌, not, List, [], ◌∷◌, length, sym, refl, subst, ◌∙◌, ap, is_some, arith}
-use Rattle.mind_base.specs.Cover.{count_below, sum_below, is_uniform, has_uniform_parent, is_in_cover, cover_of}
-use Rattle.mind_base.specs.Fit.{IsFit, FitImages}
-use Rattle.mind_base.specs.declared.commands.Perm.TheVariants.{No}
+-- The blade of the tests is ready, and stays so.
+use Rattle.std.proofs.Common.{◌≡◌, ◌==◌, List, Option, Some, None, eq-eqb, slice_get, refl, sym, subst, ap, ◌∙◌}
+use Rattle.std.specs.Prelude.{IsSomeAnd}
+use Rattle.mind_base.specs.Fit.{FitImages}
 use Rattle.mind_base.specs.declared.images.Image.{Image}
 use Rattle.mind_base.specs.declared.plans.RackPlan.{RackPlan}
-use Rattle.compute_blade.specs.Blade.{BladeView, Keeps, hart_of}
-use Rattle.blade_rows.specs.Sample.{sample_plan, IsReady}
+use Rattle.mind_base.specs.declared.plans.ThreadPlan.{ThreadPlan}
+use Rattle.compute_blade.specs.Blade.{BladeView, IsBlade, Keeps}
 use Rattle.compute_blade.specs.Start.{first_blade}
+use Rattle.compute_blade.proofs.Placing.{own_kept}
+use Rattle.blade_rows.specs.Ready.{IsReady}
 
-false-right : (a b : Bool) → (a && false) && b ≡ false
-false-right true b = refl
-false-right false b = refl
+pub starts_ready : (plan : RackPlan) (blade : BladeView) (images : List Image) → IsBlade blade → blade ≡ first_blade plan 0
+    → IsSomeAnd (slice_get plan.threads 0) (λ thread. thread.blade ≡ 0) → FitImages plan.images images → IsReady blade images
+starts_ready plan blade images shape is own fit = by (slice_get plan.threads 0) refl own where
+  by : (o : Option ThreadPlan) → slice_get plan.threads 0 ≡ o → IsSomeAnd o (λ thread. thread.blade ≡ 0) → IsReady blade images
+  by None e own = absurd own
+  by (Some thread) e own =
+      let planned : slice_get blade.plan.threads 0 ≡ Some thread = ap (λ (b : BladeView). slice_get b.plan.threads 0) is ∙ e in
+      record {
+        shape = shape;
+        own = shape.own 0 thread planned ∙ (ap (λ (b : BladeView). thread.blade == b.number) is ∙ eq-eqb thread.blade 0 own);
+        fit = subst (λ (b : BladeView). FitImages b.plan.images images) (sym is) fit;
+      }
 
-count_below-none : (test : ℕ → Bool) → ((j : ℕ) → test j ≡ false) → (n : ℕ) → count_below test n ≡ 0
-unfolding count_below
-count_below-none test h zero = refl
-count_below-none test h (suc n) = rw (count_below-none test h n, h n) refl
-
-sum_below-none : (f : ℕ → ℕ) → ((k : ℕ) → f k ≡ 0) → (n : ℕ) → sum_below f n ≡ 0
-unfolding sum_below
-sum_below-none f h zero = refl
-sum_below-none f h (suc n) = rw (sum_below-none f h n, h n) refl
-
--- a block of pages without permission is in no cover
-no-block : (domain k j : ℕ) → is_in_cover (λ page. No) domain k j ≡ false
-unfolding is_in_cover
-no-block domain k j = false-right (is_uniform (λ page. No) domain k j) (not (has_uniform_parent (λ page. No) domain k j))
-
-cover_of-none : cover_of (λ page. No) ≡ 0
-unfolding cover_of
-cover_of-none = sum_below-none _ (λ domain. sum_below-none _ (λ k. count_below-none _ (no-block domain k) (2 ^ (20 - k))) 21) 16
-
-sample-fit : (name : List ℕ) → IsFit (sample_plan name)
-sample-fit name = record {
-  slots = (omega arith, omega arith);
-  protect = (omega arith, omega arith);
-  outliers = omega arith;
-  region = omega arith;
-  most = (omega arith, omega arith);
-  threshold = omega arith;
-  blades = (omega arith, omega arith);
-  frames = ((omega arith, omega arith), tt);
-  memories = (omega arith, omega arith);
-  each_memory = (record { spare = omega arith; homes = (omega arith, omega arith); pages = (omega arith, tt) }, tt);
-  homes_apart = (tt, tt);
-  home_pages = omega arith;
-  images = (omega arith, omega arith);
-  each_image = ((omega arith, omega arith), tt);
-  threads = (omega arith, omega arith);
-  each_thread = (record { blade = omega arith; domain = omega arith; image = omega arith; queue = (omega arith, omega arith) }, tt);
-  maps = omega arith;
-  each_map = tt;
-  maps_apart = tt;
-  cover = subst (λ n. n ≤ 1) (sym cover_of-none) (omega arith);
-}
-
-pub plan-fit : (plan : RackPlan) (name : List ℕ) → plan ≡ sample_plan name → IsFit plan
-plan-fit plan name e = subst IsFit (sym e) (sample-fit name)
-
-sample-image : (bytes : List ℕ) (name : List ℕ) → length bytes ≡ 12 → FitImages (sample_plan name).images (record { at = 0; bytes = bytes } ∷ [])
-sample-image bytes name e = (record { at = refl; some = omega arith; most = omega arith; words = omega arith; end = omega arith }, tt)
-
--- the blade that starts is ready
-pub starts_ready : (plan : RackPlan) (name : List ℕ) (blade : BladeView) (images : List Image) (image : Image) (bytes : List ℕ) → plan ≡ sample_plan name → blade ≡ first_blade plan 0
-    → images ≡ image ∷ [] → image ≡ record { at = 0; bytes = bytes } → length bytes ≡ 12 → IsReady blade images
-starts_ready plan name blade images image bytes p b is i h =
-    let Q : List Image → Type 0 = λ xs. FitImages (sample_plan name).images xs in
-    let fit : FitImages (sample_plan name).images images = subst Q (sym is) (subst (λ x. Q (x ∷ [])) (sym i) (sample-image bytes name h)) in
-    let start : blade ≡ first_blade (sample_plan name) 0 = b ∙ ap (λ q. first_blade q 0) p in
-    subst (λ x. IsReady x images) (sym start) (refl, fit)
-
--- and stays so
 pub stays_ready : (old new : BladeView) (images : List Image) → Keeps old new → IsReady old images → IsReady new images
-stays_ready old new images k r = (k.own 0 ∙ r.0, subst (λ plan. FitImages plan.images images) (sym k.plan) r.1)
+stays_ready old new images kept ready = record {
+  shape = kept.shape;
+  own = own_kept old new ready.shape kept 0 ∙ ready.own;
+  fit = subst (λ plan. FitImages plan.images images) (sym kept.plan) ready.fit;
+}

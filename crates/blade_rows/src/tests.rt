@@ -1,21 +1,31 @@
 //! One thread that loads a word of page 1 and stores it behind.
 
-ghost use Rattle.std.specs.Prelude.{◌≡◌, IfOk, OnOk};
-ghost use Rattle.blade_rows.specs.Sample.{sample_plan, IsReady};
+ghost use Rattle.std.specs.Prelude.{◌≡◌, IfOk, IfSome, OnOk, IsTrue, IsSomeAnd, slice_get};
+ghost use Rattle.mind_base.specs.Fit.{IsFit, FitImages};
+ghost use Rattle.blade_rows.specs.Ready.{IsReady};
 
 use compute_blade::ComputeBlade;
-use mind_base::{
-    Image, ImagePlan, Log, MemoryPlan, Name, NoMemory, Note, Page, Perm, PolicyKind, RackPlan,
-    Range, Sequence, Span, Stop, ThreadPlan,
-};
+use mind_base::{Image, ImagePlan, Log, NoMemory, Note, Page, Perm, RackPlan, Range, Stop};
 use page_image::PageImage;
+use rack_file::{image_of, rack_of};
 use std::alloc::Global;
 use std::test::Fail;
 use wire_msg::Msg;
 
+/// Two blades of two frames, the homes of 32 pages of domain 0, pages 1 and 2 mapped, and one thread with a
+/// queue of two places.
+const RACK: &str =
+    "format = 1\nslots = 4\nprotect = 8\noutliers = 2\nregion = 0\nmost = 9\nthreshold = 0\nblade = [{ frames = 2 }, { frames = 2 }]\nmemory = [{ spare = 4, homes = [{ domain = 0, page = 0, pages = 16 }] }, { spare = 4, homes = [{ domain = 0, page = 16, pages = 16 }] }]\nimage = [{ name = \"a.bin\", at = 0 }]\nthread = [{ blade = 0, domain = 0, image = 0, queue = 2 }]\nmap = [{ domain = 0, page = 1, pages = 2, perm = \"rw\" }]\n";
+
 // lui x5, 1; lw a0, 0(x5); sw a0, 4(x5)
 static PROGRAM: [u8; 12] = [
     0xb7, 0x12, 0x00, 0x00, 0x03, 0xa5, 0x02, 0x00, 0x23, 0xa2, 0xa2, 0x00,
+];
+
+// the same, and then lui x6, 2; lw a1, 0(x6)
+static LONGER: [u8; 20] = [
+    0xb7, 0x12, 0x00, 0x00, 0x03, 0xa5, 0x02, 0x00, 0x23, 0xa2, 0xa2, 0x00, 0x37, 0x23, 0x00, 0x00,
+    0x83, 0x25, 0x03, 0x00,
 ];
 
 /// What happens to the blade. Pages are of domain 0; a page that comes may be read and written.
@@ -62,63 +72,66 @@ struct Bench {
     log: Log,
 }
 
-fn plan_of(alloc: Global, name: Name) -> Result<RackPlan, NoMemory>
-    ensures { IfOk result (λ plan. plan ≡ sample_plan name) }
+/// The images of one image plan, which has this program; None of other plans.
+fn images_of(
+    alloc: Global,
+    plans: &[ImagePlan],
+    program: &[u8],
+) -> Result<Option<Vec<Image>>, NoMemory>
+    ensures { IfOk result (λ images. IfSome images (λ images. FitImages plans.now images.items)) }
 {
-    let home = Span {
-        domain: 0,
-        base: 0,
-        pages: 4,
+    let [plan] = plans else {
+        return Ok(None);
     };
-    let memory = MemoryPlan {
-        homes: Sequence::from_vec(vec![in alloc; home]?),
-        spare: 0,
+    let Ok(image) = image_of(plan, Vec::from_slice(alloc, program)?) else {
+        return Ok(None);
     };
-    let image = ImagePlan { name, at: 0 };
-    let thread = ThreadPlan {
-        blade: 0,
-        domain: 0,
-        image: 0,
-        queue: 4,
-    };
-    Ok(RackPlan {
-        slots: 1,
-        protect: 1,
-        outliers: 0,
-        region: 0,
-        most: 0,
-        threshold: 0,
-        policy: PolicyKind::Threshold,
-        frames: Sequence::from_vec(vec![in alloc; 2u32]?),
-        memories: Sequence::from_vec(vec![in alloc; memory]?),
-        images: Sequence::from_vec(vec![in alloc; image]?),
-        threads: Sequence::from_vec(vec![in alloc; thread]?),
-        maps: Sequence::new(alloc),
-    })
-}
-
-fn image_in(alloc: Global) -> Result<Image, NoMemory>
-    ensures { IfOk result (λ image. image ≡ record { at = 0; bytes = PROGRAM }) }
-{
-    Ok(Image {
-        at: 0,
-        bytes: Sequence::from_vec(Vec::from_slice(alloc, &PROGRAM)?),
-    })
-}
-
-fn bench_of(alloc: Global, name: Name) -> Result<Bench, NoMemory>
-    ensures { IfOk result (λ bench. IsReady bench.blade bench.images.items) }
-{
-    let plan = plan_of(alloc, name)?;
-    let image = image_in(alloc)?;
     let images = vec![in alloc; image]?;
-    let blade = ComputeBlade::new(alloc, &plan, 0)?;
-    Ok(Bench {
+    Ok(Some(images))
+}
+
+/// Whether the first thread is blade 0's.
+fn is_own(plan: &RackPlan) -> bool
+    ensures { IsTrue result → IsSomeAnd (slice_get plan.now.threads 0) (λ thread. thread.blade ≡ 0) }
+{
+    match plan.threads.as_slice().first() {
+        None => false,
+        Some(thread) => thread.blade == 0,
+    }
+}
+
+/// Blade 0 of the plan, whose one image is this program.
+#[tactic(auto, using(crate::proofs::Samples::starts_ready))]
+fn bench_of(alloc: Global, plan: &RackPlan, program: &[u8]) -> Result<Option<Bench>, NoMemory>
+    requires { IsFit plan.now }
+    ensures { IfOk result (λ bench. IfSome bench (λ bench. IsReady bench.blade bench.images.items)) }
+{
+    if !is_own(plan) {
+        return Ok(None);
+    }
+    let Some(images) = images_of(alloc, plan.images.as_slice(), program)? else {
+        return Ok(None);
+    };
+    let blade = ComputeBlade::new(alloc, plan, 0)?;
+    Ok(Some(Bench {
         alloc,
         blade,
         images,
         log: Log::new(alloc),
-    })
+    }))
+}
+
+/// A new bench of the rack, whose thread runs this program.
+fn new_bench(alloc: Global, program: &[u8]) -> Result<Bench, Fail>
+    ensures { IfOk result (λ bench. IsReady bench.blade bench.images.items) }
+{
+    let Ok(plan) = rack_of(alloc, RACK.as_bytes()) else {
+        return Err(Fail::from("no plan"));
+    };
+    let Some(bench) = bench_of(alloc, &plan, program)? else {
+        return Err(Fail::from("another plan"));
+    };
+    Ok(bench)
 }
 
 /// The first four pages of domain 0.
@@ -129,6 +142,7 @@ const FOUR: Range = Range {
 };
 
 impl Bench {
+    #[tactic(auto, using(crate::proofs::Samples::stays_ready))]
     fn act(&mut self, act: Act, out: &mut Vec<Msg>) -> Result<(), Stop>
         requires { IsReady self.old.blade self.old.images.items }
         ensures { OnOk result (IsReady self.new.blade self.new.images.items) }
@@ -144,13 +158,20 @@ impl Bench {
         Ok(())
     }
 
+    #[tactic(auto, using(crate::proofs::Samples::stays_ready))]
+    /// Hands the blade a message; one that may not come to it is answered by what no row has.
     fn receive(&mut self, act: Act, out: &mut Vec<Msg>) -> Result<(), Stop>
         requires { IsReady self.old.blade self.old.images.items }
         ensures { OnOk result (IsReady self.new.blade self.new.images.items) }
     {
         let msg = message_of(self.alloc, act)?;
-        self.blade
-            .receive(msg, self.images.as_slice(), out, &mut self.log)
+        if !self.blade.may_receive(&msg) {
+            out.push(Msg::Closed { number: 0 })?;
+            return Ok(());
+        }
+        let images = self.images.as_slice();
+        self.blade.receive(msg, images, out, &mut self.log)?;
+        Ok(())
     }
 
     /// Whether the act sends these messages.
@@ -255,13 +276,30 @@ fn is_back(given: Page, image: &PageImage, wanted: Sent) -> bool {
             given == page_of(1)
                 && image.load(0, 4) == first
                 && image.load(4, 4) == second
-                && image.load(8, 4) == 0
-                && image.load(4092, 4) == 0
+                && has_zeros_from(image, 8)
                 && image.tag(0) == tag
-                && image.tag(1) == 0
+                && has_no_tag_from(image, 1)
         }
         _ => false,
     }
+}
+
+fn has_zeros_from(image: &PageImage, first: u32) -> bool {
+    for offset in first..4096 {
+        if image.byte(offset) != 0 {
+            return false;
+        }
+    }
+    true
+}
+
+fn has_no_tag_from(image: &PageImage, first: u8) -> bool {
+    for granule in first..64 {
+        if image.tag(granule) != 0 {
+            return false;
+        }
+    }
+    true
 }
 
 /// A note of the log, so many before the last.
@@ -307,8 +345,7 @@ fn a_load_and_a_store_wait_for_their_page(rt: HostRuntime) -> Result<(), Fail> {
             Sent::Nothing,
         ),
     ];
-    let name = Name::of(rt.alloc(), "a.bin")?.ok_or("no name")?;
-    let mut bench = bench_of(rt.alloc(), name)?;
+    let mut bench = new_bench(rt.alloc(), &PROGRAM)?;
     assert_eq!(rt; bench.first_other(&rows)?, None);
     assert!(rt; bench.blade.quiet());
     Ok(())
@@ -327,6 +364,8 @@ fn held_pages_are_given_up_the_least_recently_used_first(rt: HostRuntime) -> Res
         (fill_of(1, true, 0x55), Sent::Nothing, Sent::Nothing),
         (Act::Step, Sent::Nothing, Sent::Nothing),
         (Act::Drain, Sent::Nothing, Sent::Nothing),
+        (Act::Step, Sent::Nothing, Sent::Nothing),
+        (Act::Step, get(2, false), Sent::Nothing),
         (fill_of(2, false, 7), Sent::Nothing, Sent::Nothing),
         (
             Act::Inv {
@@ -350,8 +389,7 @@ fn held_pages_are_given_up_the_least_recently_used_first(rt: HostRuntime) -> Res
             page: page_of(2),
         },
     ];
-    let name = Name::of(rt.alloc(), "a.bin")?.ok_or("no name")?;
-    let mut bench = bench_of(rt.alloc(), name)?;
+    let mut bench = new_bench(rt.alloc(), &LONGER)?;
     assert_eq!(rt; bench.first_other(&rows)?, None);
     assert_eq!(rt; note_before(&bench.log, 1), Some(give[0]));
     assert_eq!(rt; note_before(&bench.log, 0), Some(give[1]));
@@ -382,9 +420,23 @@ fn a_page_that_is_lowered_goes_back_once(rt: HostRuntime) -> Result<(), Fail> {
         (lower, back, ack),
         (lower, ack, Sent::Nothing),
     ];
-    let name = Name::of(rt.alloc(), "a.bin")?.ok_or("no name")?;
-    let mut bench = bench_of(rt.alloc(), name)?;
+    let mut bench = new_bench(rt.alloc(), &PROGRAM)?;
     assert_eq!(rt; bench.first_other(&rows)?, None);
+    Ok(())
+}
+
+#[test]
+fn a_message_that_answers_nothing_may_not_come(rt: HostRuntime) -> Result<(), Fail> {
+    let mut bench = new_bench(rt.alloc(), &PROGRAM)?;
+    let fill = message_of(rt.alloc(), fill_of(1, true, 0))?;
+    let deny = message_of(rt.alloc(), Act::Deny { page: 1 })?;
+    assert!(rt; !bench.blade.may_receive(&fill) && !bench.blade.may_receive(&deny));
+    let rows = [
+        (Act::Step, Sent::Nothing, Sent::Nothing),
+        (Act::Step, get(1, false), Sent::Nothing),
+    ];
+    assert_eq!(rt; bench.first_other(&rows)?, None);
+    assert!(rt; bench.blade.may_receive(&fill) && bench.blade.may_receive(&deny));
     Ok(())
 }
 
@@ -396,8 +448,7 @@ fn a_load_that_is_denied_is_the_last_that_its_thread_does(rt: HostRuntime) -> Re
         (Act::Deny { page: 1 }, Sent::Nothing, Sent::Nothing),
         (Act::Step, Sent::Nothing, Sent::Nothing),
     ];
-    let name = Name::of(rt.alloc(), "a.bin")?.ok_or("no name")?;
-    let mut bench = bench_of(rt.alloc(), name)?;
+    let mut bench = new_bench(rt.alloc(), &PROGRAM)?;
     assert_eq!(rt; bench.first_other(&rows)?, None);
     assert!(rt; bench.blade.quiet());
     assert_eq!(rt; bench.log.len(), 2);

@@ -1,4 +1,4 @@
-use Rattle.blade_rows.specs.Sample.{IsReady}
+use Rattle.blade_rows.specs.Ready.{IsReady}
 use Rattle.blade_rows.proofs.tests.Bench.first_other.Given as goal
 
 abbrev pub invariant-loop-i : goal.invariant-loop-i
