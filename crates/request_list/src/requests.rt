@@ -86,6 +86,18 @@ impl Requests {
         waiting::request_at(&self.waiting, i as usize)
     }
 
+    /// The blade's request for the page, if there is one.
+    pub fn find(&self, blade: u8, page: Page) -> Option<Request>
+        ensures found { result ≡ find (is_of blade page) self.now }
+        ensures apart { AreApart self.now }
+    {
+        let Some(at) = self.waiting.get_index_of(&Wanted { blade, page }) else {
+            return None;
+        };
+        let wanted = waiting::request_at(&self.waiting, at);
+        Some(wanted)
+    }
+
     /// From now on the page of the request at that place is being fetched. After an error nothing has
     /// changed.
     pub fn start(&mut self, i: u32) -> Result<(), NoMemory>
