@@ -74,7 +74,7 @@ step-later e es f h =
       fewer = omega (arith, h.fewer, left);
     }
 
-some-is : {A : Type 0} (a b : A) → Some a ≡ Some b → a ≡ b
+pub some-is : {A : Type 0} (a b : A) → Some a ≡ Some b → a ≡ b
 some-is a b e = (cc)
 
 ends-first : (es : List Entry) (x : RangeView × State) → first_ended es ≡ Some x → EndsFirst es
@@ -245,7 +245,7 @@ is_of-alike blade page r q t =
     let same = is_of-same blade page r t in
     ap (λ (b : ℕ). is_of b r.page q) (sym same.0) ∙ ap (λ (p : PageView). is_of blade p q) (sym same.1)
 
-abbrev IsFetched : ℕ → PageView → Request → Type 0
+abbrev pub IsFetched : ℕ → PageView → Request → Type 0
 IsFetched blade page r = (is_of blade page r ≡ true) × (r.fetching ≡ true)
 
 all-at-place : (P : Request → Type 0) (rs : List Request) (k : ℕ) (x : Request) → AllByRecursion P rs → k < length rs → P (slice_index_or rs k x)
@@ -253,7 +253,7 @@ all-at-place P [] k x h lt = absurd (omega arith)
 all-at-place P (r ∷ rs) zero x h lt = h.0
 all-at-place P (r ∷ rs) (suc k) x h lt = all-at-place P rs k x h.1 (omega arith)
 
-found-fetched : (blade : ℕ) (page : PageView) (rs : List Request) (r : Request) → AreApart rs → Any (IsFetched blade page) rs → find (is_of blade page) rs ≡ Some r → r.fetching ≡ true
+pub found-fetched : (blade : ℕ) (page : PageView) (rs : List Request) (r : Request) → AreApart rs → Any (IsFetched blade page) rs → find (is_of blade page) rs ≡ Some r → r.fetching ≡ true
 found-fetched blade page [] r a (k, x, lt, at, p) e = absurd (omega arith)
 found-fetched blade page (q ∷ rs) r a (k, x, lt, at, p) e =
     elim (cases_Bool (is_of blade page q)) [

@@ -1,13 +1,13 @@
-ghost use Rattle.std.specs.Prelude.{◌≡◌, ◌++◌, ◌↔◌, ℕ, false, None, All, IsTrue, OnOk, OnErr, length, map};
+ghost use Rattle.std.specs.Prelude.{◌≡◌, ◌++◌, ◌↔◌, ℕ, false, None, All, Any, IsTrue, OnOk, OnErr, length, map};
 ghost use Rattle.std.specs.List.{AllByRecursion, flat_map};
-ghost use Rattle.invalidate_multicast.specs.Transition.{is_answered};
+ghost use Rattle.invalidate_multicast.specs.Transition.{is_answered, WaitsFor};
 ghost use Rattle.switch_core.specs.Handling.{ended, noted_end};
 ghost use Rattle.switch_core.specs.Invariant.{IsFitEntry};
 ghost use Rattle.switch_core.specs.Sending.{Begins};
 
-use invalidate_multicast::ended;
+use invalidate_multicast::{ended, is_among};
 use mind_base::{Log, NoMemory, Note};
-use region_directory::{Directory, Entry};
+use region_directory::{Busy, Directory, Entry};
 
 /// Notes the state that the entry comes to, where its transition waits for nobody.
 fn note_end(entry: &Entry, log: &mut Log) -> Result<(), NoMemory>
@@ -83,4 +83,27 @@ pub fn is_idle(directory: &Directory) -> bool
         }
     }
     true
+}
+
+/// Whether the transition has the number and waits for the blade.
+fn waits_for(busy: &Option<Busy>, number: u32, blade: u8) -> bool
+    ensures { IsTrue result ↔ WaitsFor number blade busy.now }
+{
+    match busy {
+        Some(busy) => busy.number == number && is_among(busy.waiting, blade),
+        None => false,
+    }
+}
+
+/// Whether a transition with the number waits for the blade.
+pub fn is_awaited(directory: &Directory, number: u32, blade: u8) -> bool
+    ensures { IsTrue result ↔ Any (λ entry. WaitsFor number blade entry.busy) directory.now.entries }
+{
+    for i in 0..directory.len() {
+        let entry = directory.entry(i);
+        if waits_for(&entry.busy, number, blade) {
+            return true;
+        }
+    }
+    false
 }

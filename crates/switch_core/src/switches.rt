@@ -9,6 +9,7 @@ ghost use Rattle.switch_core.specs.Sending.{Remains, start_at};
 ghost use Rattle.wire_msg.specs.WellFormed.{FieldsAgree};
 
 mod changes;
+mod coming;
 mod handling;
 mod serving;
 mod treating;
