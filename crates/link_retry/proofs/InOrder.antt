@@ -13,7 +13,7 @@ message_keeps old k (Some number) taken new d = d.prefix
 
 ack_keeps : (old : LinkView) (k : ℕ) (frame : Option ℕ) (taken : List (List ℕ)) (new : LinkView) → DeliversAck old k frame taken new → old.pending ≡ taken ++ new.pending
 ack_keeps old k None taken new d = cc
-ack_keeps old k (Some number) taken new d = cc
+ack_keeps old k (Some number) taken new d = sym d.pending ∙ ap (λ (t : List (List ℕ)). t ++ new.pending) (sym d.none)
 
 deliver_keeps : (old : LinkView) (side : Side) (k : ℕ) (taken : List (List ℕ)) (new : LinkView) → Delivers old side k taken new → old.pending ≡ taken ++ new.pending
 deliver_keeps old Messages k taken new d = message_keeps old k (frame_at old.messages k) taken new d

@@ -1,12 +1,14 @@
 -- Go-back-N does what is asked of a link.
-use Rattle.std.proofs.Common.{◌≡◌, ℕ, ◌+◌, ◌-◌, ◌<◌, ◌≤◌, zero, suc, min, List, [], ◌∷◌, ◌++◌, length, take, drop, map, get_or, Bool, cond, refl, subst, sym, ap, arith, inl, inr, eq-eqb}
+use Rattle.std.proofs.Common.{◌≡◌, ℕ, ◌+◌, ◌-◌, ◌<◌, ◌≤◌, min, List, [], ◌∷◌, ◌++◌, length, take, drop, Bool, cond, refl, subst, sym, ap, arith, inl, inr, eq-eqb}
 use Rattle.std.specs.Prelude.{Option, Some, None, Result, Ok, Err, OnOk, OnErr}
 use Rattle.std.specs.List.{range_with_len}
 use Rattle.std.proofs.lemmas.Bool.{cases_eq, ne_eqb}
 use Rattle.std.proofs.lemmas.List.FromFn.{length-range_with_len}
 use Rattle.link_retry.specs.Wire.{frame_at, without, with_frame, PutsSome}
-use Rattle.link_retry.specs.Link.{LinkView, IsLink, expected, first_kept, Receives, DeliversMessage, AreResent}
-use Rattle.link_retry.specs.GoBackN.{handed_over, after_message, DeliversFrame, all_kept}
+use Rattle.mind_base.specs.declared.links.Side.{Side}
+use Rattle.mind_base.specs.declared.links.Side.TheVariants.{Messages, Acks}
+use Rattle.link_retry.specs.Link.{LinkView, IsLink, expected, first_kept, Receives, Acknowledges, Delivers, DeliversMessage, DeliversAck, AreResent}
+use Rattle.link_retry.specs.GoBackN.{handed_over, after_message, after_ack, TakesFrame, TakesAck, DeliversInOrder, all_kept}
 use Rattle.link_retry.proofs.Frames.{All-range, IsStrictlyIncreasing-range, slice_get-range, at_frame}
 
 -- the expected message is handed over
@@ -24,10 +26,6 @@ first_and_rest (x ∷ xs) = refl
 one_less : (pending : List (List ℕ)) → 0 < length pending → (0 < length (take 1 pending)) × (length (drop (length (take 1 pending)) pending) + 1 ≡ length pending)
 one_less [] h = absurd (omega arith)
 one_less (x ∷ xs) h = (omega arith, omega arith)
-
-first_of_none : (pending : List (List ℕ)) → 0 < length (take 1 pending) → 0 < length pending
-first_of_none [] h = h
-first_of_none (x ∷ xs) h = omega arith
 
 -- the frame that is expected
 receives_expected : (old : LinkView) (k number : ℕ) → IsLink old → number < old.next → number ≡ expected old → Receives old k number (take 1 old.pending) (record old { pending = drop (length (take 1 old.pending)) old.pending; messages = without old.messages k; acks = with_frame old.acks (old.next - length (drop (length (take 1 old.pending)) old.pending)) })
@@ -75,21 +73,37 @@ receives old k number link sent = elim (cases_eq number (expected old)) [
   | inr other ↦ subst (λ (t : List (List ℕ)). Receives old k number t (after_handing old k t)) (sym (handed_over_other old number other)) (receives_other old k number link other)
 ]
 
-delivers : (old : LinkView) (k : ℕ) (frame : Option ℕ) (taken : List (List ℕ)) (new : LinkView) → IsLink old → frame_at old.messages k ≡ frame → DeliversFrame old k frame taken new → DeliversMessage old k frame taken new
-delivers old k None taken new link named d = d
-delivers old k (Some number) taken new link named d =
+takes_frame : (old : LinkView) (k : ℕ) (frame : Option ℕ) (taken : List (List ℕ)) (new : LinkView) → IsLink old → frame_at old.messages k ≡ frame → TakesFrame old k frame taken new → DeliversMessage old k frame taken new
+takes_frame old k None taken new link named d = d
+takes_frame old k (Some number) taken new link named d =
     let sent : number < old.next = at_frame (λ x. x < old.next) old.messages k number link.message_numbers named in
     subst (λ (t : List (List ℕ)). Receives old k number t new) (sym d.0)
     (subst (λ (l : LinkView). Receives old k number (handed_over old number) l) (sym d.1) (receives old k number link sent))
 
-pub delivers_message : (old : LinkView) (k : ℕ) (taken : List (List ℕ)) (new : LinkView) → IsLink old → DeliversFrame old k (frame_at old.messages k) taken new → DeliversMessage old k (frame_at old.messages k) taken new
-delivers_message old k taken new link d = delivers old k (frame_at old.messages k) taken new link refl d
+-- an acknowledgement
+acknowledges : (old : LinkView) (k number : ℕ) → IsLink old → number ≤ expected old → Acknowledges old k number [] (after_ack old k number)
+acknowledges old k number link below =
+    let upto : old.kept ≤ old.next = link.kept in
+    record {
+      none = refl;
+      falls = ((λ less. omega arith), (λ passed. omega arith));
+      kept = refl;
+      acks = refl;
+      pending = refl;
+      next = refl;
+      messages = refl;
+    }
 
--- the element at a place is the first of what is left from there
-pub first_from : {X : Type 0} (f : X → List ℕ) (kept : List X) (i : ℕ) (m : X) → i < length kept → m ≡ get_or kept i m → take 1 (drop i (map f kept)) ≡ f m ∷ []
-first_from f [] i m h e = absurd (omega arith)
-first_from f (x ∷ xs) zero m h e = ap (λ y. f y ∷ []) (sym e)
-first_from f (x ∷ xs) (suc i) m h e = first_from f xs i m (omega arith) e
+takes_ack : (old : LinkView) (k : ℕ) (frame : Option ℕ) (taken : List (List ℕ)) (new : LinkView) → IsLink old → frame_at old.acks k ≡ frame → TakesAck old k frame taken new → DeliversAck old k frame taken new
+takes_ack old k None taken new link named d = d
+takes_ack old k (Some number) taken new link named d =
+    let below : number ≤ expected old = at_frame (λ x. x ≤ expected old) old.acks k number link.ack_numbers named in
+    subst (λ (t : List (List ℕ)). Acknowledges old k number t new) (sym d.0)
+    (subst (λ (l : LinkView). Acknowledges old k number [] l) (sym d.1) (acknowledges old k number link below))
+
+pub delivers : (old : LinkView) (side : Side) (k : ℕ) (taken : List (List ℕ)) (new : LinkView) → IsLink old → DeliversInOrder old side k taken new → Delivers old side k taken new
+delivers old Messages k taken new link d = takes_frame old k (frame_at old.messages k) taken new link refl d
+delivers old Acks k taken new link d = takes_ack old k (frame_at old.acks k) taken new link refl d
 
 -- the frames of all kept messages are such as may be put
 pub all_kept_are_resent : (link : LinkView) → IsLink link → AreResent link (all_kept link)

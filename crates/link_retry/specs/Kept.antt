@@ -1,24 +1,24 @@
--- What a link keeps, and what it stands for: the kept messages, the first one's number, the expected number.
-use Rattle.std.specs.Prelude.{ℕ, ◌+◌, ◌-◌, ◌<◌, ◌≤◌, ◌^◌, List, length, drop, All}
+-- What a link keeps, and what it stands for: the pending messages, the number of the first kept message and the
+-- expected number. Of a kept message that was taken only the number is left, since no frame brings it again.
+use Rattle.std.specs.Prelude.{ℕ, ◌+◌, ◌-◌, ◌<◌, ◌≤◌, ◌^◌, List, length, All}
 use Rattle.link_retry.specs.Link.{LinkView}
 
--- the messages from the expected one on are pending
+-- the first pending message has the expected number
 abbrev pub view_of : ℕ → ℕ → List (List ℕ) → List ℕ → List ℕ → LinkView
-view_of first expected kept messages acks = record {
-  pending = drop (expected - first) kept;
-  next = first + length kept;
-  kept = length kept;
+view_of first expected pending messages acks = record {
+  pending = pending;
+  next = expected + length pending;
+  kept = expected + length pending - first;
   messages = messages;
   acks = acks;
 }
 
 -- the expected number is that of a kept message, or of the next one; frames have numbers that were sent,
 -- acknowledgements none that is past the expected one, and no wire has more than 64 frames
-pub record IsKept (first expected : ℕ) (kept : List (List ℕ)) (messages acks : List ℕ) : Type 0 where
+pub record IsKept (first expected : ℕ) (pending : List (List ℕ)) (messages acks : List ℕ) : Type 0 where
   pub from : first ≤ expected
-  pub to : expected ≤ first + length kept
-  pub next : first + length kept < 2 ^ 32
-  pub message_numbers : All (λ number. number < first + length kept) messages
+  pub next : expected + length pending < 2 ^ 32
+  pub message_numbers : All (λ number. number < expected + length pending) messages
   pub ack_numbers : All (λ number. number ≤ expected) acks
   pub messages_fit : length messages ≤ 64
   pub acks_fit : length acks ≤ 64

@@ -1,4 +1,5 @@
--- A link: what each call on it does with the messages, the numbers and the two wires.
+-- A link: what each call on it does with the messages, the numbers and the two wires. All of it holds of every
+-- protocol that keeps the order of messages; what go-back-N adds is said in GoBackN alone.
 use Rattle.std.specs.Prelude.{◌≡◌, ℕ, ◌+◌, ◌-◌, ◌<◌, ◌≤◌, ◌^◌, ◌↔◌, min, List, [], ◌∷◌, ◌++◌, length, slice_get, All, Option, Some, None}
 use Rattle.std.specs.List.Sorted.{IsStrictlyIncreasing}
 use Rattle.mind_base.specs.declared.links.Side.{Side}
@@ -77,11 +78,21 @@ pub record Receives (old : LinkView) (k number : ℕ) (taken : List (List ℕ)) 
   pub next : new.next ≡ old.next
   pub kept : new.kept ≡ old.kept
 
--- the link after `deliver` of the acknowledgement that k names, which has this number: the kept messages
--- with smaller numbers are kept no longer
-abbrev pub after_ack : LinkView → ℕ → ℕ → LinkView
-after_ack link k number =
-    record link { kept = min link.kept (link.next - number); acks = without link.acks k }
+-- how many messages are kept once this number was acknowledged: those with smaller numbers no longer
+abbrev pub left_kept : LinkView → ℕ → ℕ
+left_kept link number = min link.kept (link.next - number)
+
+-- What `deliver` of the acknowledgement that k names does, which has this number.
+pub record Acknowledges (old : LinkView) (k number : ℕ) (taken : List (List ℕ)) (new : LinkView) : Type 0 where
+  pub none : taken ≡ []
+  -- fewer are kept exactly where it passes the first kept number
+  pub falls : (new.kept < old.kept) ↔ (first_kept old < number)
+  pub kept : new.kept ≡ left_kept old number
+  -- it leaves the wire, and all else is as it was
+  pub acks : new.acks ≡ without old.acks k
+  pub pending : new.pending ≡ old.pending
+  pub next : new.next ≡ old.next
+  pub messages : new.messages ≡ old.messages
 
 -- what `deliver` does, by the frame that is named: nothing where there is none
 abbrev pub DeliversMessage : LinkView → ℕ → Option ℕ → List (List ℕ) → LinkView → Type 0
@@ -90,7 +101,7 @@ DeliversMessage old k (Some number) taken new = Receives old k number taken new
 
 abbrev pub DeliversAck : LinkView → ℕ → Option ℕ → List (List ℕ) → LinkView → Type 0
 DeliversAck old k None taken new = (taken ≡ []) × (new ≡ old)
-DeliversAck old k (Some number) taken new = (taken ≡ []) × (new ≡ after_ack old k number)
+DeliversAck old k (Some number) taken new = Acknowledges old k number taken new
 
 abbrev pub Delivers : LinkView → Side → ℕ → List (List ℕ) → LinkView → Type 0
 Delivers old Messages k taken new = DeliversMessage old k (frame_at old.messages k) taken new

@@ -1,4 +1,4 @@
-ghost use Rattle.std.specs.Prelude.{◌≡◌, ◌↔◌, ◌<◌, ◌≤◌, ◌++◌, [], drop, map, length, IfOk, OnOk};
+ghost use Rattle.std.specs.Prelude.{◌≡◌, ◌↔◌, ◌++◌, [], map, length, IsTrue, IfOk, OnOk};
 
 use crate::wires::{CAPACITY, put, put_copy, put_rising, take_out};
 use mind_base::{NoMemory, Side, Stop};
@@ -10,16 +10,17 @@ use std::marker::Model;
 ///
 /// The sender numbers its messages from 0 and keeps each until it is acknowledged; the receiver
 /// expects them in the order of their numbers and drops any other frame. A frame is the number of a
-/// message, whose bytes are those of the kept message with that number. After `NoMemory` a link is
-/// only to be dropped.
+/// message. The bytes of a message stand here once, from the call that sends it to the delivery that
+/// hands it over; of a message that is kept longer the number is enough, since a frame with it only
+/// makes the receiver acknowledge again. After `NoMemory` a link is only to be dropped.
 #[derive(Debug, Drop)]
 pub struct Link {
     alloc: Global,
-    /// The kept messages, in the order of their numbers.
-    kept: VecDeque<Vec<u8>>,
-    /// The number of the first kept message.
+    /// The messages that the receiver has not taken, in the order of their numbers.
+    pending: VecDeque<Vec<u8>>,
+    /// The number of the first message that the sender keeps.
     first: u32,
-    /// The number that the receiver expects.
+    /// The number that the receiver expects, which is that of the first pending message.
     expected: u32,
     messages: Vec<u32>,
     acks: Vec<u32>,
@@ -32,17 +33,17 @@ impl Model for Link {
 
     ghost Value = { LinkView };
 
-    ghost view = { λ l. view_of l.first l.expected (map (λ v. v.items) l.kept.items) l.messages.items l.acks.items };
+    ghost view = { λ l. view_of l.first l.expected (map (λ v. v.items) l.pending.items) l.messages.items l.acks.items };
 
-    ghost invariant = { λ l. IsKept l.first l.expected (map (λ v. v.items) l.kept.items) l.messages.items l.acks.items };
+    ghost invariant = { λ l. IsKept l.first l.expected (map (λ v. v.items) l.pending.items) l.messages.items l.acks.items };
 }
 
 impl Link {
     ghost use Rattle.mind_base.specs.declared.links.Side.TheVariants.{Messages, Acks};
     ghost use Rattle.mind_base.specs.declared.failures.Stop.TheVariants.{Spent};
     ghost use Rattle.std.specs.Prelude.{Err};
-    ghost use Rattle.link_retry.specs.Link.{IsLink, AreResent, new_link, after_send, wire_of, after_lose, after_repeat, Delivers, Resends, with_wire};
-    ghost use Rattle.link_retry.specs.GoBackN.{DeliversInOrder, after_frame, handed_over, all_kept};
+    ghost use Rattle.link_retry.specs.Link.{IsLink, AreResent, new_link, after_send, wire_of, after_lose, after_repeat, Delivers, Resends};
+    ghost use Rattle.link_retry.specs.GoBackN.{DeliversInOrder, after_frame, handed_over, all_kept, after_resend};
 
     /// A link that nothing was sent on.
     pub fn new(alloc: Global) -> Result<Link, NoMemory>
@@ -52,7 +53,7 @@ impl Link {
         let acks = Vec::with_capacity(alloc, CAPACITY)?;
         Ok(Link {
             alloc,
-            kept: VecDeque::new(alloc),
+            pending: VecDeque::new(alloc),
             first: 0,
             expected: 0,
             messages,
@@ -67,26 +68,39 @@ impl Link {
         ensures unchanged { result ≡ Err Spent → self.new ≡ self.old }
         ensures link { IsLink self.new }
     {
-        let number = self.next();
-        if number == u32::MAX {
+        if self.is_spent() {
             return Err(Stop::Spent);
         }
-        self.kept.push_back(message)?;
+        let number = self.next();
+        self.pending.push_back(message)?;
         put(&mut self.messages, number)?;
         Ok(())
+    }
+
+    /// Whether all numbers are used up, so that nothing more can be sent.
+    pub fn is_spent(&self) -> bool
+        ensures { IsTrue result ↔ (self.now.next ≡ 4294967295) }
+    {
+        self.next() == u32::MAX
     }
 
     /// Delivers the frame of one side that `k` names, counted modulo the number of frames there, and
     /// gives the messages that the receiver takes.
     pub fn deliver(&mut self, side: Side, k: u32) -> Result<Vec<Vec<u8>>, NoMemory>
+        // What every protocol that keeps the order does, and what go-back-N does.
         ensures ok { IfOk result (λ taken. Delivers self.old side k (map (λ v. v.items) taken.items) self.new) }
+        ensures go_back_n { IfOk result (λ taken. DeliversInOrder self.old side k (map (λ v. v.items) taken.items) self.new) }
         ensures link { IsLink self.new }
     {
         match side {
-            Side::Messages => self.deliver_message(k),
+            Side::Messages => {
+                let taken = self.deliver_message(k)?;
+                Ok(taken)
+            }
             Side::Acks => {
                 self.deliver_ack(k);
-                Ok(Vec::new(self.alloc))
+                let nothing = Vec::new(self.alloc);
+                Ok(nothing)
             }
         }
     }
@@ -117,9 +131,10 @@ impl Link {
         }
     }
 
-    /// Puts frames of kept messages at the end of the message wire.
+    /// Puts frames of the kept messages at the end of the message wire, up to 64 frames.
     pub fn resend(&mut self) -> Result<(), NoMemory>
         ensures ok { OnOk result (Resends self.old self.new) }
+        ensures go_back_n { OnOk result (self.new ≡ after_resend self.old) }
         ensures link { IsLink self.new }
     {
         self.resend_all()
@@ -141,20 +156,20 @@ impl Link {
         ensures kept { result ≡ self.now.kept }
         ensures link { IsLink self.now }
     {
-        self.kept.len() as u32
+        self.next() - self.first
     }
 
     /// The number of the next message.
     fn next(&self) -> u32
         ensures { result ≡ self.now.next }
     {
-        self.first + self.kept.len() as u32
+        self.expected + self.pending.len() as u32
     }
 
     /// Delivers a message frame: the receiver takes the message that it expects and drops any other,
     /// and acknowledges the number that it expects then.
     fn deliver_message(&mut self, k: u32) -> Result<Vec<Vec<u8>>, NoMemory>
-        ensures ok { IfOk result (λ taken. DeliversInOrder self.old k (map (λ v. v.items) taken.items) self.new) }
+        ensures ok { IfOk result (λ taken. DeliversInOrder self.old Messages k (map (λ v. v.items) taken.items) self.new) }
         ensures was { IsLink self.old }
         ensures link { IsLink self.new }
     {
@@ -168,7 +183,6 @@ impl Link {
 
     /// Takes the message with this number where it is the expected one.
     fn accept(&mut self, number: u32) -> Result<Vec<Vec<u8>>, NoMemory>
-        requires { number < self.old.next }
         ensures taken { IfOk result (λ taken. map (λ v. v.items) taken.items ≡ handed_over self.old number) }
         ensures ok { OnOk result (self.new ≡ after_frame self.old number) }
         ensures link { IsLink self.new }
@@ -177,44 +191,33 @@ impl Link {
         if number != self.expected {
             return Ok(taken);
         }
-        let message = &self.kept[(number - self.first) as usize];
-        taken.push(Vec::from_slice(self.alloc, message.as_slice())?)?;
-        self.expected += 1;
+        if let Some(message) = self.pending.pop_front() {
+            self.expected += 1;
+            taken.push(message)?;
+        }
         Ok(taken)
     }
 
     /// Delivers an acknowledgement: the kept messages with smaller numbers are kept no longer.
     fn deliver_ack(&mut self, k: u32)
-        ensures ok { Delivers self.old Acks k [] self.new }
+        ensures ok { DeliversInOrder self.old Acks k [] self.new }
+        ensures was { IsLink self.old }
         ensures link { IsLink self.new }
     {
         let Some(number) = take_out(&mut self.acks, k) else {
             return;
         };
-        if self.first < number {
-            free(&mut self.kept, number - self.first);
-            self.first = number;
-        }
+        self.first = self.first.max(number);
     }
 
     /// Puts the frames of all kept messages at the end of the message wire, up to 64 frames.
     fn resend_all(&mut self) -> Result<(), NoMemory>
-        ensures ok { OnOk result (self.new ≡ with_wire self.old Messages (self.old.messages ++ all_kept self.old)) }
+        ensures ok { OnOk result (self.new ≡ after_resend self.old) }
         ensures frames { AreResent self.old (all_kept self.old) }
         ensures link { IsLink self.new }
     {
-        let room = CAPACITY - self.messages.len();
-        let count = room.min(self.kept.len());
-        put_rising(&mut self.messages, self.first, count as u32)
-    }
-}
-
-/// Lets the first `count` messages go.
-fn free(kept: &mut VecDeque<Vec<u8>>, count: u32)
-    requires { count ≤ length kept.old.items }
-    ensures { kept.new.items ≡ drop count kept.old.items }
-{
-    for _ in 0..count {
-        let _freed = kept.pop_front();
+        let room = (CAPACITY - self.messages.len()) as u32;
+        let count = room.min(self.next() - self.first);
+        put_rising(&mut self.messages, self.first, count)
     }
 }

@@ -7,6 +7,7 @@ use Rattle.std.proofs.lemmas.List.Elements.{All-push}
 use Rattle.mind_base.specs.declared.links.Side.{Side}
 use Rattle.mind_base.specs.declared.links.Side.TheVariants.{Messages, Acks}
 use Rattle.link_retry.specs.Link.{LinkView, IsLink, after_send, Delivers, DeliversMessage, DeliversAck}
+use Rattle.link_retry.specs.GoBackN.{after_resend}
 use Rattle.link_retry.specs.Wire.{frame_at}
 use Rattle.wire_msg.specs.declared.msgs.Msg.{Msg}
 use Rattle.wire_msg.specs.Spelling.{spelling}
@@ -42,7 +43,7 @@ by_message old k (Some number) taken new d = d.prefix
 
 by_ack : (old : LinkView) (k : ℕ) (frame : Option ℕ) (taken : List (List ℕ)) (new : LinkView) → DeliversAck old k frame taken new → old.pending ≡ taken ++ new.pending
 by_ack old k None taken new d = cc
-by_ack old k (Some number) taken new d = cc
+by_ack old k (Some number) taken new d = sym d.pending ∙ ap (λ (t : List (List ℕ)). t ++ new.pending) (sym d.none)
 
 -- what is taken is the front of what was pending
 prefix : (old : LinkView) (side : Side) (k : ℕ) (taken : List (List ℕ)) (new : LinkView) → Delivers old side k taken new → old.pending ≡ taken ++ new.pending
@@ -64,11 +65,17 @@ held-delivered old side k taken new held sound d = record {
 pub fifo-delivered : (old : LinkView) (side : Side) (k : ℕ) (taken : List (List ℕ)) (new : LinkView) → Delivers old side k taken new → (link_of old).pending ≡ map read taken ++ (link_of new).pending
 fifo-delivered old side k taken new d = ap (map read) (prefix old side k taken new d) ∙ map-append read taken new.pending
 
-pub link-delivered : (old : LinkView) (side : Side) (k : ℕ) (taken : List (List ℕ)) (new : LinkView) → IsHeld old → IsHeld new → Delivers old side k taken new → Delivers (spelled (link_of old)) side k (map spelling (map read taken)) (spelled (link_of new))
-link-delivered old side k taken new held held' d =
-    subst (λ (l : LinkView). Delivers l side k (map spelling (map read taken)) (spelled (link_of new))) (sym (spelled-link_of old held.spelled))
-    (subst (λ (l : LinkView). Delivers old side k (map spelling (map read taken)) l) (sym (spelled-link_of new held'.spelled))
-    (subst (λ (t : List (List ℕ)). Delivers old side k t new) (sym (spelled-read taken (taken-spelled old side k taken new held d))) d))
+-- what holds of a delivery on a link holds of it as a queue of messages
+pub as-messages : (P : LinkView → List (List ℕ) → LinkView → Type 0) (old : LinkView) (side : Side) (k : ℕ) (taken : List (List ℕ)) (new : LinkView) → IsHeld old → IsLink new → Delivers old side k taken new → P old taken new → P (spelled (link_of old)) (map spelling (map read taken)) (spelled (link_of new))
+as-messages P old side k taken new held sound d p =
+    subst (λ (l : LinkView). P l (map spelling (map read taken)) (spelled (link_of new))) (sym (spelled-link_of old held.spelled))
+    (subst (λ (l : LinkView). P old (map spelling (map read taken)) l) (sym (spelled-link_of new (held-delivered old side k taken new held sound d).spelled))
+    (subst (λ (t : List (List ℕ)). P old t new) (sym (spelled-read taken (taken-spelled old side k taken new held d))) p))
+
+-- the frames that are sent again go by numbers alone
+pub link-resent : {T E : Type 0} (r : Result T E) (old new : LinkView) → OnOk r (new ≡ after_resend old) → OnOk r (spelled (link_of new) ≡ after_resend (spelled (link_of old)))
+link-resent (Ok x) old new e = ap (λ (l : LinkView). spelled (link_of l)) e
+link-resent (Err x) old new e = e
 
 -- what follows from what an Ok says
 pub on_ok : {T E : Type 0} {A B : Type 0} (r : Result T E) → OnOk r A → (A → B) → OnOk r B

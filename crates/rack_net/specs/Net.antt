@@ -1,5 +1,5 @@
 -- All links of a rack, each as a queue of messages, and what each call does to one of them.
-use Rattle.std.specs.Prelude.{◌≡◌, ℕ, ◌+◌, ◌*◌, ◌<◌, ◌≤◌, Bool, ◌&&◌, ◌==◌, nat_lt, List, [], length, map, All, slice_index_or, Option, Some, None, if◌then◌else◌}
+use Rattle.std.specs.Prelude.{◌≡◌, ℕ, ◌+◌, ◌*◌, ◌<◌, Bool, ◌&&◌, ◌==◌, nat_lt, List, [], length, map, All, slice_index_or, Option, Some, None, if◌then◌else◌}
 use Rattle.mind_base.specs.declared.links.LinkKind.{LinkKind}
 use Rattle.mind_base.specs.declared.links.LinkKind.TheVariants.{Up, Down, To, From}
 use Rattle.mind_base.specs.declared.links.LinkName.{LinkName}
@@ -39,10 +39,6 @@ pub record NetView : Type 0 where
   pub blades : ℕ
   pub memories : ℕ
   pub links : List NetLink
-
--- from 1 to 8 blades
-abbrev pub IsCount : ℕ → Type 0
-IsCount count = (0 < count) × (count ≤ 8)
 
 -- how many links of a kind there are
 abbrev pub links_of_kind : ℕ → ℕ → LinkKind → ℕ

@@ -1,6 +1,7 @@
-ghost use Rattle.std.specs.Prelude.{◌≡◌, ◌↔◌, ◌++◌, ◌∷◌, [], Err, map, All, IsErr, IfOk, OnOk};
+ghost use Rattle.std.specs.Prelude.{◌≡◌, ◌↔◌, ◌++◌, ◌∷◌, [], Err, map, All, IfOk, OnOk};
 ghost use Rattle.mind_base.specs.declared.failures.Stop.TheVariants.{Spent};
 ghost use Rattle.link_retry.specs.Link.{after_send, Delivers, after_lose, after_repeat, Resends};
+ghost use Rattle.link_retry.specs.GoBackN.{DeliversInOrder, after_resend};
 ghost use Rattle.wire_msg.specs.Spelling.{spelling};
 ghost use Rattle.wire_msg.specs.WellFormed.{FieldsAgree, IsWellFormed};
 ghost use Rattle.rack_net.specs.Net.{spelled};
@@ -22,22 +23,14 @@ pub(crate) fn send_on(link: &mut Link, alloc: Global, msg: &Msg) -> Result<(), S
     ensures spent { (result ≡ Err Spent) ↔ (link.old.next ≡ 4294967295) }
     ensures unchanged { result ≡ Err Spent → link.new ≡ link.old }
 {
+    if link.is_spent() {
+        return Err(Stop::Spent);
+    }
     let mut bytes = Vec::new(alloc);
     match encode(msg, &mut bytes) {
         Ok(()) => link.send(bytes),
-        Err(NoMemory) => refuse(link, alloc),
+        Err(NoMemory) => Err(Stop::NoMemory),
     }
-}
-
-/// Why a link takes no message for which there is no memory. Only the link tells whether its numbers
-/// are spent as well, so it is asked with an empty message.
-fn refuse(link: &mut Link, alloc: Global) -> Result<(), Stop>
-    ensures err { IsErr result }
-    ensures spent { (result ≡ Err Spent) ↔ (link.old.next ≡ 4294967295) }
-    ensures unchanged { result ≡ Err Spent → link.new ≡ link.old }
-{
-    link.send(Vec::new(alloc))?;
-    Err(Stop::NoMemory)
 }
 
 /// Delivers a frame of a link, and reads the messages that the receiver takes.
@@ -50,6 +43,7 @@ pub(crate) fn deliver_on(
     requires { IsHeld link.old }
     ensures fifo { IfOk result (λ taken. (link_of link.old).pending ≡ taken.items ++ (link_of link.new).pending) }
     ensures link { IfOk result (λ taken. Delivers (spelled (link_of link.old)) side k (map spelling taken.items) (spelled (link_of link.new))) }
+    ensures go_back_n { IfOk result (λ taken. DeliversInOrder (spelled (link_of link.old)) side k (map spelling taken.items) (spelled (link_of link.new))) }
     ensures formed { IfOk result (λ taken. All IsWellFormed taken.items) }
     ensures held { OnOk result (IsHeld link.new) }
 {
@@ -83,6 +77,7 @@ pub(crate) fn resend_on(link: &mut Link) -> Result<(), NoMemory>
     requires { IsHeld link.old }
     ensures fifo { OnOk result ((link_of link.new).pending ≡ (link_of link.old).pending) }
     ensures link { OnOk result (Resends (spelled (link_of link.old)) (spelled (link_of link.new))) }
+    ensures go_back_n { OnOk result (spelled (link_of link.new) ≡ after_resend (spelled (link_of link.old))) }
     ensures held { OnOk result (IsHeld link.new) }
 {
     link.resend()

@@ -1,9 +1,10 @@
 ghost use Rattle.std.specs.Prelude.{◌≡◌, ◌↔◌, ◌++◌, ◌∷◌, [], Err, map, All, IfOk, OnOk};
 ghost use Rattle.mind_base.specs.declared.failures.Stop.TheVariants.{Spent};
 ghost use Rattle.link_retry.specs.Link.{after_send, Delivers, after_lose, after_repeat, Resends};
+ghost use Rattle.link_retry.specs.GoBackN.{DeliversInOrder, after_resend};
 ghost use Rattle.wire_msg.specs.Spelling.{spelling};
 ghost use Rattle.wire_msg.specs.WellFormed.{FieldsAgree, IsWellFormed};
-ghost use Rattle.rack_net.specs.Net.{IsCount, IsLinkOf, IsNet, ChangesOnly, FindsFrame, FindsKept, links_of, empty_link, spelled};
+ghost use Rattle.rack_net.specs.Net.{IsLinkOf, IsNet, ChangesOnly, FindsFrame, FindsKept, links_of, empty_link, spelled};
 
 use crate::carried::{deliver_on, lose_on, repeat_on, resend_on, send_on};
 use crate::places::{name, place};
@@ -39,10 +40,8 @@ impl Model for Net {
 }
 
 impl Net {
-    /// The links of so many compute blades and memory blades, 1 to 8 each. Nothing was sent on them.
+    /// The links of so many compute blades and memory blades. Nothing was sent on them.
     pub fn new(alloc: Global, blades: u8, memories: u8) -> Result<Net, NoMemory>
-        requires blades { IsCount blades }
-        requires memories { IsCount memories }
         ensures blades { IfOk result (λ net. net.blades ≡ blades) }
         ensures memories { IfOk result (λ net. net.memories ≡ memories) }
         ensures empty { IfOk result (λ net. links_of net ≡ (λ _. empty_link)) }
@@ -88,6 +87,8 @@ impl Net {
         // What is taken is the front of what was pending, and leaves it.
         ensures fifo { IfOk result (λ taken. (links_of self.old link).pending ≡ taken.items ++ (links_of self.new link).pending) }
         ensures link { IfOk result (λ taken. Delivers (spelled (links_of self.old link)) side k (map spelling taken.items) (spelled (links_of self.new link))) }
+        // Of the protocols that keep the order, this is go-back-N.
+        ensures go_back_n { IfOk result (λ taken. DeliversInOrder (spelled (links_of self.old link)) side k (map spelling taken.items) (spelled (links_of self.new link))) }
         ensures formed { IfOk result (λ taken. All IsWellFormed taken.items) }
         ensures only { OnOk result (ChangesOnly link self.old self.new) }
         ensures net { IsNet self.new }
@@ -132,11 +133,12 @@ impl Net {
         }
     }
 
-    /// Puts frames of the messages that a link keeps at the end of its message wire.
+    /// Puts frames of the messages that a link keeps at the end of its message wire, up to 64 frames.
     pub fn resend(&mut self, link: LinkName) -> Result<(), NoMemory>
         requires { IsLinkOf self.old link }
         ensures fifo { OnOk result ((links_of self.new link).pending ≡ (links_of self.old link).pending) }
         ensures link { OnOk result (Resends (spelled (links_of self.old link)) (spelled (links_of self.new link))) }
+        ensures go_back_n { OnOk result (spelled (links_of self.new link) ≡ after_resend (spelled (links_of self.old link))) }
         ensures only { OnOk result (ChangesOnly link self.old self.new) }
         ensures net { IsNet self.new }
     {

@@ -1,12 +1,8 @@
-use Rattle.std.proofs.Common.{sym}
-use Rattle.link_retry.proofs.Holding.{is_link, message_out, ack_put, sent_frame}
+use Rattle.link_retry.proofs.Holding.{is_link, message_out, ack_put}
 use Rattle.link_retry.proofs.links.Link.deliver_message.Goals as goal
 
 pub invariant_of-self-2 : goal.invariant_of-self-2
 invariant_of-self-2 c = message_out c.self.invariant c.args.k _ c.take_out.ensures.wire
-
-pub accept-requires : goal.accept-requires
-accept-requires c = sent_frame c.self.invariant c.args.k c.in-Some.number (sym c.in-Some.ensures.frame)
 
 pub invariant_of-self-3 : goal.invariant_of-self-3
 invariant_of-self-3 c = ack_put c.self-2.invariant _ c.in_ok-put.ensures.ok

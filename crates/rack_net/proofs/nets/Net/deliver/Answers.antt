@@ -1,5 +1,6 @@
 use Rattle.std.proofs.Common.{◌≡◌, ◌++◌, map, set}
 use Rattle.link_retry.specs.Link.{Delivers}
+use Rattle.link_retry.specs.GoBackN.{DeliversInOrder}
 use Rattle.wire_msg.specs.Spelling.{spelling}
 use Rattle.rack_net.specs.Net.{spelled}
 use Rattle.rack_net.specs.Kept.{view_of}
@@ -16,6 +17,9 @@ returns-in-Ok-clause-fifo c = by-name _ _ c.args.link _ _ (λ a b. a.pending ≡
 
 pub returns-in-Ok-clause-link : goal.returns-in-Ok-clause-link
 returns-in-Ok-clause-link c = by-name _ _ c.args.link _ _ (λ a b. Delivers (spelled a) c.args.side c.args.k (map spelling c.in-Ok.taken.items) (spelled b)) (step c) c.in-Ok.ensures.link
+
+pub returns-in-Ok-clause-go_back_n : goal.returns-in-Ok-clause-go_back_n
+returns-in-Ok-clause-go_back_n c = by-name _ _ c.args.link _ _ (λ a b. DeliversInOrder (spelled a) c.args.side c.args.k (map spelling c.in-Ok.taken.items) (spelled b)) (step c) c.in-Ok.ensures.go_back_n
 
 pub returns-in-Ok-clause-only : goal.returns-in-Ok-clause-only
 returns-in-Ok-clause-only c = (step c).only

@@ -1,5 +1,6 @@
 use Rattle.std.proofs.Common.{◌≡◌, set}
 use Rattle.link_retry.specs.Link.{Resends}
+use Rattle.link_retry.specs.GoBackN.{after_resend}
 use Rattle.rack_net.specs.Net.{spelled}
 use Rattle.rack_net.specs.Kept.{view_of}
 use Rattle.rack_net.proofs.Putting.{Updates, updates, by-name, is-net}
@@ -15,6 +16,9 @@ returns-in-Ok-clause-fifo c = by-name _ _ c.args.link _ _ (λ a b. b.pending ≡
 
 pub returns-in-Ok-clause-link : goal.returns-in-Ok-clause-link
 returns-in-Ok-clause-link c = by-name _ _ c.args.link _ _ (λ a b. Resends (spelled a) (spelled b)) (step c) c.in-Ok.ensures.link
+
+pub returns-in-Ok-clause-go_back_n : goal.returns-in-Ok-clause-go_back_n
+returns-in-Ok-clause-go_back_n c = by-name _ _ c.args.link _ _ (λ a b. spelled b ≡ after_resend (spelled a)) (step c) c.in-Ok.ensures.go_back_n
 
 pub returns-in-Ok-clause-only : goal.returns-in-Ok-clause-only
 returns-in-Ok-clause-only c = (step c).only
