@@ -1,0 +1,191 @@
+-- How the loop over the splits stands to their definition: what is still to do from here was what was to do at first.
+use Rattle.std.proofs.Common.{◌≡◌, ℕ, ◌+◌, ◌-◌, ◌<◌, ◌≤◌, Option, Some, None, List, [], ◌∷◌, ◌++◌, length, get_or, take, drop, slice_get, refl, ap, sym, subst, ◌∙◌, zero, suc, arith, append_assoc}
+use Rattle.std.specs.Option.{option_and_then, option_map, option_map_or}
+use Rattle.std.proofs.lemmas.Option.{slice_get-get_or}
+use Rattle.std.proofs.lemmas.List.{append-nil, drop_all, take_all}
+use Rattle.mind_base.specs.declared.notes.Note.{Note}
+use Rattle.mind_base.specs.declared.notes.Note.TheVariants as note
+use Rattle.region_directory.specs.Directory.{DirectoryView}
+use Rattle.region_directory.specs.Split.{with_split}
+use Rattle.region_directory.specs.declared.entries.Entry.{Entry}
+use Rattle.region_directory.proofs.SearchLemmas.{blank}
+use Rattle.bounded_split.specs.Epoch.{Turn, Stays, Merges, Splits, hot_split, hot_at, left_after, split_notes}
+use Rattle.bounded_split.specs.Hot.{hot_block, hot_turns, hot_turns_in, split_noted}
+
+-- what becomes of the list when the splits from entry i on are still to be done, and their notes
+abbrev pub left_from : ℕ → ℕ → List Entry → ℕ → List Entry
+left_from t free es i = take i es ++ left_after (hot_turns t free (drop i es))
+
+abbrev pub notes_from : ℕ → ℕ → List Entry → ℕ → List Note
+notes_from t free es i = split_notes (hot_turns t free (drop i es))
+
+abbrev pub halves_at : ℕ → ℕ → List Entry → ℕ → Option (Entry × Entry)
+halves_at t free es i = option_and_then (hot_split t free) (slice_get es i)
+
+turns-stay : (t free : ℕ) (a : Entry) (es : List Entry) → hot_split t free a ≡ None → hot_turns t free (a ∷ es) ≡ Stays a ∷ hot_turns t free es
+turns-stay t free a es e =
+    ap (λ (o : Option (Entry × Entry)). option_map_or (λ halves. Splits a halves ∷ hot_turns t (free - 1) es) o (Stays a ∷ hot_turns t free es)) e
+
+turns-split : (t free : ℕ) (a : Entry) (h : Entry × Entry) (es : List Entry) → hot_split t free a ≡ Some h → hot_turns t free (a ∷ es) ≡ Splits a h ∷ hot_turns t (free - 1) es
+turns-split t free a h es e =
+    ap (λ (o : Option (Entry × Entry)). option_map_or (λ halves. Splits a halves ∷ hot_turns t (free - 1) es) o (Stays a ∷ hot_turns t free es)) e
+
+stay-left : (t free : ℕ) (es : List Entry) (i : ℕ) → i < length es → halves_at t free es i ≡ None → left_from t free es (suc i) ≡ left_from t free es i
+stay-left t free [] i lt e = absurd (omega arith)
+stay-left t free (a ∷ es) zero lt e = sym (ap left_after (turns-stay t free a es e))
+stay-left t free (a ∷ es) (suc i) lt e = ap (λ xs. a ∷ xs) (stay-left t free es i (omega arith) e)
+
+stay-notes : (t free : ℕ) (es : List Entry) (i : ℕ) → i < length es → halves_at t free es i ≡ None → notes_from t free es (suc i) ≡ notes_from t free es i
+stay-notes t free [] i lt e = absurd (omega arith)
+stay-notes t free (a ∷ es) zero lt e = sym (ap split_notes (turns-stay t free a es e))
+stay-notes t free (a ∷ es) (suc i) lt e = stay-notes t free es i (omega arith) e
+
+abbrev pub two_at : ℕ → Entry × Entry → List Entry → List Entry
+two_at i h es = take i es ++ h.0 ∷ h.1 ∷ drop (suc i) es
+
+split-left : (t free : ℕ) (es : List Entry) (i : ℕ) (h : Entry × Entry) → i < length es → halves_at t free es i ≡ Some h → left_from t (free - 1) (two_at i h es) (suc (suc i)) ≡ left_from t free es i
+split-left t free [] i h lt e = absurd (omega arith)
+split-left t free (a ∷ es) zero h lt e = sym (ap left_after (turns-split t free a h es e))
+split-left t free (a ∷ es) (suc i) h lt e = ap (λ xs. a ∷ xs) (split-left t free es i h (omega arith) e)
+
+split-noted : (t free : ℕ) (es : List Entry) (i : ℕ) (h : Entry × Entry) (e : Entry) → slice_get es i ≡ Some e → halves_at t free es i ≡ Some h → note.Split e.range ∷ notes_from t (free - 1) (two_at i h es) (suc (suc i)) ≡ notes_from t free es i
+split-noted t free [] i h e at s = absurd (cc)
+split-noted t free (a ∷ es) zero h e at s =
+    ap (λ (o : Option Entry). option_map_or (λ x. note.Split x.range ∷ split_notes (hot_turns t (free - 1) es)) o []) (sym at) ∙ sym (ap split_notes (turns-split t free a h es s))
+split-noted t free (a ∷ es) (suc i) h e at s = split-noted t free es i h e at s
+
+split-more : (es : List Entry) (i : ℕ) (h : Entry × Entry) → i < length es → length (two_at i h es) ≡ length es + 1
+split-more [] i h lt = absurd (omega arith)
+split-more (a ∷ es) zero h lt = omega arith
+split-more (a ∷ es) (suc i) h lt = omega (arith, split-more es i h (omega arith))
+
+-- where the loop stands: the directory and the log as they are, how much room there is, and how many were split
+pub record IsSplitting (t : ℕ) (first now : DirectoryView) (before notes : List Note) (spare i splits : ℕ) : Type 0 where
+  pub slots : now.slots ≡ first.slots
+  pub most : now.most ≡ first.most
+  pub left : left_from t (first.slots - length now.entries) now.entries i ≡ left_after (hot_turns_in t first)
+  pub noted : notes ++ notes_from t (first.slots - length now.entries) now.entries i ≡ before ++ split_notes (hot_turns_in t first)
+  pub count : splits + length (notes_from t (first.slots - length now.entries) now.entries i) ≡ length (split_notes (hot_turns_in t first))
+  pub room : length now.entries ≤ spare + i
+  pub few : splits ≤ i
+  pub within : i ≤ length now.entries
+
+pub splitting-start : (t : ℕ) (d : DirectoryView) (notes : List Note) (spare : ℕ) → length d.entries ≤ spare → IsSplitting t d d notes notes spare 0 0
+splitting-start t d notes spare room = record {
+  slots = refl;
+  most = refl;
+  left = refl;
+  noted = refl;
+  count = omega arith;
+  room = omega arith;
+  few = omega arith;
+  within = omega arith;
+}
+
+at-same : (t s : ℕ) (d : DirectoryView) (i : ℕ) (o : Option (Entry × Entry)) → d.slots ≡ s → hot_at t d i ≡ o → halves_at t (s - length d.entries) d.entries i ≡ o
+at-same t s d i o e c = sym (ap (λ (k : ℕ). halves_at t (k - length d.entries) d.entries i) e) ∙ c
+
+pub splitting-stays : (t : ℕ) (first now : DirectoryView) (before notes : List Note) (spare i splits : ℕ) → IsSplitting t first now before notes spare i splits → i < length now.entries → hot_at t now i ≡ None → IsSplitting t first now before notes spare (i + 1) splits
+splitting-stays t first now before notes spare i splits h lt none =
+    let n : suc i ≡ i + 1 = omega arith in
+    let free : ℕ = first.slots - length now.entries in
+    let at = at-same t first.slots now i None h.slots none in
+    let same : notes_from t free now.entries (suc i) ≡ notes_from t free now.entries i = stay-notes t free now.entries i lt at in
+    subst (λ (k : ℕ). IsSplitting t first now before notes spare k splits) n (record {
+      slots = h.slots;
+      most = h.most;
+      left = stay-left t free now.entries i lt at ∙ h.left;
+      noted = ap (λ xs. notes ++ xs) same ∙ h.noted;
+      count = ap (λ xs. splits + length xs) same ∙ h.count;
+      room = omega (arith, h.room);
+      few = omega (arith, h.few);
+      within = omega arith;
+    })
+
+pub splitting-splits : (t : ℕ) (first now next : DirectoryView) (before notes after : List Note) (spare less i splits : ℕ) (h : Entry × Entry) (e : Entry) → IsSplitting t first now before notes spare i splits → slice_get now.entries i ≡ Some e → i < length now.entries → hot_at t now i ≡ Some h
+    → next ≡ record now { entries = with_split i (Some h) now.entries } → after ≡ notes ++ note.Split e.range ∷ [] → spare ≤ less + 1 → IsSplitting t first next before after less (i + 1 + 1) (splits + 1)
+splitting-splits t first now next before notes after spare less i splits h e is at lt some f g room =
+    let n : suc (suc i) ≡ i + 1 + 1 = omega arith in
+    let m : i + 1 ≡ suc i = omega arith in
+    let free : ℕ = first.slots - length now.entries in
+    let halves = at-same t first.slots now i (Some h) is.slots some in
+    let made : DirectoryView = record now { entries = two_at i h now.entries } in
+    let shown : next ≡ made = f ∙ ap (λ (k : ℕ). record now { entries = take i now.entries ++ h.0 ∷ h.1 ∷ drop k now.entries }) m in
+    let more = split-more now.entries i h lt in
+    let freed : first.slots - length (two_at i h now.entries) ≡ free - 1 = omega (arith, more) in
+    let noted : note.Split e.range ∷ notes_from t (first.slots - length (two_at i h now.entries)) (two_at i h now.entries) (suc (suc i)) ≡ notes_from t free now.entries i =
+    ap (λ (k : ℕ). note.Split e.range ∷ notes_from t k (two_at i h now.entries) (suc (suc i))) freed ∙ split-noted t free now.entries i h e at halves in
+    let rest = notes_from t (first.slots - length (two_at i h now.entries)) (two_at i h now.entries) (suc (suc i)) in
+    subst (λ (k : ℕ). IsSplitting t first next before after less k (splits + 1)) n
+    (subst (λ (d : DirectoryView). IsSplitting t first d before after less (suc (suc i)) (splits + 1)) (sym shown) (record {
+      slots = is.slots;
+      most = is.most;
+      left = ap (λ (k : ℕ). left_from t k (two_at i h now.entries) (suc (suc i))) freed ∙ split-left t free now.entries i h lt halves ∙ is.left;
+      noted = ap (λ xs. xs ++ rest) g ∙ append_assoc notes (note.Split e.range ∷ []) rest ∙ ap (λ xs. notes ++ xs) noted ∙ is.noted;
+      count = omega (arith, is.count, ap length noted);
+      room = omega (arith, is.room, more);
+      few = omega (arith, is.few);
+      within = omega (arith, more);
+    }))
+
+-- one step of the loop
+block-is : (t : ℕ) (d : DirectoryView) (i : ℕ) (e : Entry) → slice_get d.entries i ≡ Some e → hot_block t d i ≡ option_map (λ _. e.range) (hot_at t d i)
+block-is t d i e at =
+    ap (λ (o : Option Entry). option_and_then (λ (entry : Entry). option_map (λ _. entry.range) (hot_split t (d.slots - length d.entries) entry)) o) at
+    ∙ sym (ap (λ (o : Option Entry). option_map (λ _. e.range) (option_and_then (hot_split t (d.slots - length d.entries)) o)) at)
+
+pub splitting-step : (t : ℕ) (first now next : DirectoryView) (before notes after : List Note) (spare less i splits added : ℕ) → IsSplitting t first now before notes spare i splits → i < length now.entries
+    → next ≡ record now { entries = with_split i (hot_at t now i) now.entries } → after ≡ notes ++ split_noted (hot_block t now i) → added ≡ length (split_noted (hot_block t now i)) → spare ≤ less + added
+    → IsSplitting t first next before after less (i + (1 + added)) (splits + added)
+splitting-step t first now next before notes after spare less i splits added h lt e f n room =
+    by (hot_at t now i) refl e (f ∙ ap (λ o. notes ++ split_noted o) block) (n ∙ ap (λ o. length (split_noted o)) block) where
+      entry : Entry
+      entry = get_or now.entries i blank
+
+      found : slice_get now.entries i ≡ Some entry
+      found = slice_get-get_or now.entries i blank lt
+
+      block : hot_block t now i ≡ option_map (λ _. entry.range) (hot_at t now i)
+      block = block-is t now i entry found
+
+      by : (o : Option (Entry × Entry)) → hot_at t now i ≡ o → next ≡ record now { entries = with_split i o now.entries } → after ≡ notes ++ split_noted (option_map (λ _. entry.range) o) → added ≡ length (split_noted (option_map (λ _. entry.range) o))
+          → IsSplitting t first next before after less (i + (1 + added)) (splits + added)
+      by None s e f n =
+          let here : IsSplitting t first now before notes spare (i + 1) splits = splitting-stays t first now before notes spare i splits h lt s in
+          let none : added ≡ 0 = n in
+          let sum : splits ≡ splits + added = omega arith in
+          let place : i + 1 ≡ i + (1 + added) = omega arith in
+          let more : IsSplitting t first now before notes less (i + 1) splits = record {
+            slots = here.slots;
+            most = here.most;
+            left = here.left;
+            noted = here.noted;
+            count = here.count;
+            room = omega (arith, here.room);
+            few = here.few;
+            within = here.within;
+          } in
+          let counted = subst (λ (k : ℕ). IsSplitting t first now before notes less (i + 1) k) sum more in
+          let placed = subst (λ (k : ℕ). IsSplitting t first now before notes less k (splits + added)) place counted in
+          let logged = subst (λ (xs : List Note). IsSplitting t first now before xs less (i + (1 + added)) (splits + added)) (sym (f ∙ append-nil notes)) placed in
+          subst (λ (d : DirectoryView). IsSplitting t first d before after less (i + (1 + added)) (splits + added)) (sym e) logged
+      by (Some halves) s e f n =
+          let one : added ≡ 1 = n in
+          let sum : splits + 1 ≡ splits + added = omega arith in
+          let place : i + 1 + 1 ≡ i + (1 + added) = omega arith in
+          let done = splitting-splits t first now next before notes after spare less i splits halves entry h found lt s e f (omega arith) in
+          let counted = subst (λ (k : ℕ). IsSplitting t first next before after less (i + 1 + 1) k) sum done in
+          subst (λ (k : ℕ). IsSplitting t first next before after less k (splits + added)) place counted
+
+pub splitting-ends : (t : ℕ) (first now : DirectoryView) (before notes : List Note) (spare i splits : ℕ) → IsSplitting t first now before notes spare i splits → length now.entries ≤ i
+    → (now ≡ record first { entries = left_after (hot_turns_in t first) }) × (notes ≡ before ++ split_notes (hot_turns_in t first)) × (splits ≡ length (split_notes (hot_turns_in t first)))
+splitting-ends t first now before notes spare i splits h le =
+    let free : ℕ = first.slots - length now.entries in
+    let none : drop i now.entries ≡ [] = drop_all i now.entries le in
+    let no_notes : notes_from t free now.entries i ≡ [] = ap (λ xs. split_notes (hot_turns t free xs)) none in
+    let entries : now.entries ≡ left_after (hot_turns_in t first) =
+    sym (ap (λ xs. take i now.entries ++ left_after (hot_turns t free xs)) none ∙ append-nil (take i now.entries) ∙ take_all i now.entries le) ∙ h.left in (
+      ap (λ (s : ℕ). record now { slots = s }) h.slots ∙ ap (λ (m : ℕ). record now { slots = first.slots; most = m }) h.most ∙ ap (λ (xs : List Entry). record first { entries = xs }) entries,
+      sym (append-nil notes) ∙ ap (λ xs. notes ++ xs) (sym no_notes) ∙ h.noted,
+      omega (arith, h.count, ap length no_notes),
+    )

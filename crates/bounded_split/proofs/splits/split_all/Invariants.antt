@@ -1,0 +1,10 @@
+use Rattle.std.proofs.Common.{ℕ, ◌-◌, length}
+use Rattle.bounded_split.proofs.Splitting.{IsSplitting}
+use Rattle.bounded_split.proofs.splits.split_all.Given as goal
+
+abbrev pub invariant-loop-i : goal.invariant-loop-i
+invariant-loop-i g l =
+    IsSplitting l.policy.threshold l.initial.directory l.directory l.initial.log.notes l.log.notes l.log.spare l.i l.splits
+
+abbrev pub decreases-loop-i : goal.decreases-loop-i
+decreases-loop-i g l = length l.directory.entries - l.i

@@ -1,0 +1,4 @@
+pub mod Epoch
+pub mod Hot
+pub mod Policy
+pub mod Verdict

@@ -1,0 +1,77 @@
+ghost use Rattle.std.specs.Prelude.{◌≡◌, ◌+◌, ◌≤◌, ◌<◌, ◌++◌, length};
+ghost use Rattle.region_directory.specs.Merge.{with_merge};
+ghost use Rattle.bounded_split.specs.Verdict.{is_cold};
+ghost use Rattle.bounded_split.specs.Epoch.{judged, cold_at, left_after, merge_noted, merge_notes, turns_of_merges};
+
+use crate::{Judge, Load, Policy, Verdict};
+use mind_base::{Log, Note};
+use region_directory::{Directory, Entry};
+
+/// The policy's verdict on an entry.
+pub fn judge<F: Judge>(policy: &Policy<F>, entry: &Entry) -> Verdict
+    ensures { result ≡ judged policy.now.threshold entry.now }
+{
+    policy.verdict(Load {
+        log: entry.range.log,
+        hits: entry.hits,
+    })
+}
+
+fn is_cold<F: Judge>(policy: &Policy<F>, entry: &Entry) -> bool
+    ensures { result ≡ is_cold (judged policy.now.threshold entry.now) }
+{
+    match judge(policy, entry) {
+        Verdict::Cold => true,
+        Verdict::Split | Verdict::Keep => false,
+    }
+}
+
+/// Merges the entry with this index and the next one, where both are cold and they may become one, and
+/// notes the block that is made; gives how many merges there were, 0 or 1.
+fn merge_cold<F: Judge>(directory: &mut Directory, policy: &Policy<F>, log: &mut Log, i: u32) -> u32
+    requires within { i < length directory.old.entries }
+    requires room { 0 < log.old.spare }
+    ensures changed { directory.new ≡ record directory.old {
+      entries = with_merge i (cold_at policy.now.threshold directory.old i) directory.old.entries;
+    } }
+    ensures noted { log.new.notes
+        ≡ log.old.notes ++ merge_noted (cold_at policy.now.threshold directory.old i) }
+    ensures count { result ≡ length (merge_noted (cold_at policy.now.threshold directory.old i)) }
+    ensures spare { log.old.spare ≤ log.new.spare + result }
+{
+    let count = directory.len();
+    if i + 1 == count {
+        return 0;
+    }
+    let lower = directory.entry(i);
+    let upper = directory.entry(i + 1);
+    if !is_cold(policy, &lower) || !is_cold(policy, &upper) {
+        return 0;
+    }
+    let Some(range) = directory.merge(i) else {
+        return 0;
+    };
+    log.add(Note::Merge { range }).unwrap();
+    1
+}
+
+/// Merges, in order, each two cold neighbours that may become one; no entry is in two of these. There
+/// is room for a note of each.
+pub fn merge_all<F: Judge>(directory: &mut Directory, policy: &Policy<F>, log: &mut Log) -> u32
+    requires { length directory.old.entries ≤ log.old.spare }
+    ensures changed { directory.new ≡ record directory.old {
+      entries = left_after (turns_of_merges policy.now.threshold directory.old);
+    } }
+    ensures notes { log.new.notes
+        ≡ log.old.notes ++ merge_notes (turns_of_merges policy.now.threshold directory.old) }
+    ensures count { result ≡ length (merge_notes (turns_of_merges policy.now.threshold directory.old)) }
+    ensures spare { length directory.new.entries ≤ log.new.spare }
+{
+    let mut merges = 0;
+    let mut i = 0;
+    while i < directory.len() {
+        merges += merge_cold(directory, policy, log, i);
+        i += 1;
+    }
+    merges
+}

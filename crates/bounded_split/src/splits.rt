@@ -1,0 +1,62 @@
+ghost use Rattle.std.specs.Prelude.{◌≡◌, ◌+◌, ◌≤◌, ◌<◌, ◌++◌, length};
+ghost use Rattle.region_directory.specs.Split.{with_split};
+ghost use Rattle.bounded_split.specs.Epoch.{judged, hot_at, left_after, split_notes};
+ghost use Rattle.bounded_split.specs.Hot.{hot_block, hot_turns_in, split_noted};
+ghost use Rattle.bounded_split.specs.Verdict.{is_split};
+
+use crate::merges::judge;
+use crate::{Judge, Policy, Verdict};
+use mind_base::{Log, Note};
+use region_directory::{Directory, Entry};
+
+fn is_hot<F: Judge>(policy: &Policy<F>, entry: &Entry) -> bool
+    ensures { result ≡ is_split (judged policy.now.threshold entry.now) }
+{
+    match judge(policy, entry) {
+        Verdict::Split => true,
+        Verdict::Keep | Verdict::Cold => false,
+    }
+}
+
+/// Splits the entry with this index, where the verdict says so and a slot is free, and notes its block;
+/// gives how many splits there were, 0 or 1.
+fn split_hot<F: Judge>(directory: &mut Directory, policy: &Policy<F>, log: &mut Log, i: u32) -> u32
+    requires within { i < length directory.old.entries }
+    requires room { 0 < log.old.spare }
+    ensures changed { directory.new ≡ record directory.old {
+      entries = with_split i (hot_at policy.now.threshold directory.old i) directory.old.entries;
+    } }
+    ensures noted { log.new.notes
+        ≡ log.old.notes ++ split_noted (hot_block policy.now.threshold directory.old i) }
+    ensures count { result ≡ length (split_noted (hot_block policy.now.threshold directory.old i)) }
+    ensures spare { log.old.spare ≤ log.new.spare + result }
+{
+    let entry = directory.entry(i);
+    if !is_hot(policy, &entry) || !directory.split(i) {
+        return 0;
+    }
+    log.add(Note::Split { range: entry.range }).unwrap();
+    1
+}
+
+/// Splits, in order, each entry that the verdict says to split, while a slot is free; no half is split
+/// again. There is room for a note of each.
+pub fn split_all<F: Judge>(directory: &mut Directory, policy: &Policy<F>, log: &mut Log) -> u32
+    requires { length directory.old.entries ≤ log.old.spare }
+    ensures changed { directory.new ≡ record directory.old {
+      entries = left_after (hot_turns_in policy.now.threshold directory.old);
+    } }
+    ensures notes { log.new.notes
+        ≡ log.old.notes ++ split_notes (hot_turns_in policy.now.threshold directory.old) }
+    ensures count { result
+        ≡ length (split_notes (hot_turns_in policy.now.threshold directory.old)) }
+{
+    let mut splits = 0;
+    let mut i = 0;
+    while i < directory.len() {
+        let halved = split_hot(directory, policy, log, i);
+        splits += halved;
+        i += 1 + halved;
+    }
+    splits
+}
