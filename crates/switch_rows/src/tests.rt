@@ -1,11 +1,13 @@
-//! One request to a new switch of two compute blades. Pages 1 and 2 of domain 0 are mapped, the first to be
-//! written, the second to be read; an entry has two pages.
+//! One message to a new switch of two compute blades: a request, or a page that comes back. Pages 1 and 2 of
+//! domain 0 are mapped, the first to be written, the second to be read; an entry has two pages.
 
 ghost use Rattle.std.specs.Prelude.{◌<◌, length};
 ghost use Rattle.mind_base.specs.Fit.{IsFit};
 
 use mind_base::{LinkKind, LinkName, Log, Note, Page, RackPlan, Range, State, Stop};
+use page_image::PageImage;
 use rack_file::rack_of;
+use range_translate::Table;
 use std::alloc::Global;
 use std::test::Fail;
 use switch_core::SwitchCore;
@@ -162,6 +164,94 @@ fn a_new_switch_reads_a_page_or_denies_it(rt: HostRuntime) -> Result<(), Fail> {
             return Err(Fail::from("no such blade"));
         }
         assert!(rt; holds(rt.alloc(), &plan, row)?);
+    }
+    Ok(())
+}
+
+/// A page of domain 0 that a blade gives back, and where its image goes: the memory blade, and the physical
+/// number there.
+#[derive(Clone, Copy)]
+struct Back {
+    blade: u8,
+    page: u32,
+    memory: u8,
+    phys: u32,
+}
+
+static BACKS: [Back; 4] = [
+    Back {
+        blade: 0,
+        page: 1,
+        memory: 1,
+        phys: 1,
+    },
+    Back {
+        blade: 1,
+        page: 15,
+        memory: 1,
+        phys: 15,
+    },
+    // the homes of memory blade 0 begin with page 16, as its page 0
+    Back {
+        blade: 1,
+        page: 16,
+        memory: 0,
+        phys: 0,
+    },
+    Back {
+        blade: 0,
+        page: 19,
+        memory: 0,
+        phys: 3,
+    },
+];
+
+/// Whether the message writes the page where the row says.
+fn is_written(row: &Back, link: LinkName, msg: &Msg) -> bool {
+    match msg {
+        Msg::Write { phys, .. } => {
+            link.kind == LinkKind::To && link.number == row.memory && *phys == row.phys
+        }
+        _ => false,
+    }
+}
+
+/// Whether a new switch writes the page that comes back, and does nothing else.
+fn goes_back(alloc: Global, plan: &RackPlan, row: &Back) -> Result<bool, Stop>
+    requires fit { IsFit plan.now }
+    requires blade { row.now.blade < length plan.now.frames }
+{
+    let page = page_of(row.page);
+    let table = Table::new(alloc, plan.memories.as_slice(), 0)?;
+    if table.home(page).is_none() {
+        return Ok(false);
+    }
+    let mut switch = SwitchCore::new(alloc, plan)?;
+    let mut out = Vec::new(alloc);
+    let mut log = Log::new(alloc);
+    let link = LinkName {
+        kind: LinkKind::Up,
+        number: row.blade,
+    };
+    let image = PageImage::zero(alloc)?;
+    switch.receive(link, Msg::Back { page, image }, &mut out, &mut log)?;
+    let written = match out.as_slice() {
+        [(link, msg)] => is_written(row, *link, msg),
+        _ => false,
+    };
+    Ok(written && log.len() == 0 && switch.quiet())
+}
+
+#[test]
+fn a_page_that_comes_back_is_written_where_it_lies(rt: HostRuntime) -> Result<(), Fail> {
+    let Ok(plan) = rack_of(rt.alloc(), RACK.as_bytes()) else {
+        return Err(Fail::from("no plan"));
+    };
+    for row in &BACKS {
+        if usize::from(row.blade) >= plan.frames.len() {
+            return Err(Fail::from("no such blade"));
+        }
+        assert!(rt; goes_back(rt.alloc(), &plan, row)?);
     }
     Ok(())
 }
