@@ -120,13 +120,7 @@ fn has_home(homes: &[MemoryPlan], page: Page) -> bool
 fn is_in(spans: &[Span], page: Page) -> bool
     ensures { result ≡ list_any (λ span. in_span span page) spans.now }
 {
-    spans.iter().any(|span| has(span, page))
-}
-
-fn has(span: &Span, page: Page) -> bool
-    ensures { result ≡ in_span span.now page }
-{
-    page.domain == span.domain && span.base <= page.number && page.number < span.base + span.pages
+    spans.iter().any(|span| span.has(page))
 }
 
 #[cfg(test)]
