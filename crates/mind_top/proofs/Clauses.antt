@@ -7,8 +7,9 @@ use Rattle.mind_inputs.specs.Words.{Paths}
 use Rattle.mind_inputs.specs.Inputs.{Ending, Missing, Refused, Ends, Accepts, Accepted, Judges}
 use Rattle.mind_inputs.specs.Journals.{Checkable, JudgesCheck}
 use Rattle.mind_inputs.proofs.Chains.{judges-judge}
-use Rattle.mind_top.specs.Words.{Form, Run, Check, IsForm, IsCheck}
-use Rattle.mind_top.specs.Due.{RunWrites, IsWhole, DoneBy, EndsBy, status_of_ending, status_of, status_of_replay, CallFor}
+use Rattle.mind_inputs.proofs.Checkables.{only}
+use Rattle.mind_top.specs.Words.{Form, Run, Check, IsForm, IsCheck, IsNoForm}
+use Rattle.mind_top.specs.Due.{RunWrites, IsWhole, DoneBy, EndsBy, Due, status_of_ending, status_of, status_of_replay, CallFor, IsSaid, IsAnswered}
 use Rattle.mind_top.specs.Ending.{Counts, EndsWith}
 use Rattle.mind_top.specs.declared.words.Output.{Output}
 use Rattle.mind_top.specs.declared.statuses.Status.{Status}
@@ -39,38 +40,64 @@ check-done holds words log before now old new result ends paths journal is done 
     let (text, (inputs, judges, whole, empty), appends) = done-by holds words log before now old new result (Check paths journal) ends is done in
     (inputs, judges, text, whole, appends)
 
+-- ---- words of no form
+
+pub usage-answered : (holds : Option Files) (words : List (List ℕ)) (log : List Note) (before now : Counts) (old new : Option (List ℕ)) (result : Status)
+    → EndsWith holds words log before now old new result → IsNoForm words → IsAnswered before.failed now.failed status.Usage result
+usage-answered holds words log before now old new status.Done (text, (found, also, by), appends) none = absurd (no-form words found none also)
+usage-answered holds words log before now old new status.Usage ends none = inl refl
+usage-answered holds words log before now old new status.Malformed (text, (found, also, refusal, by, empty, line), appends) none = absurd (no-form words found none also)
+usage-answered holds words log before now old new status.NotARun (text, (paths, journal, also, inputs, judges, label, stuck, empty, line), appends) none = absurd (no-form words (Check paths journal) none also)
+usage-answered holds words log before now old new status.ReadFault (found, also, rises, told, empty, kept) none = absurd (no-form words found none also)
+usage-answered holds words log before now old new status.WriteFault (failure, s, text, due, front) none = inr (refl, tt, failure)
+usage-answered holds words log before now old new status.NoMemory ((found, also), stands, kept) none = absurd (no-form words found none also)
+
 -- ---- where the store tells what it holds, the files decide the status
 
 done-called : (files : Files) (form : Form) (log : List Note) (text : List ℕ) → DoneBy (Some files) form log text → CallFor files form status.Done
 done-called files (Run output paths) log text (accepted, judges, writes) = ap status_of (judges-judge files paths (Accepts accepted) judges)
-done-called files (Check paths journal) log text (inputs, judges, (state, whole, report), empty) = (Ok inputs, judges, ap status_of_replay (sym whole))
+done-called files (Check paths journal) log text (inputs, judges, (state, whole, report), empty) = (Ok inputs, only files paths journal (Ok inputs) judges, ap status_of_replay (sym whole))
 
 ends-called : (files : Files) (form : Form) (ending : Ending) → EndsBy (Some files) form ending → CallFor files form (status_of_ending ending)
 ends-called files (Run output paths) ending judges = ap status_of (judges-judge files paths (Ends ending) judges)
-ends-called files (Check paths journal) ending judges = (Err ending, judges, refl)
+ends-called files (Check paths journal) ending judges = (Err ending, only files paths journal (Err ending) judges, refl)
 
 called-as : (files : Files) (words : List (List ℕ)) (found form : Form) (s : Status) → IsForm words found → IsForm words form → CallFor files found s → CallFor files form s
 called-as files words found form s also is called = let Q : Form → Type 0 = λ f. CallFor files f s in subst Q (same-form words found form also is) called
 
+-- what is due is what the files call for
+due-called : (files : Files) (words : List (List ℕ)) (log : List Note) (text : List ℕ) (due : Status) (form : Form) → Due (Some files) words log due text → IsForm words form
+    → CallFor files form due × IsSaid due
+due-called files words log text status.Done form (found, also, by) is = (called-as files words found form status.Done also is (done-called files found log text by), tt)
+due-called files words log text status.Usage form (none, empty, line) is = absurd (no-form words form none is)
+due-called files words log text status.Malformed form (found, also, refusal, by, empty, line) is =
+    (called-as files words found form status.Malformed also is (ends-called files found (Refused refusal) by), tt)
+due-called files words log text status.NotARun form (paths, journal, also, inputs, judges, label, (state, at_label), empty, line) is =
+    (called-as files words (Check paths journal) form status.NotARun also is (Ok inputs, only files paths journal (Ok inputs) judges, ap status_of_replay (sym at_label)), tt)
+due-called files words log text status.ReadFault form due is = absurd due
+due-called files words log text status.WriteFault form due is = absurd due
+due-called files words log text status.NoMemory form due is = absurd due
+
+-- the status that the files call for is answered, or memory ran out
+abbrev Decided : Files → Form → Counts → Counts → Status → Type 0
+Decided files form before now result = (result ≡ status.NoMemory) ⊎ ((due : Status) × CallFor files form due × IsAnswered before.failed now.failed due result)
+
 told : (files : Files) (words : List (List ℕ)) (log : List Note) (before now : Counts) (old new : Option (List ℕ)) (result : Status)
-    → EndsWith (Some files) words log before now old new result → (form : Form) → IsForm words form
-    → ¬ (Rises before.faults now.faults) → ¬ (Rises before.failed now.failed) → (result ≡ status.NoMemory) ⊎ CallFor files form result
-told files words log before now old new status.Done (text, (found, also, by), appends) form is no_fault no_failure =
-    inr (called-as files words found form status.Done also is (done-called files found log text by))
-told files words log before now old new status.Usage (text, (none, empty, line), appends) form is no_fault no_failure = absurd (no-form words form none is)
-told files words log before now old new status.Malformed (text, (found, also, refusal, by, empty, line), appends) form is no_fault no_failure =
-    inr (called-as files words found form status.Malformed also is (ends-called files found (Refused refusal) by))
-told files words log before now old new status.NotARun (text, (paths, journal, also, inputs, judges, label, (state, at_label), empty, line), appends) form is no_fault no_failure =
-    inr (called-as files words (Check paths journal) form status.NotARun also is (Ok inputs, judges, ap status_of_replay (sym at_label)))
-told files words log before now old new status.ReadFault (found, also, rises, inl fault, empty, kept) form is no_fault no_failure = absurd (no_fault fault)
-told files words log before now old new status.ReadFault (found, also, rises, inr by, empty, kept) form is no_fault no_failure =
-    inr (called-as files words found form status.ReadFault also is (ends-called files found Missing by))
-told files words log before now old new status.WriteFault (failure, due, text, is_due, front) form is no_fault no_failure = absurd (no_failure failure)
-told files words log before now old new status.NoMemory ends form is no_fault no_failure = inl refl
+    → EndsWith (Some files) words log before now old new result → (form : Form) → IsForm words form → ¬ (Rises before.faults now.faults) → Decided files form before now result
+told files words log before now old new status.Done (text, due, appends) form is no_fault = inr (status.Done, (due-called files words log text status.Done form due is).0, inl refl)
+told files words log before now old new status.Usage (text, due, appends) form is no_fault = inr (status.Usage, (due-called files words log text status.Usage form due is).0, inl refl)
+told files words log before now old new status.Malformed (text, due, appends) form is no_fault =
+    inr (status.Malformed, (due-called files words log text status.Malformed form due is).0, inl refl)
+told files words log before now old new status.NotARun (text, due, appends) form is no_fault = inr (status.NotARun, (due-called files words log text status.NotARun form due is).0, inl refl)
+told files words log before now old new status.ReadFault (found, also, rises, inl fault, empty, kept) form is no_fault = absurd (no_fault fault)
+told files words log before now old new status.ReadFault (found, also, rises, inr by, empty, kept) form is no_fault =
+    inr (status.ReadFault, called-as files words found form status.ReadFault also is (ends-called files found Missing by), inl refl)
+told files words log before now old new status.WriteFault (failure, s, text, due, front) form is no_fault =
+    let called = due-called files words log text s form due is in inr (s, called.0, inr (refl, called.1, failure))
+told files words log before now old new status.NoMemory ends form is no_fault = inl refl
 
 pub told-where-held : (holds : Option Files) (words : List (List ℕ)) (log : List Note) (before now : Counts) (old new : Option (List ℕ)) (result : Status)
     → EndsWith holds words log before now old new result
-    → IfSome holds (λ files. (form : Form) → IsForm words form → ¬ (Rises before.faults now.faults) → ¬ (Rises before.failed now.failed)
-    → (result ≡ status.NoMemory) ⊎ CallFor files form result)
+    → IfSome holds (λ files. (form : Form) → IsForm words form → ¬ (Rises before.faults now.faults) → Decided files form before now result)
 told-where-held (Some files) words log before now old new result ends = told files words log before now old new result ends
 told-where-held None words log before now old new result ends = tt

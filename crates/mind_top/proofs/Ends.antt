@@ -40,11 +40,11 @@ said holds words log before now old new text due result is_due (inr (fault, rise
     subst P (sym fault) (rises, due, text, is_due, front)
 
 -- the same of a line, for which there may be no memory
-said-line : (holds : Option Files) (words : List (List ℕ)) (log : List Note) (before now : Counts) (old new : Option (List ℕ)) (text : List ℕ) (due result : Status)
-    → log ≡ [] → Due holds words log due text → SaysLine old new before.failed now.failed text due result → EndsWith holds words log before now old new result
-said-line holds words log before now old new text due result empty is_due (inl (none, kept)) =
-    let P : Status → Type 0 = λ s. EndsWith holds words log before now old new s in subst P (sym none) (inl empty, kept)
-said-line holds words log before now old new text due result empty is_due (inr says) = said holds words log before now old new text due result is_due says
+said-line : (holds : Option Files) (words : List (List ℕ)) (form : Form) (log : List Note) (before now : Counts) (old new : Option (List ℕ)) (text : List ℕ) (due result : Status)
+    → log ≡ [] → IsForm words form → Due holds words log due text → SaysLine old new before.failed now.failed text due result → EndsWith holds words log before now old new result
+said-line holds words form log before now old new text due result empty is is_due (inl (none, kept)) =
+    let P : Status → Type 0 = λ s. EndsWith holds words log before now old new s in subst P (sym none) ((form, is), inl empty, kept)
+said-line holds words form log before now old new text due result empty is is_due (inr says) = said holds words log before now old new text due result is_due says
 
 -- ---- an input was not brought
 
@@ -52,11 +52,11 @@ pub stopped-call : (holds : Option Files) (words : List (List ℕ)) (form : Form
     → log ≡ [] → IsForm words form → StopsBy holds (λ ending. EndsBy holds form ending) before.faults now.faults before.missed now.missed why
     → Stops old new before.failed now.failed why result → EndsWith holds words log before now old new result
 stopped-call holds words form log before now old new (stopped.Refused refusal) result empty is stops says =
-    said-line holds words log before now old new (line_of refusal) status.Malformed result empty (form, is, refusal, stops, empty, refl) says
+    said-line holds words form log before now old new (line_of refusal) status.Malformed result empty is (form, is, refusal, stops, empty, refl) says
 stopped-call holds words form log before now old new stopped.ReadFault result empty is (rises, told) (same, kept) =
     let P : Status → Type 0 = λ s. EndsWith holds words log before now old new s in subst P (sym same) (form, is, rises, told, empty, kept)
 stopped-call holds words form log before now old new stopped.NoMemory result empty is stops (same, kept) =
-    let P : Status → Type 0 = λ s. EndsWith holds words log before now old new s in subst P (sym same) (inl empty, kept)
+    let P : Status → Type 0 = λ s. EndsWith holds words log before now old new s in subst P (sym same) ((form, is), inl empty, kept)
 
 miss-told : (holds : Option Files) (judges : Judged → Type 0) (f f' : ℕ) → FaultTold holds judges f f' → MissTold holds (judges (Ends Missing)) f f'
 miss-told None judges f f' told = tt
@@ -82,7 +82,7 @@ pub run-ended : (holds : Option Files) (words : List (List ℕ)) (output : Outpu
     → EndsWith holds words log before now old new result
 run-ended holds words output paths accepted log before now old new result is judges (inl (none, kept, stands)) =
     let P : Status → Type 0 = λ s. EndsWith holds words log before now old new s in
-    subst P (sym none) (inr (output, paths, is, accepted, judges, stands), kept)
+    subst P (sym none) ((Run output paths, is), inr (output, paths, is, accepted, judges, stands), kept)
 run-ended holds words output paths accepted log before now old new result is judges (inr (text, writes, says)) =
     said holds words log before now old new text status.Done result (Run output paths, is, (accepted, judges, writes)) says
 
@@ -92,11 +92,11 @@ pub check-ended : (holds : Option Files) (words : List (List ℕ)) (paths : Path
     → IsForm words (Check paths journal) → JudgesCheck holds paths journal (Ok inputs) → CheckEnds inputs old new before.failed now.failed result
     → EndsWith holds words [] before now old new result
 check-ended holds words paths journal inputs before now old new result is judges (inl (none, kept)) =
-    let P : Status → Type 0 = λ s. EndsWith holds words [] before now old new s in subst P (sym none) (inl refl, kept)
+    let P : Status → Type 0 = λ s. EndsWith holds words [] before now old new s in subst P (sym none) ((Check paths journal, is), inl refl, kept)
 check-ended holds words paths journal inputs before now old new result is judges (inr (inl (text, whole, says))) =
     said holds words [] before now old new text status.Done result (Check paths journal, is, (inputs, judges, whole, refl)) says
 check-ended holds words paths journal inputs before now old new result is judges (inr (inr (label, stuck, says))) =
-    said-line holds words [] before now old new (not_a_run_line label) status.NotARun result refl (paths, journal, is, inputs, judges, label, stuck, refl, refl) says
+    said-line holds words (Check paths journal) [] before now old new (not_a_run_line label) status.NotARun result refl is (paths, journal, is, inputs, judges, label, stuck, refl, refl) says
 
 -- a log that stayed empty
 pub with-log : (holds : Option Files) (words : List (List ℕ)) (log : List Note) (before now : Counts) (old new : Option (List ℕ)) (result : Status)

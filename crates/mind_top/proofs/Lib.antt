@@ -1,3 +1,4 @@
 pub mod Clauses
+pub mod Decided
 pub mod Ends
 pub mod Forms

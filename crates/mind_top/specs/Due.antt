@@ -1,15 +1,16 @@
 -- What is due: by the form of the words and the files that they name.
 use Rattle.std.specs.Prelude.{◌≡◌, ◌⊎◌, ℕ, false, codes, List, [], ◌∷◌, ◌++◌, Option, Some, Result, Ok, Err}
 use Rattle.std.specs.Fmt.{digits}
-use Rattle.mind_base.specs.Store.{Files}
+use Rattle.mind_base.specs.Store.{Files, Rises}
 use Rattle.mind_base.specs.declared.notes.Note.{Note}
 use Rattle.mind_inputs.specs.Words.{Paths}
 use Rattle.mind_inputs.specs.Refusal.{line_of}
 use Rattle.mind_inputs.specs.Inputs.{Ending, Missing, Refused, Judged, Ends, Accepts, Accepted, Judges, judge}
-use Rattle.mind_inputs.specs.Journals.{Checkable, JudgesCheck}
+use Rattle.mind_inputs.specs.Journals.{Checkable, JudgesCheck, IsOnlyJudgement}
 use Rattle.mind_inputs.specs.declared.refusals.Refusal.{Refusal}
 use Rattle.tso_machine.specs.State.{Setup, start_state}
 use Rattle.tso_machine.specs.Replay.{labels, Replayed, Whole, Stuck, replay}
+use Rattle.report_text.specs.Report.{report_text}
 use Rattle.mind_steps.specs.Run.{setup_of, Headline, JournalHeadline, IsReportOf, IsStuckAt, Stands}
 use Rattle.mind_top.specs.Words.{Form, Run, Check, IsForm, IsCheck, IsNoForm, usage_line}
 use Rattle.mind_top.specs.declared.words.Output.{Output}
@@ -87,7 +88,34 @@ abbrev pub status_of_check : Result Checkable Ending → Status
 status_of_check (Err ending) = status_of_ending ending
 status_of_check (Ok inputs) = status_of_replay (replay (setup_by inputs.accepted) (start_state (setup_by inputs.accepted)) (labels inputs.notes))
 
--- the files of a form call for this status
+-- The files of a form call for this status. A check has one judgement of its files, and the status is that of it.
 abbrev pub CallFor : Files → Form → Status → Type 0
-CallFor files (Run output paths) result = result ≡ status_of (judge files paths)
-CallFor files (Check paths journal) result = (answer : Result Checkable Ending) × JudgesCheck (Some files) paths journal answer × (result ≡ status_of_check answer)
+CallFor files (Run output paths) due = due ≡ status_of (judge files paths)
+CallFor files (Check paths journal) due = (answer : Result Checkable Ending) × IsOnlyJudgement files paths journal answer × (due ≡ status_of_check answer)
+
+-- something is written with this status
+abbrev pub IsSaid : Status → Type 0
+IsSaid status.Done = Unit {0}
+IsSaid status.Usage = Unit {0}
+IsSaid status.Malformed = Unit {0}
+IsSaid status.NotARun = Unit {0}
+IsSaid status.ReadFault = ⊥
+IsSaid status.WriteFault = ⊥
+IsSaid status.NoMemory = ⊥
+
+-- the status that is due is answered, or the write of what it says failed
+abbrev pub IsAnswered : ℕ → ℕ → Status → Status → Type 0
+IsAnswered failed failed' due result = (result ≡ due) ⊎ ((result ≡ status.WriteFault) × IsSaid due × Rises failed failed')
+
+-- ---- what a check says
+
+-- what its replay says
+abbrev pub said_of_replay : Checkable → Replayed → Status × List ℕ
+said_of_replay inputs (Whole state) = (status.Done, report_text (setup_by inputs.accepted).commands state.threads state.taken inputs.notes)
+said_of_replay inputs (Stuck label state) = (status.NotARun, not_a_run_line label)
+
+-- the status of a check and the text that is written, by the judgement of its files
+abbrev pub said_of_check : Result Checkable Ending → Status × List ℕ
+said_of_check (Err Missing) = (status.ReadFault, [])
+said_of_check (Err (Refused refusal)) = (status.Malformed, line_of refusal)
+said_of_check (Ok inputs) = said_of_replay inputs (replay (setup_by inputs.accepted) (start_state (setup_by inputs.accepted)) (labels inputs.notes))

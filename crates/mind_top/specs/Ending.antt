@@ -17,7 +17,7 @@ pub record Counts : Type 0 where
   pub failed : ℕ
 
 -- A call ends with its status: what is due was written; or the write failed, and a front of it stands
--- there; or a read failed, or memory ran out, and nothing was written.
+-- there; or a read failed, or memory ran out, and nothing was written. The last two come only with words of a form.
 abbrev pub EndsWith : Option Files → List (List ℕ) → List Note → Counts → Counts → Option (List ℕ) → Option (List ℕ) → Status → Type 0
 EndsWith holds words log before now old new status.Done = (text : List ℕ) × Due holds words log status.Done text × Appends old new text
 EndsWith holds words log before now old new status.Usage = (text : List ℕ) × Due holds words log status.Usage text × Appends old new text
@@ -28,4 +28,4 @@ EndsWith holds words log before now old new status.ReadFault = (form : Form) × 
     × (log ≡ []) × (new ≡ old)
 EndsWith holds words log before now old new status.WriteFault = Rises before.failed now.failed
     × (s : Status) × (text : List ℕ) × Due holds words log s text × AppendsFront old new text
-EndsWith holds words log before now old new status.NoMemory = LogStands holds words log × (new ≡ old)
+EndsWith holds words log before now old new status.NoMemory = ((form : Form) × IsForm words form) × LogStands holds words log × (new ≡ old)

@@ -1,4 +1,4 @@
-ghost use Rattle.std.specs.Prelude.{◌≡◌, ℕ, List, []};
+ghost use Rattle.std.specs.Prelude.{◌≡◌, ◌≤◌, ℕ, List, []};
 ghost use Rattle.mind_base.specs.Fit.{IsFit, FitImages};
 ghost use Rattle.mind_base.specs.declared.notes.Note.{Note};
 ghost use Rattle.mind_inputs.specs.Words.{Paths};
@@ -18,7 +18,8 @@ use std::alloc::Global;
 fn finish_check<K: Sink>(alloc: Global, loaded: &Loaded, journal: &Log, sink: &mut K) -> Status
     requires fit { IsFit loaded.now.plan }
     requires images { FitImages loaded.now.plan.images loaded.now.images }
-    ensures { CheckEnds (record { accepted = loaded.now; notes = journal.now.notes }) (K.written sink.old) (K.written sink.new) (K.faults sink.old) (K.faults sink.new) result }
+    ensures ends { CheckEnds (record { accepted = loaded.now; notes = journal.now.notes }) (K.written sink.old) (K.written sink.new) (K.faults sink.old) (K.faults sink.new) result }
+    ensures failed { K.faults sink.old ≤ K.faults sink.new }
 {
     match check(alloc, &loaded.plan, loaded.images.as_slice(), journal) {
         Ok(Checked::Report { text }) => say(sink, text.as_slice(), Status::Done),
@@ -36,7 +37,11 @@ pub fn answer_check<S: Store, K: Sink>(
     store: &mut S,
     sink: &mut K,
 ) -> Status
-    ensures { Answers (S.holds store.old) (Check (record { rack = rack.now; schedule = schedule.now }) journal.now) []
+    ensures keeps { S.holds store.new ≡ S.holds store.old }
+    ensures faults { S.faults store.old ≤ S.faults store.new }
+    ensures missed { S.missed store.old ≤ S.missed store.new }
+    ensures failed { K.faults sink.old ≤ K.faults sink.new }
+    ensures answers { Answers (S.holds store.old) (Check (record { rack = rack.now; schedule = schedule.now }) journal.now) []
         (record { faults = S.faults store.old; missed = S.missed store.old; failed = K.faults sink.old })
         (record { faults = S.faults store.new; missed = S.missed store.new; failed = K.faults sink.new })
         (K.written sink.old) (K.written sink.new) result }

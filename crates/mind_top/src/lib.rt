@@ -2,14 +2,13 @@
 #![tactic(auto)]
 
 mod checks;
+mod laws;
 mod runs;
 mod statuses;
 mod texts;
 mod top;
 mod words;
 
+pub use laws::the_files_decide;
 pub use statuses::Status;
 pub use top::mind;
-
-#[cfg(test)]
-mod tests;

@@ -49,7 +49,8 @@ fn finish<K: Sink>(
     requires images { FitImages loaded.now.plan.images loaded.now.images }
     requires few { length loaded.now.events ≤ 1000000 }
     requires empty { log.old.notes ≡ [] }
-    ensures { RunEnds output loaded.now log.new.notes (K.written sink.old) (K.written sink.new) (K.faults sink.old) (K.faults sink.new) result }
+    ensures ends { RunEnds output loaded.now log.new.notes (K.written sink.old) (K.written sink.new) (K.faults sink.old) (K.faults sink.new) result }
+    ensures failed { K.faults sink.old ≤ K.faults sink.new }
 {
     match output_of_run(alloc, output, loaded, log) {
         Ok(text) => say(sink, text.as_slice(), Status::Done),
@@ -68,7 +69,11 @@ pub fn answer_run<S: Store, K: Sink>(
     log: &mut Log,
 ) -> Status
     requires { log.old.notes ≡ [] }
-    ensures { Answers (S.holds store.old) (Run output (record { rack = rack.now; schedule = schedule.now })) log.new.notes
+    ensures keeps { S.holds store.new ≡ S.holds store.old }
+    ensures faults { S.faults store.old ≤ S.faults store.new }
+    ensures missed { S.missed store.old ≤ S.missed store.new }
+    ensures failed { K.faults sink.old ≤ K.faults sink.new }
+    ensures answers { Answers (S.holds store.old) (Run output (record { rack = rack.now; schedule = schedule.now })) log.new.notes
         (record { faults = S.faults store.old; missed = S.missed store.old; failed = K.faults sink.old })
         (record { faults = S.faults store.new; missed = S.missed store.new; failed = K.faults sink.new })
         (K.written sink.old) (K.written sink.new) result }

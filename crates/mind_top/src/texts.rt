@@ -1,4 +1,4 @@
-ghost use Rattle.std.specs.Prelude.{◌≡◌, IfOk};
+ghost use Rattle.std.specs.Prelude.{◌≡◌, ◌≤◌, IfOk};
 ghost use Rattle.mind_inputs.specs.Refusal.{line_of};
 ghost use Rattle.mind_top.specs.Due.{not_a_run_line};
 ghost use Rattle.mind_top.specs.Parts.{Says, SaysLine, Stops};
@@ -10,7 +10,8 @@ use std::alloc::Global;
 
 /// Writes a text, and answers the status that is due, or that the write failed.
 pub fn say<K: Sink>(sink: &mut K, text: &[u8], due: Status) -> Status
-    ensures { Says (K.written sink.old) (K.written sink.new) (K.faults sink.old) (K.faults sink.new) text.now due result }
+    ensures says { Says (K.written sink.old) (K.written sink.new) (K.faults sink.old) (K.faults sink.new) text.now due result }
+    ensures failed { K.faults sink.old ≤ K.faults sink.new }
 {
     match sink.write_all(text) {
         Ok(()) => due,
@@ -20,7 +21,8 @@ pub fn say<K: Sink>(sink: &mut K, text: &[u8], due: Status) -> Status
 
 /// Writes why an input is refused.
 fn refuse<K: Sink>(alloc: Global, refusal: &Refusal, sink: &mut K) -> Status
-    ensures { SaysLine (K.written sink.old) (K.written sink.new) (K.faults sink.old) (K.faults sink.new) (line_of refusal.now) Status.Malformed result }
+    ensures says { SaysLine (K.written sink.old) (K.written sink.new) (K.faults sink.old) (K.faults sink.new) (line_of refusal.now) Status.Malformed result }
+    ensures failed { K.faults sink.old ≤ K.faults sink.new }
 {
     match refusal.line(alloc) {
         Ok(line) => say(sink, line.as_slice(), Status::Malformed),
@@ -30,7 +32,8 @@ fn refuse<K: Sink>(alloc: Global, refusal: &Refusal, sink: &mut K) -> Status
 
 /// Ends a call whose inputs were not brought.
 pub fn stop<K: Sink>(alloc: Global, stopped: &Stopped, sink: &mut K) -> Status
-    ensures { Stops (K.written sink.old) (K.written sink.new) (K.faults sink.old) (K.faults sink.new) stopped.now result }
+    ensures stops { Stops (K.written sink.old) (K.written sink.new) (K.faults sink.old) (K.faults sink.new) stopped.now result }
+    ensures failed { K.faults sink.old ≤ K.faults sink.new }
 {
     match stopped {
         Stopped::Refused { refusal } => refuse(alloc, refusal, sink),
@@ -52,7 +55,8 @@ fn stuck_line(alloc: Global, label: usize) -> Result<Vec<u8>, NoMemory>
 
 /// Writes at which label, counted from 0, a journal is no run.
 pub fn say_stuck<K: Sink>(alloc: Global, label: usize, sink: &mut K) -> Status
-    ensures { SaysLine (K.written sink.old) (K.written sink.new) (K.faults sink.old) (K.faults sink.new) (not_a_run_line label) Status.NotARun result }
+    ensures says { SaysLine (K.written sink.old) (K.written sink.new) (K.faults sink.old) (K.faults sink.new) (not_a_run_line label) Status.NotARun result }
+    ensures failed { K.faults sink.old ≤ K.faults sink.new }
 {
     match stuck_line(alloc, label) {
         Ok(line) => say(sink, line.as_slice(), Status::NotARun),

@@ -5,8 +5,9 @@ ghost use Rattle.mind_inputs.specs.Words.{Paths};
 ghost use Rattle.mind_inputs.specs.Inputs.{Accepted, Judges, Accepts};
 ghost use Rattle.mind_inputs.specs.Journals.{Checkable, JudgesCheck};
 ghost use Rattle.mind_steps.specs.Run.{setup_of, Headline, JournalHeadline};
+ghost use Rattle.mind_top.specs.declared.statuses.Status.{Status as status};
 ghost use Rattle.mind_top.specs.Words.{Form, IsForm, IsRun, IsJournal, IsCheck, IsNoForm};
-ghost use Rattle.mind_top.specs.Due.{IsWhole, IsStuck, not_a_run_line, CallFor};
+ghost use Rattle.mind_top.specs.Due.{IsWhole, IsStuck, not_a_run_line, CallFor, IsAnswered};
 ghost use Rattle.mind_top.specs.Ending.{Counts, EndsWith};
 
 use crate::Status;
@@ -28,7 +29,11 @@ fn top<S: Store, K: Sink>(
     log: &mut Log,
 ) -> Status
     requires { log.old.notes ≡ [] }
-    ensures { EndsWith (S.holds store.old) (map string_bytes words.now) log.new.notes
+    ensures keeps { S.holds store.new ≡ S.holds store.old }
+    ensures faults { S.faults store.old ≤ S.faults store.new }
+    ensures missed { S.missed store.old ≤ S.missed store.new }
+    ensures failed { K.faults sink.old ≤ K.faults sink.new }
+    ensures ends { EndsWith (S.holds store.old) (map string_bytes words.now) log.new.notes
         (record { faults = S.faults store.old; missed = S.missed store.old; failed = K.faults sink.old })
         (record { faults = S.faults store.new; missed = S.missed store.new; failed = K.faults sink.new })
         (K.written sink.old) (K.written sink.new) result }
@@ -96,20 +101,26 @@ pub fn mind<S: Store, K: Sink>(
     // A check leaves no log.
     ensures check_log { (paths : Paths) (journal : List ℕ) → IsCheck (map string_bytes words.now) paths journal → log.new.notes ≡ [] }
 
-    // Words of no form, and no others, call for the usage line.
+    // Words of no form, and no others, call for the usage line, which takes no memory.
     ensures usage { result ≡ Status.Usage → IsNoForm (map string_bytes words.now) }
-    ensures usage_due { IsNoForm (map string_bytes words.now)
-        → (result ≡ Status.Usage) ⊎ ((result ≡ Status.WriteFault) ⊎ (result ≡ Status.NoMemory)) }
+    ensures usage_due { IsNoForm (map string_bytes words.now) → IsAnswered (K.faults sink.old) (K.faults sink.new) Status.Usage result }
 
     // A fault has its cause outside.
     ensures read_fault { result ≡ Status.ReadFault
         → Rises (S.faults store.old) (S.faults store.new) ⊎ Rises (S.missed store.old) (S.missed store.new) }
     ensures write_fault { result ≡ Status.WriteFault → Rises (K.faults sink.old) (K.faults sink.new) }
 
-    // Where the store tells what it holds and nothing outside fails, the files decide the status.
+    // Where the store tells what it holds and no device of it fails, the files decide the status. It gives
+    // way to want of memory, and to a failed write where the files call for one.
     ensures told { IfSome (S.holds store.old) (λ files. (form : Form) → IsForm (map string_bytes words.now) form
-        → ¬ (Rises (S.faults store.old) (S.faults store.new)) → ¬ (Rises (K.faults sink.old) (K.faults sink.new))
-        → (result ≡ Status.NoMemory) ⊎ CallFor files form result) }
+        → ¬ (Rises (S.faults store.old) (S.faults store.new))
+        → (result ≡ Status.NoMemory) ⊎ ((due : status) × CallFor files form due × IsAnswered (K.faults sink.old) (K.faults sink.new) due result)) }
+
+    // What the store holds stays as it was, and no count of what failed or was missing falls.
+    ensures keeps { S.holds store.new ≡ S.holds store.old }
+    ensures faults { S.faults store.old ≤ S.faults store.new }
+    ensures missed { S.missed store.old ≤ S.missed store.new }
+    ensures failed { K.faults sink.old ≤ K.faults sink.new }
 {
     top(alloc, words, store, sink, log)
 }

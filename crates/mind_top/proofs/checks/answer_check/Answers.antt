@@ -5,13 +5,13 @@ use Rattle.mind_top.specs.Words.{Check}
 use Rattle.mind_top.proofs.Ends.{stopped-call, check-ended}
 use Rattle.mind_top.proofs.checks.answer_check.Goals as goal
 
-pub returns-in-Ok : goal.returns-in-Ok
-returns-in-Ok g c words is =
+pub returns-in-Ok-clause-answers : goal.returns-in-Ok-clause-answers
+returns-in-Ok-clause-answers g c words is =
     let p : Paths = record { rack = c.args.rack.now; schedule = c.args.schedule.now } in
     let inputs : Checkable = record { accepted = c.in-Ok.loaded; notes = c.in-Ok.log.notes } in
-    check-ended (g.S.Store.holds c.args.store.now) words p c.args.journal.now inputs _ _ _ _ c.finish_check.result is c.in-Ok.ensures.brings c.finish_check.ensures
+    check-ended (g.S.Store.holds c.args.store.now) words p c.args.journal.now inputs _ _ _ _ c.finish_check.result is c.in-Ok.ensures.brings c.finish_check.ensures.ends
 
-pub returns-in-Err : goal.returns-in-Err
-returns-in-Err g c words is =
+pub returns-in-Err-clause-answers : goal.returns-in-Err-clause-answers
+returns-in-Err-clause-answers g c words is =
     let p : Paths = record { rack = c.args.rack.now; schedule = c.args.schedule.now } in
-    stopped-call (g.S.Store.holds c.args.store.now) words (Check p c.args.journal.now) [] _ _ _ _ c.in-Err.stopped c.stop.result refl is c.in-Err.ensures.brings c.stop.ensures
+    stopped-call (g.S.Store.holds c.args.store.now) words (Check p c.args.journal.now) [] _ _ _ _ c.in-Err.stopped c.stop.result refl is c.in-Err.ensures.brings c.stop.ensures.stops

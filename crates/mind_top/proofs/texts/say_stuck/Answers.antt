@@ -2,5 +2,5 @@ use Rattle.std.proofs.Common.{◌∙◌}
 use Rattle.mind_top.proofs.Ends.{line-said}
 use Rattle.mind_top.proofs.texts.say_stuck.Goals as goal
 
-pub returns-in-Ok : goal.returns-in-Ok
-returns-in-Ok g c = line-said _ _ _ _ c.as_slice.result.now _ _ _ (c.as_slice.ensures.value ∙ c.in-Ok.ensures) c.say.ensures
+pub returns-in-Ok-clause-says : goal.returns-in-Ok-clause-says
+returns-in-Ok-clause-says g c = line-said _ _ _ _ c.as_slice.result.now _ _ _ (c.as_slice.ensures.value ∙ c.in-Ok.ensures) c.say.ensures.says

@@ -1,15 +1,18 @@
 use Rattle.mind_top.specs.declared.words.Output.TheVariants.{Report, Journal}
-use Rattle.mind_top.proofs.Clauses.{run-done, check-done, told-where-held}
+use Rattle.mind_top.proofs.Clauses.{run-done, check-done, usage-answered, told-where-held}
 use Rattle.mind_top.proofs.top.mind.Goals as goal
 
 pub returns-clause-headline : goal.returns-clause-headline
-returns-clause-headline g c = run-done (g.S.Store.holds c.args.store.now) _ c.top.new.log.notes _ _ _ _ c.top.result Report c.top.ensures
+returns-clause-headline g c = run-done (g.S.Store.holds c.args.store.now) _ c.top.new.log.notes _ _ _ _ c.top.result Report c.top.ensures.ends
 
 pub returns-clause-journal : goal.returns-clause-journal
-returns-clause-journal g c = run-done (g.S.Store.holds c.args.store.now) _ c.top.new.log.notes _ _ _ _ c.top.result Journal c.top.ensures
+returns-clause-journal g c = run-done (g.S.Store.holds c.args.store.now) _ c.top.new.log.notes _ _ _ _ c.top.result Journal c.top.ensures.ends
 
 pub returns-clause-check : goal.returns-clause-check
-returns-clause-check g c = check-done (g.S.Store.holds c.args.store.now) _ c.top.new.log.notes _ _ _ _ c.top.result c.top.ensures
+returns-clause-check g c = check-done (g.S.Store.holds c.args.store.now) _ c.top.new.log.notes _ _ _ _ c.top.result c.top.ensures.ends
+
+pub returns-clause-usage_due : goal.returns-clause-usage_due
+returns-clause-usage_due g c = usage-answered (g.S.Store.holds c.args.store.now) _ c.top.new.log.notes _ _ _ _ c.top.result c.top.ensures.ends
 
 pub returns-clause-told : goal.returns-clause-told
-returns-clause-told g c = told-where-held (g.S.Store.holds c.args.store.now) _ c.top.new.log.notes _ _ _ _ c.top.result c.top.ensures
+returns-clause-told g c = told-where-held (g.S.Store.holds c.args.store.now) _ c.top.new.log.notes _ _ _ _ c.top.result c.top.ensures.ends

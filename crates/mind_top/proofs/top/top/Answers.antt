@@ -5,14 +5,14 @@ use Rattle.mind_top.proofs.Ends.{said, with-log}
 use Rattle.mind_top.proofs.Forms.{asked-as}
 use Rattle.mind_top.proofs.top.top.Goals as goal
 
-pub returns-in-None : goal.returns-in-None
-returns-in-None g c =
-    said (g.S.Store.holds c.args.store.now) _ c.args.log.now.notes _ _ _ _ usage_line status.Usage c.say.result (c.in-None.ensures, c.requires, refl) c.say.ensures
+pub returns-in-None-clause-ends : goal.returns-in-None-clause-ends
+returns-in-None-clause-ends g c =
+    said (g.S.Store.holds c.args.store.now) _ c.args.log.now.notes _ _ _ _ usage_line status.Usage c.say.result (c.in-None.ensures, c.requires, refl) c.say.ensures.says
 
-pub returns-in-Some-Run : goal.returns-in-Some-Run
-returns-in-Some-Run g c = c.answer_run.ensures _ (asked-as _ _ _ c.in-Some-Run.field-0-is c.in-Some-Run.ensures)
+pub returns-in-Some-Run-clause-ends : goal.returns-in-Some-Run-clause-ends
+returns-in-Some-Run-clause-ends g c = c.answer_run.ensures.answers _ (asked-as _ _ _ c.in-Some-Run.field-0-is c.in-Some-Run.ensures)
 
-pub returns-in-Some-Check : goal.returns-in-Some-Check
-returns-in-Some-Check g c =
+pub returns-in-Some-Check-clause-ends : goal.returns-in-Some-Check-clause-ends
+returns-in-Some-Check-clause-ends g c =
     with-log (g.S.Store.holds c.args.store.now) _ c.args.log.now.notes _ _ _ _ c.answer_check.result c.requires
-    (c.answer_check.ensures _ (asked-as _ _ _ c.in-Some-Check.field-0-is c.in-Some-Check.ensures))
+    (c.answer_check.ensures.answers _ (asked-as _ _ _ c.in-Some-Check.field-0-is c.in-Some-Check.ensures))

@@ -1,0 +1,10 @@
+//! The program over files in memory.
+
+mod calls;
+mod checks;
+mod faults;
+mod forms;
+mod journals;
+mod orders;
+mod recorders;
+mod runs;

@@ -1,0 +1,48 @@
+//! Words of no form.
+use crate::tests::calls::{EMPTY, expect, files_with};
+use mind_base::MemStore;
+use mind_top::Status;
+use std::test::Fail;
+
+/// Words of no form.
+struct NoForm {
+    words: &'static [&'static str],
+}
+
+static NO_FORMS: [NoForm; 9] = [
+    NoForm { words: &[] },
+    NoForm { words: &["run"] },
+    NoForm {
+        words: &["run", "r.toml"],
+    },
+    NoForm {
+        words: &["run", "r.toml", "s.txt", "j.txt"],
+    },
+    NoForm {
+        words: &["journal", "r.toml", "s.txt", "j.txt"],
+    },
+    NoForm {
+        words: &["check", "r.toml", "s.txt"],
+    },
+    NoForm {
+        words: &["check", "r.toml", "s.txt", "j.txt", "more"],
+    },
+    NoForm {
+        words: &["runs", "r.toml", "s.txt"],
+    },
+    NoForm {
+        words: &["", "r.toml", "s.txt", "j.txt"],
+    },
+];
+
+const USAGE: &str =
+    "usage: mind run RACK SCHEDULE | journal RACK SCHEDULE | check RACK SCHEDULE JOURNAL\n";
+
+#[test]
+fn words_of_no_form(rt: HostRuntime) -> Result<(), Fail> {
+    for row in &NO_FORMS {
+        let mut store = MemStore::new(files_with(&rt, "", EMPTY)?, Vec::new(rt.alloc()));
+        let _log = expect(&rt, row.words, &mut store, 128, Status::Usage, USAGE)?;
+    }
+    Ok(())
+}
