@@ -4,9 +4,9 @@ ghost use Rattle.region_directory.specs.Merge.{with_merge};
 ghost use Rattle.region_directory.specs.Split.{with_split};
 ghost use Rattle.bounded_split.specs.Epoch.{after_epoch, epoch_notes, epoch_turns, judged, left_after, merge_notes, split_notes, total_hits, turns_of_merges};
 
+use crate::Policy;
 use crate::merges::merge_all;
 use crate::splits::split_all;
-use crate::{Judge, Policy};
 use mind_base::{Log, NoMemory};
 use region_directory::Directory;
 
@@ -34,9 +34,9 @@ fn total_hits(directory: &Directory) -> u64
 /// that may become one are merged; then, in order, each entry that was not merged and is to be split
 /// is split, while a slot is free; then all hits are 0. The notes tell the merges and then the splits.
 /// After an error directory and log are as they were.
-pub fn epoch<F: Judge>(
+pub fn epoch(
     directory: &mut Directory,
-    policy: &Policy<F>,
+    policy: &Policy,
     log: &mut Log,
 ) -> Result<EpochSums, NoMemory>
     ensures directory { OnOk result (directory.new ≡ after_epoch policy.now.threshold directory.old) }

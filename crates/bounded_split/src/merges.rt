@@ -3,12 +3,12 @@ ghost use Rattle.region_directory.specs.Merge.{with_merge};
 ghost use Rattle.bounded_split.specs.Verdict.{is_cold};
 ghost use Rattle.bounded_split.specs.Epoch.{judged, cold_at, left_after, merge_noted, merge_notes, turns_of_merges};
 
-use crate::{Judge, Load, Policy, Verdict};
+use crate::{Load, Policy, Verdict};
 use mind_base::{Log, Note};
 use region_directory::{Directory, Entry};
 
 /// The policy's verdict on an entry.
-pub fn judge<F: Judge>(policy: &Policy<F>, entry: &Entry) -> Verdict
+pub fn judge(policy: &Policy, entry: &Entry) -> Verdict
     ensures { result ≡ judged policy.now.threshold entry.now }
 {
     policy.verdict(Load {
@@ -17,7 +17,7 @@ pub fn judge<F: Judge>(policy: &Policy<F>, entry: &Entry) -> Verdict
     })
 }
 
-fn is_cold<F: Judge>(policy: &Policy<F>, entry: &Entry) -> bool
+fn is_cold(policy: &Policy, entry: &Entry) -> bool
     ensures { result ≡ is_cold (judged policy.now.threshold entry.now) }
 {
     match judge(policy, entry) {
@@ -28,7 +28,7 @@ fn is_cold<F: Judge>(policy: &Policy<F>, entry: &Entry) -> bool
 
 /// Merges the entry with this index and the next one, where both are cold and they may become one, and
 /// notes the block that is made; gives how many merges there were, 0 or 1.
-fn merge_cold<F: Judge>(directory: &mut Directory, policy: &Policy<F>, log: &mut Log, i: u32) -> u32
+fn merge_cold(directory: &mut Directory, policy: &Policy, log: &mut Log, i: u32) -> u32
     requires within { i < length directory.old.entries }
     requires room { 0 < log.old.spare }
     ensures changed { directory.new ≡ record directory.old {
@@ -57,7 +57,7 @@ fn merge_cold<F: Judge>(directory: &mut Directory, policy: &Policy<F>, log: &mut
 
 /// Merges, in order, each two cold neighbours that may become one; no entry is in two of these. There
 /// is room for a note of each.
-pub fn merge_all<F: Judge>(directory: &mut Directory, policy: &Policy<F>, log: &mut Log) -> u32
+pub fn merge_all(directory: &mut Directory, policy: &Policy, log: &mut Log) -> u32
     requires { length directory.old.entries ≤ log.old.spare }
     ensures changed { directory.new ≡ record directory.old {
       entries = left_after (turns_of_merges policy.now.threshold directory.old);

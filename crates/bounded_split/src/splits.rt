@@ -5,11 +5,11 @@ ghost use Rattle.bounded_split.specs.Hot.{hot_block, hot_turns_in, split_noted};
 ghost use Rattle.bounded_split.specs.Verdict.{is_split};
 
 use crate::merges::judge;
-use crate::{Judge, Policy, Verdict};
+use crate::{Policy, Verdict};
 use mind_base::{Log, Note};
 use region_directory::{Directory, Entry};
 
-fn is_hot<F: Judge>(policy: &Policy<F>, entry: &Entry) -> bool
+fn is_hot(policy: &Policy, entry: &Entry) -> bool
     ensures { result ≡ is_split (judged policy.now.threshold entry.now) }
 {
     match judge(policy, entry) {
@@ -20,7 +20,7 @@ fn is_hot<F: Judge>(policy: &Policy<F>, entry: &Entry) -> bool
 
 /// Splits the entry with this index, where the verdict says so and a slot is free, and notes its block;
 /// gives how many splits there were, 0 or 1.
-fn split_hot<F: Judge>(directory: &mut Directory, policy: &Policy<F>, log: &mut Log, i: u32) -> u32
+fn split_hot(directory: &mut Directory, policy: &Policy, log: &mut Log, i: u32) -> u32
     requires within { i < length directory.old.entries }
     requires room { 0 < log.old.spare }
     ensures changed { directory.new ≡ record directory.old {
@@ -41,7 +41,7 @@ fn split_hot<F: Judge>(directory: &mut Directory, policy: &Policy<F>, log: &mut 
 
 /// Splits, in order, each entry that the verdict says to split, while a slot is free; no half is split
 /// again. There is room for a note of each.
-pub fn split_all<F: Judge>(directory: &mut Directory, policy: &Policy<F>, log: &mut Log) -> u32
+pub fn split_all(directory: &mut Directory, policy: &Policy, log: &mut Log) -> u32
     requires { length directory.old.entries ≤ log.old.spare }
     ensures changed { directory.new ≡ record directory.old {
       entries = left_after (hot_turns_in policy.now.threshold directory.old);

@@ -58,7 +58,7 @@ fn noted(log: &Log, i: usize) -> Option<(char, u32, u8)> {
 
 #[test]
 fn merges_cold_neighbours_once_and_then_splits(rt: HostRuntime) -> Result<(), Fail> {
-    let policy = Policy::new(4, by_four);
+    let policy = Policy::new(4, Box::new(rt.alloc(), by_four)?);
     let mut log = Log::new(rt.alloc());
     let mut directory = Directory::new(rt.alloc(), 7, 2)?;
     for (number, size, hits) in [
@@ -106,7 +106,7 @@ fn merges_cold_neighbours_once_and_then_splits(rt: HostRuntime) -> Result<(), Fa
 
 #[test]
 fn splits_while_a_slot_is_free(rt: HostRuntime) -> Result<(), Fail> {
-    let policy = Policy::new(4, by_four);
+    let policy = Policy::new(4, Box::new(rt.alloc(), by_four)?);
     let mut log = Log::new(rt.alloc());
     let mut directory = Directory::new(rt.alloc(), 3, 9)?;
     put(&mut directory, 0, 1, 5);
@@ -139,7 +139,7 @@ fn splits_a_busy_entry_in_its_transition(rt: HostRuntime) -> Result<(), Fail> {
             Verdict::Keep
         }
     };
-    let policy = Policy::new(0, judge);
+    let policy = Policy::new(0, Box::new(rt.alloc(), judge)?);
     let mut log = Log::new(rt.alloc());
     let mut directory = Directory::new(rt.alloc(), 8, 9)?;
     put(&mut directory, 2, 1, 1);
