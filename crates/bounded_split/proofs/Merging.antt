@@ -1,5 +1,5 @@
 -- How the loop over the merges stands to their definition: what is still to do from here was what was to do at first.
-use Rattle.std.proofs.Common.{◌≡◌, ℕ, ◌+◌, ◌-◌, ◌<◌, ◌≤◌, Option, Some, None, List, [], ◌∷◌, ◌++◌, length, get_or, take, drop, slice_get, refl, ap, sym, subst, ◌∙◌, zero, suc, arith, append_assoc}
+use Rattle.std.proofs.Common.{◌≡◌, ℕ, ◌+◌, ◌-◌, ◌<◌, ◌≤◌, Option, Some, None, List, [], ◌∷◌, ◌++◌, length, take, drop, slice_get, refl, ap, sym, subst, ◌∙◌, zero, suc, arith, append_assoc}
 use Rattle.std.specs.Option.{option_and_then, option_map_or}
 use Rattle.std.proofs.lemmas.List.{append-nil, drop_all, take_all}
 use Rattle.mind_base.specs.declared.notes.Note.{Note}
@@ -7,7 +7,7 @@ use Rattle.mind_base.specs.declared.notes.Note.TheVariants as note
 use Rattle.region_directory.specs.Directory.{DirectoryView}
 use Rattle.region_directory.specs.Merge.{merged_entry, merge_of, with_merge}
 use Rattle.region_directory.specs.declared.entries.Entry.{Entry}
-use Rattle.bounded_split.specs.Epoch.{Turn, Stays, Merges, Splits, cold_merge, cold_at, merge_noted, turns_behind, merged_turns, left_after, merge_notes, turns_of_merges}
+use Rattle.bounded_split.specs.Epoch.{Stays, Merges, cold_merge, cold_at, merge_noted, turns_behind, merged_turns, left_after, merge_notes, turns_of_merges}
 
 -- what becomes of the list when the merges from entry i on are still to be done, and their notes
 abbrev pub left_from : ℕ → ℕ → List Entry → ℕ → List Entry

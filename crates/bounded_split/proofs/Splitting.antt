@@ -9,7 +9,7 @@ use Rattle.region_directory.specs.Directory.{DirectoryView}
 use Rattle.region_directory.specs.Split.{with_split}
 use Rattle.region_directory.specs.declared.entries.Entry.{Entry}
 use Rattle.region_directory.proofs.SearchLemmas.{blank}
-use Rattle.bounded_split.specs.Epoch.{Turn, Stays, Merges, Splits, hot_split, hot_at, left_after, split_notes}
+use Rattle.bounded_split.specs.Epoch.{Stays, Splits, hot_split, hot_at, left_after, split_notes}
 use Rattle.bounded_split.specs.Hot.{hot_block, hot_turns, hot_turns_in, split_noted}
 
 -- what becomes of the list when the splits from entry i on are still to be done, and their notes

@@ -1,19 +1,17 @@
 -- The splits go over the entries that the merges left: one that was merged is cold, and so is not split. And why splits are few.
-use Rattle.std.proofs.Common.{◌≡◌, ℕ, ◌+◌, ◌-◌, ◌*◌, ◌<◌, ◌≤◌, ◌^◌, Bool, true, false, cond, ◌&&◌, nat_lt, ◌==◌, min, Option, Some, None, List, [], ◌∷◌, ◌++◌, length, refl, ap, sym, subst, ◌∙◌, zero, suc, arith}
-use Rattle.std.specs.Option.{option_map_or, option_map}
+use Rattle.std.proofs.Common.{◌≡◌, ℕ, ◌+◌, ◌-◌, ◌*◌, ◌<◌, ◌≤◌, ◌^◌, Bool, true, false, cond, ◌&&◌, nat_lt, ◌==◌, min, Option, Some, None, List, [], ◌∷◌, length, refl, ap, sym, ◌∙◌, suc, arith}
+use Rattle.std.specs.Option.{option_map_or}
 use Rattle.std.proofs.lemmas.Bool.Decides.{nat_tests}
 use Rattle.std.proofs.lemmas.List.Sums.{sum_by-cons}
-use Rattle.std.proofs.lemmas.Option.{same_Some}
 use Rattle.mind_base.specs.declared.notes.Note.TheVariants as note
 use Rattle.region_directory.specs.Directory.{DirectoryView}
 use Rattle.region_directory.specs.Merge.{merged_entry}
 use Rattle.region_directory.specs.Split.{split_entry}
 use Rattle.region_directory.specs.declared.entries.Entry.{Entry}
 use Rattle.region_directory.proofs.ResizeLemmas.{merged-hits}
-use Rattle.bounded_split.specs.Epoch.{Turn, Stays, Merges, Splits, judged, cold_merge, turns_behind, merged_turns, hot_split, split_turns, left_after, merge_notes, split_notes, turns_of_merges, epoch_turns, total_hits}
+use Rattle.bounded_split.specs.Epoch.{Turn, Stays, Merges, Splits, judged, cold_merge, turns_behind, hot_split, split_turns, left_after, merge_notes, split_notes, turns_of_merges, epoch_turns, total_hits}
 use Rattle.bounded_split.specs.Hot.{hot_turns, hot_turns_in}
-use Rattle.bounded_split.specs.Verdict.{verdict_of, is_split, is_cold}
-use Rattle.bounded_split.specs.declared.loads.Load.{Load}
+use Rattle.bounded_split.specs.Verdict.{is_split, is_cold}
 use Rattle.bounded_split.specs.declared.loads.Verdict.TheVariants.{Split, Keep, Cold}
 
 -- ---- verdicts

@@ -1,8 +1,6 @@
-ghost use Rattle.std.specs.Prelude.{◌≡◌, ◌+◌, ◌-◌, ◌*◌, ◌≤◌, ◌<◌, ◌++◌, length, map, slice_get, option_map, IfOk, OnOk, OnErr};
+ghost use Rattle.std.specs.Prelude.{◌≡◌, ◌+◌, ◌*◌, ◌≤◌, ◌++◌, length, IfOk, OnOk, OnErr};
 ghost use Rattle.region_directory.specs.Directory.{IsDirectory};
-ghost use Rattle.region_directory.specs.Merge.{with_merge};
-ghost use Rattle.region_directory.specs.Split.{with_split};
-ghost use Rattle.bounded_split.specs.Epoch.{after_epoch, epoch_notes, epoch_turns, judged, left_after, merge_notes, split_notes, total_hits, turns_of_merges};
+ghost use Rattle.bounded_split.specs.Epoch.{after_epoch, epoch_notes, epoch_turns, merge_notes, split_notes, total_hits};
 
 use crate::Policy;
 use crate::merges::merge_all;

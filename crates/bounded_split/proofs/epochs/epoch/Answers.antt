@@ -3,7 +3,7 @@ use Rattle.mind_base.specs.declared.notes.Note.{Note}
 use Rattle.region_directory.specs.Directory.{DirectoryView}
 use Rattle.region_directory.specs.Entry.{with_hits}
 use Rattle.region_directory.specs.declared.entries.Entry.{Entry}
-use Rattle.bounded_split.specs.Epoch.{epoch_turns, left_after, merge_notes, split_notes, total_hits, turns_of_merges}
+use Rattle.bounded_split.specs.Epoch.{epoch_turns, left_after, merge_notes, split_notes, turns_of_merges}
 use Rattle.bounded_split.specs.Hot.{hot_turns_in}
 use Rattle.bounded_split.specs.declared.epochs.EpochSums.{EpochSums}
 use Rattle.bounded_split.proofs.Turning.{merged_directory, epoch-left, epoch-merges, epoch-splits, splits-bound}

@@ -1,4 +1,4 @@
-use Rattle.std.proofs.Common.{◌≡◌, ◌<◌, length, arith}
+use Rattle.std.proofs.Common.{◌<◌, length, arith}
 use Rattle.bounded_split.specs.Epoch.{cold_at}
 use Rattle.bounded_split.proofs.Merging.{merging-step, merging-smaller, noted-few}
 use Rattle.bounded_split.proofs.merges.merge_all.Goals as goal

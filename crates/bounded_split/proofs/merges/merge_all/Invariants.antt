@@ -1,4 +1,4 @@
-use Rattle.std.proofs.Common.{ℕ, ◌-◌, length}
+use Rattle.std.proofs.Common.{◌-◌, length}
 use Rattle.bounded_split.proofs.Merging.{IsMerging}
 use Rattle.bounded_split.proofs.merges.merge_all.Given as goal
 

@@ -1,4 +1,4 @@
-use Rattle.std.proofs.Common.{ℕ, ◌-◌, length}
+use Rattle.std.proofs.Common.{◌-◌, length}
 use Rattle.bounded_split.proofs.Splitting.{IsSplitting}
 use Rattle.bounded_split.proofs.splits.split_all.Given as goal
 
