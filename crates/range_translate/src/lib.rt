@@ -11,6 +11,7 @@ mod tables;
 #[cfg(test)]
 mod tests;
 
+pub use homes::pages_of;
 pub use laws::smallest_outlier_decides;
 pub use outliers::{Outlier, Piece, PutRefusal};
 pub use tables::Table;
