@@ -1,0 +1,10 @@
+pub mod Clean
+pub mod ItemsAgain
+pub mod LabelSteps
+pub mod LineCuts
+pub mod LinesAgain
+pub mod NamesAgain
+pub mod Numerals
+pub mod OperandsAgain
+pub mod Steps
+pub mod TextAgain

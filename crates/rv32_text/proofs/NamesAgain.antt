@@ -1,0 +1,171 @@
+-- The names that are written are read again.
+use Rattle.std.proofs.Common.{◌≡◌, ℕ, zero, suc, ◌+◌, ◌<◌, ◌≤◌, Bool, true, false, not, ◌&&◌, ◌==◌, List, [], ◌∷◌, ◌++◌, length, refl, sym, subst, arith, inl, inr, Some, Ok}
+use Rattle.std.specs.Prelude.{codes, nat_lt}
+use Rattle.std.specs.List.{list_all}
+use Rattle.std.proofs.lemmas.Bool.{cases_lt}
+use Rattle.rv32_decode.specs.declared.instruction.BranchKind.TheVariants as branch
+use Rattle.rv32_decode.specs.declared.instruction.LoadKind.TheVariants as load
+use Rattle.rv32_decode.specs.declared.instruction.StoreKind.TheVariants as store
+use Rattle.rv32_decode.specs.declared.instruction.OpImmKind.TheVariants as op_imm
+use Rattle.rv32_decode.specs.declared.instruction.OpKind.TheVariants as op
+use Rattle.rv32_decode.specs.declared.instruction.AmoKind.TheVariants as amo
+use Rattle.rv32_text.specs.declared.rows.Atomic.TheVariants as atomic
+use Rattle.rv32_text.specs.declared.rows.Row.{Row}
+use Rattle.rv32_text.specs.declared.rows.Row.TheVariants as row
+use Rattle.rv32_text.specs.Blank.{is_blank, without_blanks_before, without_blanks_behind}
+use Rattle.rv32_text.specs.Name.{number_named, use_named, jump_named, access_named, number_row_named, register_row_named, other_named, register_of, register_name, set_of, set_name, row_of, row_name, plain_of, atomic_of, ordered_of}
+use Rattle.rv32_text.specs.Operand.{enclosed_in, address_in}
+use Rattle.rv32_text.specs.Written.{address_text}
+
+-- a byte that may stand in a name or an operand: it prints, and is no blank, #, comma or colon
+abbrev pub is_clean : ℕ → Bool
+is_clean b = nat_lt 32 b && nat_lt b 127 && not (b == 35) && not (b == 44) && not (b == 58)
+
+-- a name or an operand as it is written: not empty, and clean
+pub record IsPiece (text : List ℕ) : Type 0 where
+  pub some : 0 < length text
+  pub clean : list_all is_clean text ≡ true
+
+-- a fact of each number below a bound, one by one
+abbrev pub EachBelow : (ℕ → Type 0) → ℕ → Type 0
+EachBelow P zero = Unit {0}
+EachBelow P (suc n) = EachBelow P n × P n
+
+pub each_below : (P : ℕ → Type 0) (n k : ℕ) → EachBelow P n → k < n → P k
+each_below P zero k all lt = absurd (omega arith)
+each_below P (suc n) k all lt =
+    elim (cases_lt k n) [
+      | inl below ↦ each_below P n k all.0 below
+      | inr rest ↦ let e : n ≡ k = omega arith in subst P e all.1
+    ]
+
+abbrev pub long : List ℕ → Bool
+long text = nat_lt 0 (length text)
+
+some_from : (text : List ℕ) → long text ≡ true → 0 < length text
+some_from [] e = cc
+some_from (x ∷ xs) e = omega arith
+
+pub piece : (text : List ℕ) → long text ≡ true → list_all is_clean text ≡ true → IsPiece text
+piece text l c = record { some = some_from text l; clean = c }
+
+-- ---- registers
+
+abbrev pub IsRegister : ℕ → Type 0
+IsRegister n =
+    (register_of (register_name n) ≡ Some n) × (long (register_name n) ≡ true) × (list_all is_clean (register_name n) ≡ true)
+    × (enclosed_in (register_name n ++ 41 ∷ []) ≡ Ok n) × (address_in (address_text n) ≡ Ok n) × (long (address_text n) ≡ true) × (list_all is_clean (address_text n) ≡ true)
+
+registers : EachBelow IsRegister 32
+unfolding register_of number_named use_named enclosed_in address_in without_blanks_before without_blanks_behind
+registers =
+    ((((((((((((((((((((((((((((((((tt, (refl, refl, refl, refl, refl, refl, refl)), (refl, refl, refl, refl, refl, refl, refl)), (refl, refl, refl, refl, refl, refl, refl)), (refl, refl, refl, refl, refl, refl, refl)), (refl, refl, refl, refl, refl, refl, refl)), (refl, refl, refl, refl, refl, refl, refl)), (refl, refl, refl, refl, refl, refl, refl)), (refl, refl, refl, refl, refl, refl, refl)), (refl, refl, refl, refl, refl, refl, refl)), (refl, refl, refl, refl, refl, refl, refl)), (refl, refl, refl, refl, refl, refl, refl)), (refl, refl, refl, refl, refl, refl, refl)), (refl, refl, refl, refl, refl, refl, refl)), (refl, refl, refl, refl, refl, refl, refl)), (refl, refl, refl, refl, refl, refl, refl)), (refl, refl, refl, refl, refl, refl, refl)), (refl, refl, refl, refl, refl, refl, refl)), (refl, refl, refl, refl, refl, refl, refl)), (refl, refl, refl, refl, refl, refl, refl)), (refl, refl, refl, refl, refl, refl, refl)), (refl, refl, refl, refl, refl, refl, refl)), (refl, refl, refl, refl, refl, refl, refl)), (refl, refl, refl, refl, refl, refl, refl)), (refl, refl, refl, refl, refl, refl, refl)), (refl, refl, refl, refl, refl, refl, refl)), (refl, refl, refl, refl, refl, refl, refl)), (refl, refl, refl, refl, refl, refl, refl)), (refl, refl, refl, refl, refl, refl, refl)), (refl, refl, refl, refl, refl, refl, refl)), (refl, refl, refl, refl, refl, refl, refl)), (refl, refl, refl, refl, refl, refl, refl)), (refl, refl, refl, refl, refl, refl, refl))
+
+pub register_again : (n : ℕ) → n < 32 → IsRegister n
+register_again n lt = each_below IsRegister 32 n registers lt
+
+-- ---- sets of accesses
+
+abbrev pub IsSet : ℕ → Type 0
+IsSet n = (set_of (set_name n) ≡ Some n) × (long (set_name n) ≡ true) × (list_all is_clean (set_name n) ≡ true)
+
+sets : EachBelow IsSet 16
+unfolding set_of
+sets = ((((((((((((((((tt, (refl, refl, refl)), (refl, refl, refl)), (refl, refl, refl)), (refl, refl, refl)), (refl, refl, refl)), (refl, refl, refl)), (refl, refl, refl)), (refl, refl, refl)), (refl, refl, refl)), (refl, refl, refl)), (refl, refl, refl)), (refl, refl, refl)), (refl, refl, refl)), (refl, refl, refl)), (refl, refl, refl)), (refl, refl, refl))
+
+pub set_again : (n : ℕ) → n < 16 → IsSet n
+set_again n lt = each_below IsSet 16 n sets lt
+
+-- ---- rows
+
+abbrev pub IsRow : Row → Type 0
+IsRow r = (row_of (row_name r) ≡ Some r) × (long (row_name r) ≡ true) × (list_all is_clean (row_name r) ≡ true)
+
+pub row_again : (r : Row) → IsRow r
+unfolding row_of plain_of jump_named access_named number_row_named register_row_named other_named atomic_of ordered_of
+row_again row.Lui = (refl, refl, refl)
+row_again row.Auipc = (refl, refl, refl)
+row_again row.Jal = (refl, refl, refl)
+row_again row.Jalr = (refl, refl, refl)
+row_again (row.Branch branch.Beq) = (refl, refl, refl)
+row_again (row.Branch branch.Bne) = (refl, refl, refl)
+row_again (row.Branch branch.Blt) = (refl, refl, refl)
+row_again (row.Branch branch.Bge) = (refl, refl, refl)
+row_again (row.Branch branch.Bltu) = (refl, refl, refl)
+row_again (row.Branch branch.Bgeu) = (refl, refl, refl)
+row_again (row.Load load.Lb) = (refl, refl, refl)
+row_again (row.Load load.Lh) = (refl, refl, refl)
+row_again (row.Load load.Lw) = (refl, refl, refl)
+row_again (row.Load load.Lbu) = (refl, refl, refl)
+row_again (row.Load load.Lhu) = (refl, refl, refl)
+row_again (row.Store store.Sb) = (refl, refl, refl)
+row_again (row.Store store.Sh) = (refl, refl, refl)
+row_again (row.Store store.Sw) = (refl, refl, refl)
+row_again (row.OpImm op_imm.Addi) = (refl, refl, refl)
+row_again (row.OpImm op_imm.Slti) = (refl, refl, refl)
+row_again (row.OpImm op_imm.Sltiu) = (refl, refl, refl)
+row_again (row.OpImm op_imm.Xori) = (refl, refl, refl)
+row_again (row.OpImm op_imm.Ori) = (refl, refl, refl)
+row_again (row.OpImm op_imm.Andi) = (refl, refl, refl)
+row_again (row.OpImm op_imm.Slli) = (refl, refl, refl)
+row_again (row.OpImm op_imm.Srli) = (refl, refl, refl)
+row_again (row.OpImm op_imm.Srai) = (refl, refl, refl)
+row_again (row.Op op.Add) = (refl, refl, refl)
+row_again (row.Op op.Sll) = (refl, refl, refl)
+row_again (row.Op op.Slt) = (refl, refl, refl)
+row_again (row.Op op.Sltu) = (refl, refl, refl)
+row_again (row.Op op.Xor) = (refl, refl, refl)
+row_again (row.Op op.Srl) = (refl, refl, refl)
+row_again (row.Op op.Or) = (refl, refl, refl)
+row_again (row.Op op.And) = (refl, refl, refl)
+row_again (row.Op op.Sub) = (refl, refl, refl)
+row_again (row.Op op.Sra) = (refl, refl, refl)
+row_again row.Fence = (refl, refl, refl)
+row_again row.FenceTso = (refl, refl, refl)
+row_again row.Ecall = (refl, refl, refl)
+row_again row.Ebreak = (refl, refl, refl)
+row_again (row.Atomic atomic.Lr true true) = (refl, refl, refl)
+row_again (row.Atomic atomic.Lr true false) = (refl, refl, refl)
+row_again (row.Atomic atomic.Lr false true) = (refl, refl, refl)
+row_again (row.Atomic atomic.Lr false false) = (refl, refl, refl)
+row_again (row.Atomic atomic.Sc true true) = (refl, refl, refl)
+row_again (row.Atomic atomic.Sc true false) = (refl, refl, refl)
+row_again (row.Atomic atomic.Sc false true) = (refl, refl, refl)
+row_again (row.Atomic atomic.Sc false false) = (refl, refl, refl)
+row_again (row.Atomic (atomic.Amo amo.Swap) true true) = (refl, refl, refl)
+row_again (row.Atomic (atomic.Amo amo.Swap) true false) = (refl, refl, refl)
+row_again (row.Atomic (atomic.Amo amo.Swap) false true) = (refl, refl, refl)
+row_again (row.Atomic (atomic.Amo amo.Swap) false false) = (refl, refl, refl)
+row_again (row.Atomic (atomic.Amo amo.Add) true true) = (refl, refl, refl)
+row_again (row.Atomic (atomic.Amo amo.Add) true false) = (refl, refl, refl)
+row_again (row.Atomic (atomic.Amo amo.Add) false true) = (refl, refl, refl)
+row_again (row.Atomic (atomic.Amo amo.Add) false false) = (refl, refl, refl)
+row_again (row.Atomic (atomic.Amo amo.Xor) true true) = (refl, refl, refl)
+row_again (row.Atomic (atomic.Amo amo.Xor) true false) = (refl, refl, refl)
+row_again (row.Atomic (atomic.Amo amo.Xor) false true) = (refl, refl, refl)
+row_again (row.Atomic (atomic.Amo amo.Xor) false false) = (refl, refl, refl)
+row_again (row.Atomic (atomic.Amo amo.And) true true) = (refl, refl, refl)
+row_again (row.Atomic (atomic.Amo amo.And) true false) = (refl, refl, refl)
+row_again (row.Atomic (atomic.Amo amo.And) false true) = (refl, refl, refl)
+row_again (row.Atomic (atomic.Amo amo.And) false false) = (refl, refl, refl)
+row_again (row.Atomic (atomic.Amo amo.Or) true true) = (refl, refl, refl)
+row_again (row.Atomic (atomic.Amo amo.Or) true false) = (refl, refl, refl)
+row_again (row.Atomic (atomic.Amo amo.Or) false true) = (refl, refl, refl)
+row_again (row.Atomic (atomic.Amo amo.Or) false false) = (refl, refl, refl)
+row_again (row.Atomic (atomic.Amo amo.Min) true true) = (refl, refl, refl)
+row_again (row.Atomic (atomic.Amo amo.Min) true false) = (refl, refl, refl)
+row_again (row.Atomic (atomic.Amo amo.Min) false true) = (refl, refl, refl)
+row_again (row.Atomic (atomic.Amo amo.Min) false false) = (refl, refl, refl)
+row_again (row.Atomic (atomic.Amo amo.Max) true true) = (refl, refl, refl)
+row_again (row.Atomic (atomic.Amo amo.Max) true false) = (refl, refl, refl)
+row_again (row.Atomic (atomic.Amo amo.Max) false true) = (refl, refl, refl)
+row_again (row.Atomic (atomic.Amo amo.Max) false false) = (refl, refl, refl)
+row_again (row.Atomic (atomic.Amo amo.Minu) true true) = (refl, refl, refl)
+row_again (row.Atomic (atomic.Amo amo.Minu) true false) = (refl, refl, refl)
+row_again (row.Atomic (atomic.Amo amo.Minu) false true) = (refl, refl, refl)
+row_again (row.Atomic (atomic.Amo amo.Minu) false false) = (refl, refl, refl)
+row_again (row.Atomic (atomic.Amo amo.Maxu) true true) = (refl, refl, refl)
+row_again (row.Atomic (atomic.Amo amo.Maxu) true false) = (refl, refl, refl)
+row_again (row.Atomic (atomic.Amo amo.Maxu) false true) = (refl, refl, refl)
+row_again (row.Atomic (atomic.Amo amo.Maxu) false false) = (refl, refl, refl)
+row_again row.Word = (refl, refl, refl)

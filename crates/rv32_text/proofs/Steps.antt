@@ -1,0 +1,163 @@
+-- Reading lines one after the other, as a loop does, and what an image has of the items that were read.
+use Rattle.std.proofs.Common.{◌≡◌, ℕ, zero, suc, ◌+◌, ◌*◌, ◌<◌, ◌≤◌, ◌^◌, Bool, true, false, ◌==◌, List, [], ◌∷◌, ◌++◌, length, get_or, take, drop, Result, Ok, Err, Some, refl, sym, ap, ◌∙◌, subst, arith}
+use Rattle.std.specs.Prelude.{IfOk}
+use Rattle.std.specs.List.{AllByRecursion, flat_map}
+use Rattle.std.specs.Int.{w32, to_le_bytes, from_le_bytes}
+use Rattle.std.specs.Str.Lines.{lines}
+use Rattle.std.proofs.lemmas.Bool.{ne_eqb}
+use Rattle.std.proofs.lemmas.List.{append_assoc, append-nil, length-append, flat_map_more, take_more}
+use Rattle.std.proofs.lemmas.Nat.{from_le_bytes-to_le_bytes_4}
+use Rattle.rv32_decode.specs.declared.instruction.Instr.{Instr}
+use Rattle.rv32_decode.specs.Instr.{Fits, instr_of, word_of}
+use Rattle.rv32_decode.proofs.Meaning.{instr_of-word_of}
+use Rattle.rv32_decode.proofs.Spelled.{word_of-below}
+use Rattle.rv32_text.specs.declared.faults.TextRefusal.{TextRefusal}
+use Rattle.rv32_text.specs.declared.faults.TextRefusal.TheVariants as refusals
+use Rattle.rv32_text.specs.declared.items.Item.{Item}
+use Rattle.rv32_text.specs.declared.items.Item.TheVariants as item
+use Rattle.rv32_text.specs.Refusal.{FirstFault, Fails, Gives, ◌>>=◌}
+use Rattle.rv32_text.specs.Statement.{FitsItem}
+use Rattle.rv32_text.specs.Meaning.{after_line, items_from, labels_of, some_item, meaning}
+use Rattle.rv32_text.specs.Image.{item_word, item_bytes, image_of, assembled, image_words, IsWordOf, AreWordsOf, IsImageOf, encoded_items}
+use Rattle.rv32_text.specs.Written.{word_line, disassembled}
+use Rattle.rv32_text.proofs.LinesAgain.{Labels}
+
+pub goes_on : (labels : Labels) (line : ℕ) (before : List Item) (text : List ℕ) (texts : List (List ℕ)) (so_far : List Item) (total : Result (List Item) FirstFault)
+    → after_line labels line before text ≡ Ok so_far → items_from labels line before (text ∷ texts) ≡ total → items_from labels (line + 1) so_far texts ≡ total
+unfolding items_from
+goes_on labels line before text texts so_far total one all =
+    let step : items_from labels line before (text ∷ texts) ≡ items_from labels (line + 1) so_far texts = rw one refl in
+    sym step ∙ all
+
+pub stops : (e : TextRefusal) (labels : Labels) (line : ℕ) (before : List Item) (text : List ℕ) (texts : List (List ℕ)) (total : Result (List Item) FirstFault)
+    → Fails e (after_line labels line before text) → items_from labels line before (text ∷ texts) ≡ total → Fails e total
+unfolding items_from
+stops refusals.NoMemory labels line before text texts total one all = tt
+stops (refusals.Refused l what) labels line before text texts total one all =
+    let step : items_from labels line before (text ∷ texts) ≡ Err (record { line = l; what = what }) = rw one refl in
+    sym all ∙ step
+
+pub ends : (labels : Labels) (line : ℕ) (before : List Item) (texts : List (List ℕ)) (total : Result (List Item) FirstFault)
+    → texts ≡ [] → items_from labels line before texts ≡ total → total ≡ Ok before
+unfolding items_from
+ends labels line before texts total none all =
+    let step : items_from labels line before texts ≡ Ok before = rw none refl in
+    sym all ∙ step
+
+-- ---- the whole text
+
+pub fails_whole : (e : TextRefusal) (labels : Labels) (text : List ℕ) → labels ≡ labels_of text → Fails e (items_from labels 1 [] (lines text)) → Fails e (assembled text)
+unfolding assembled meaning
+fails_whole refusals.NoMemory labels text same fails = tt
+fails_whole (refusals.Refused l what) labels text same fails = rw (← same, fails) refl
+
+pub some_ok : (items : List Item) → 0 < length items → some_item items ≡ Ok items
+unfolding some_item
+some_ok items some =
+    let e : (length items == 0) ≡ false = ne_eqb _ _ (λ z. omega arith) in
+    rw e refl
+
+pub meaning_whole : (labels : Labels) (items : List Item) (text : List ℕ) → labels ≡ labels_of text → items_from labels 1 [] (lines text) ≡ Ok items → 0 < length items
+    → meaning text ≡ Ok items
+unfolding meaning
+meaning_whole labels items text same read some = rw (← same, read) (some_ok items some)
+
+-- ---- the image of items
+
+pub all_at : {A : Type 0} (P : A → Type 0) (xs : List A) (i : ℕ) (d : A) → AllByRecursion P xs → i < length xs → P (get_or xs i d)
+all_at P [] i d all lt = absurd (omega arith)
+all_at P (x ∷ xs) zero d all lt = all.0
+all_at P (x ∷ xs) (suc i) d all lt = all_at P xs i d all.1 (omega arith)
+
+pub one_item_more : (items : List Item) (n : ℕ) (d : Item) → n < length items → image_of (take n items) ++ item_bytes (get_or items n d) ≡ image_of (take (n + 1) items)
+unfolding image_of
+one_item_more items n d lt = flat_map_more item_bytes [] (take n items) (get_or items n d) ∙ ap (λ (xs : List Item). flat_map item_bytes xs) (sym (take_more items n d lt))
+
+pub image_size : (items : List Item) → length (image_of items) ≡ 4 * length items
+unfolding image_of
+image_size [] = refl
+image_size (i ∷ items) = omega (arith, length-append (item_bytes i) (flat_map item_bytes items), image_size items)
+
+word_below : (i : Item) → FitsItem i → item_word i < 2 ^ 32
+unfolding FitsItem
+word_below (item.Instr i) fits = word_of-below i fits
+word_below (item.Word w) fits = fits
+
+is_word : (i : Item) → FitsItem i → IsWordOf (item_word i) i
+unfolding FitsItem
+is_word (item.Instr i) fits = instr_of-word_of (word_of i) i fits refl
+is_word (item.Word w) fits = refl
+
+pub are_words : (items : List Item) → AllByRecursion FitsItem items → AreWordsOf (image_words (image_of items)) items
+unfolding image_of image_words
+are_words [] fits = tt
+are_words (i ∷ items) fits =
+    let word : from_le_bytes w32 (item_bytes i) ≡ item_word i = from_le_bytes-to_le_bytes_4 (item_word i) (word_below i fits.0) in
+    rw word (is_word i fits.0, are_words items fits.1)
+
+-- an image of at least four bytes begins with the word of the first four
+pub first_word_is : (image : List ℕ) (word : ℕ) → 4 ≤ length image → word ≡ from_le_bytes w32 (get_or image 0 0 ∷ get_or image 1 0 ∷ get_or image 2 0 ∷ get_or image 3 0 ∷ [])
+    → image_words image ≡ word ∷ image_words (drop 4 image)
+unfolding image_words
+first_word_is [] word le e = absurd (omega arith)
+first_word_is (a ∷ []) word le e = absurd (omega arith)
+first_word_is (a ∷ b ∷ []) word le e = absurd (omega arith)
+first_word_is (a ∷ b ∷ c ∷ []) word le e = absurd (omega arith)
+first_word_is (a ∷ b ∷ c ∷ d ∷ rest) word le e = ap (λ (w : ℕ). w ∷ image_words rest) (sym e)
+
+pub no_words : (image : List ℕ) → length image < 4 → image_words image ≡ []
+unfolding image_words
+no_words [] lt = refl
+no_words (a ∷ []) lt = refl
+no_words (a ∷ b ∷ []) lt = refl
+no_words (a ∷ b ∷ c ∷ []) lt = refl
+no_words (a ∷ b ∷ c ∷ d ∷ rest) lt = absurd (omega arith)
+
+-- ---- writing line by line
+
+pub writes_on : (old new : List ℕ) (w : ℕ) (ws words total : List ℕ) → new ≡ old ++ word_line w → words ≡ w ∷ ws → old ++ disassembled words ≡ total → new ++ disassembled ws ≡ total
+unfolding disassembled
+writes_on old new w ws words total e cut all =
+    ap (λ (x : List ℕ). x ++ disassembled ws) e ∙ append_assoc old (word_line w) (disassembled ws) ∙ ap (λ (xs : List ℕ). old ++ disassembled xs) (sym cut) ∙ all
+
+pub written_whole : (out rest total : List ℕ) → length rest < 4 → out ++ disassembled (image_words rest) ≡ total → out ≡ total
+unfolding disassembled
+written_whole out rest total few all =
+    sym (append-nil out) ∙ ap (λ (ws : List ℕ). out ++ disassembled ws) (sym (no_words rest few)) ∙ all
+
+-- ---- from the items to the answer
+
+ok_inj : (a b : List ℕ) → Ok {E = FirstFault} a ≡ Ok b → a ≡ b
+ok_inj a b e = cc
+
+pub same_whole : (labels : Labels) (items : List Item) (text : List ℕ) → labels ≡ labels_of text → items_from labels 1 [] (lines text) ≡ Ok items → assembled text ≡ encoded_items items
+unfolding assembled meaning encoded_items
+same_whole labels items text same read = rw (← same, read) refl
+
+encoded_ok : (items : List Item) (image : List ℕ) → encoded_items items ≡ Ok image → (0 < length items) × (image ≡ image_of items)
+unfolding encoded_items some_item
+encoded_ok [] image e = cc
+encoded_ok (i ∷ items) image e = (omega arith, sym (ok_inj (image_of (i ∷ items)) image (sym (ap (λ (r : Result (List Item) FirstFault). r >>= (λ xs. Ok (image_of xs))) (some_ok (i ∷ items) (omega arith))) ∙ e)))
+
+image_is : (labels : Labels) (items : List Item) (text image : List ℕ) → labels ≡ labels_of text → items_from labels 1 [] (lines text) ≡ Ok items
+    → AllByRecursion FitsItem items → length items ≤ 16384 → encoded_items items ≡ Ok image → IsImageOf text image
+image_is labels items text image same read fits few e =
+    let parts = encoded_ok items image e in
+    record {
+      items = items;
+      read = meaning_whole labels items text same read parts.0;
+      some = parts.0;
+      few = few;
+      size = ap length parts.1 ∙ image_size items;
+      words = subst (λ (xs : List ℕ). AreWordsOf (image_words xs) items) (sym parts.1) (are_words items fits);
+    }
+
+pub gives_whole : {X : Type 0} (view : X → List ℕ) (r : Result X TextRefusal) (labels : Labels) (items : List Item) (text : List ℕ) → labels ≡ labels_of text
+    → items_from labels 1 [] (lines text) ≡ Ok items → Gives view r (encoded_items items) → Gives view r (assembled text)
+gives_whole view r labels items text same read given = subst (λ (read : Result (List ℕ) FirstFault). Gives view r read) (sym (same_whole labels items text same read)) given
+
+pub image_whole : {X : Type 0} (view : X → List ℕ) (r : Result X TextRefusal) (labels : Labels) (items : List Item) (text : List ℕ) → labels ≡ labels_of text
+    → items_from labels 1 [] (lines text) ≡ Ok items → AllByRecursion FitsItem items → length items ≤ 16384 → Gives view r (encoded_items items)
+    → IfOk r (λ x. IsImageOf text (view x))
+image_whole view (Ok x) labels items text same read fits few given = image_is labels items text (view x) same read fits few given
+image_whole view (Err e) labels items text same read fits few given = tt

@@ -1,0 +1,165 @@
+-- The text of words is read as their items, and the image of these has the words.
+use Rattle.std.proofs.Common.{◌≡◌, ℕ, zero, suc, ◌+◌, ◌-◌, ◌*◌, ◌%◌, ◌<◌, ◌≤◌, ◌^◌, Bool, true, false, not, cond, ◌&&◌, ◌==◌, List, [], ◌∷◌, ◌++◌, length, get_or, take, drop, map, refl, sym, ap, ◌∙◌, arith, Option, Some, None, Result, Ok, Err}
+use Rattle.std.specs.Prelude.{nat_lt}
+use Rattle.std.specs.List.{list_all, flat_map, AllByRecursion}
+use Rattle.std.specs.Int.{w32, to_le_bytes, from_le_bytes}
+use Rattle.std.specs.Str.Lines.{lines, strip_carriage_return}
+use Rattle.std.proofs.lemmas.Bool.{lt-ltb, ne_eqb}
+use Rattle.std.proofs.lemmas.List.{append_assoc, append-nil, length-append, take_at, get_or_at}
+use Rattle.std.proofs.lemmas.Nat.{le_bytes_4}
+use Rattle.rv32_decode.specs.declared.instruction.Instr.{Instr}
+use Rattle.rv32_decode.specs.Instr.{Fits, instr_of, word_of}
+use Rattle.rv32_decode.proofs.Meaning.{fits_answer, again_answer}
+use Rattle.rv32_text.specs.declared.items.Item.{Item}
+use Rattle.rv32_text.specs.declared.items.Item.TheVariants as item
+use Rattle.rv32_text.specs.Refusal.{FirstFault, ◌>>=◌}
+use Rattle.rv32_text.specs.Statement.{line_item}
+use Rattle.rv32_text.specs.Meaning.{after_line, items_from, labels_of, some_item, meaning}
+use Rattle.rv32_text.specs.Image.{item_word, item_bytes, image_of, assembled, image_words}
+use Rattle.rv32_text.specs.Written.{has_text, item_for, item_of_word, item_text, word_line, disassembled}
+use Rattle.rv32_text.proofs.Clean.{Lacks, all_weaken, cut_place, cut_before, cut_behind, Ends, ends}
+use Rattle.rv32_text.proofs.LineCuts.{lines_ended}
+use Rattle.rv32_text.proofs.LinesAgain.{is_written, IsLine, Labels, IsRead, reads_line, line_length}
+use Rattle.rv32_text.proofs.ItemsAgain.{instr_read, word_read}
+use Rattle.rv32_text.proofs.Steps.{some_ok}
+
+-- ---- the items of words
+
+read_told : (w : ℕ) (i : Instr) (b : Bool) → has_text i ≡ b → w < 2 ^ 32 → Fits i → IsRead (item_text (cond b (item.Instr i) (item.Word w))) (cond b (item.Instr i) (item.Word w))
+unfolding item_text
+read_told w i true told small fits = instr_read i fits told
+read_told w i false told small fits = word_read w small
+
+read_for : (w : ℕ) (found : Option Instr) → w < 2 ^ 32 → found ≡ instr_of w → IsRead (item_text (item_for w found)) (item_for w found)
+unfolding item_text
+read_for w None small e = word_read w small
+read_for w (Some i) small e = read_told w i (has_text i) refl small (fits_answer w (Some i) small e)
+
+item_read : (w : ℕ) → w < 2 ^ 32 → IsRead (item_text (item_of_word w)) (item_of_word w)
+unfolding item_of_word
+item_read w small = read_for w (instr_of w) small refl
+
+word_told : (w : ℕ) (i : Instr) (b : Bool) → word_of i ≡ w → item_word (cond b (item.Instr i) (item.Word w)) ≡ w
+word_told w i true again = again
+word_told w i false again = refl
+
+word_for : (w : ℕ) (found : Option Instr) → w < 2 ^ 32 → found ≡ instr_of w → item_word (item_for w found) ≡ w
+word_for w None small e = refl
+word_for w (Some i) small e = word_told w i (has_text i) (again_answer w (Some i) small e)
+
+item_word_again : (w : ℕ) → w < 2 ^ 32 → item_word (item_of_word w) ≡ w
+unfolding item_of_word
+item_word_again w small = word_for w (instr_of w) small refl
+
+-- ---- lines
+
+written_no_end : (b : ℕ) → is_written b ≡ true → not (b == 10) ≡ true
+written_no_end b e = grind arith
+
+written_no_return : (b : ℕ) → is_written b ≡ true → (b == 13) ≡ false
+written_no_return b e = grind arith
+
+last_of : (xs before : List ℕ) (last : ℕ) → xs ≡ before ++ last ∷ [] → get_or xs (length xs - 1) 0 ≡ last
+last_of xs before last e =
+    let size : length xs ≡ length before + 1 = ap length e ∙ length-append before (last ∷ []) in
+    let place : length xs - 1 ≡ length before = omega arith in
+    ap (λ (n : ℕ). get_or xs n 0) place ∙ ap (λ (ys : List ℕ). get_or ys (length before) 0) e ∙ get_or_at before last [] 0 (length before) refl
+
+no_return : (line : List ℕ) → IsLine line → strip_carriage_return line ≡ line
+no_return line l =
+    let e = ends is_written line l.written (line_length line l) in
+    let last : get_or line (length line - 1) 0 ≡ e.last = last_of line e.before e.last e.is in
+    rw (last, written_no_return e.last e.passes) refl
+
+first_line : (line rest : List ℕ) → IsLine line → lines (line ++ 10 ∷ rest) ≡ line ∷ lines rest
+first_line line rest l =
+    let lacks = all_weaken is_written (λ b. not (b == 10)) written_no_end line l.written in
+    let place = cut_place (λ b. b == 10) line 10 rest lacks refl in
+    let all = lines_ended (line ++ 10 ∷ rest) (length line) (sym place) (omega (arith, length-append line (10 ∷ rest))) in
+    let front : take (length line) (line ++ 10 ∷ rest) ≡ line = take_at line (10 ∷ rest) _ refl in
+    let back : drop (length line + 1) (line ++ 10 ∷ rest) ≡ rest = rw (← place) (cut_behind (λ b. b == 10) line 10 rest lacks refl) in
+    all ∙ rw (front, back, no_return line l) refl
+
+word_lines : (w : ℕ) (ws : List ℕ) → w < 2 ^ 32 → lines (disassembled (w ∷ ws)) ≡ item_text (item_of_word w) ∷ lines (disassembled ws)
+unfolding disassembled
+word_lines w ws small =
+    let text = item_text (item_of_word w) in
+    ap lines (append_assoc text (10 ∷ []) (flat_map word_line ws)) ∙ first_line text (flat_map word_line ws) (item_read w small).shape
+
+abbrev pub AreWords : List ℕ → Type 0
+AreWords ws = AllByRecursion (λ w. w < 2 ^ 32) ws
+
+one_line : (labels : Labels) (number : ℕ) (before : List Item) (w : ℕ) → w < 2 ^ 32 → length before < 16384 → after_line labels number before (item_text (item_of_word w)) ≡ Ok (before ++ item_of_word w ∷ [])
+unfolding after_line
+one_line labels number before w small room =
+    let r = item_read w small in
+    let read = reads_line labels number (length before) (item_text (item_of_word w)) (item_of_word w) r.shape (r.read labels (length before)) in
+    let e : nat_lt (length before) 16384 ≡ true = lt-ltb _ _ room in
+    rw (read, e) refl
+
+no_lines : lines (disassembled []) ≡ []
+unfolding disassembled
+no_lines = refl
+
+pub items_again : (labels : Labels) (number : ℕ) (before : List Item) (ws : List ℕ) → AreWords ws → length before + length ws ≤ 16384
+    → items_from labels number before (lines (disassembled ws)) ≡ Ok (before ++ map item_of_word ws)
+unfolding items_from
+items_again labels number before [] words few = rw no_lines (ap Ok (sym (append-nil before)))
+items_again labels number before (w ∷ ws) words few =
+    let one = one_line labels number before w words.0 (omega arith) in
+    let more = items_again labels (number + 1) (before ++ item_of_word w ∷ []) ws words.1 (omega (arith, length-append before (item_of_word w ∷ []))) in
+    rw (word_lines w ws words.0, one, more, append_assoc before (item_of_word w ∷ []) (map item_of_word ws)) refl
+
+pub meaning_again : (ws : List ℕ) → AreWords ws → 0 < length ws → length ws ≤ 16384 → meaning (disassembled ws) ≡ Ok (map item_of_word ws)
+unfolding meaning
+meaning_again [] words some few = absurd (omega arith)
+meaning_again (w ∷ ws) words some few =
+    rw (items_again (labels_of (disassembled (w ∷ ws))) 1 [] (w ∷ ws) words few) (some_ok (map item_of_word (w ∷ ws)) (omega arith))
+
+-- ---- words of images
+
+abbrev pub IsBytes : List ℕ → Type 0
+IsBytes bytes = (i : ℕ) → get_or bytes i 0 < 256
+
+-- the words are four bytes each, and the image of their items is the image again
+pub record IsWhole (image : List ℕ) : Type 0 where
+  pub words : AreWords (image_words image)
+  pub count : 4 * length (image_words image) ≡ length image
+  pub again : flat_map item_bytes (map item_of_word (image_words image)) ≡ image
+
+four_bytes : (a b c d : ℕ) → a < 256 → b < 256 → c < 256 → d < 256 → IsBytes (a ∷ b ∷ c ∷ d ∷ [])
+four_bytes a b c d p q r s zero = p
+four_bytes a b c d p q r s (suc zero) = q
+four_bytes a b c d p q r s (suc (suc zero)) = r
+four_bytes a b c d p q r s (suc (suc (suc zero))) = s
+four_bytes a b c d p q r s (suc (suc (suc (suc i)))) = omega arith
+
+joined : (x y xs ys : List ℕ) → x ≡ y → xs ≡ ys → x ++ xs ≡ y ++ ys
+joined x y xs ys e f = ap (λ (z : List ℕ). z ++ xs) e ∙ ap (λ (zs : List ℕ). y ++ zs) f
+
+word_small : (a b c d : ℕ) → a < 256 → b < 256 → c < 256 → d < 256 → from_le_bytes w32 (a ∷ b ∷ c ∷ d ∷ []) < 2 ^ 32
+word_small a b c d p q r s = omega arith
+
+pub whole_image : (image : List ℕ) → IsBytes image → length image % 4 ≡ 0 → IsWhole image
+unfolding image_words
+whole_image [] bytes whole = record { words = tt; count = refl; again = refl }
+whole_image (a ∷ []) bytes whole = absurd (omega arith)
+whole_image (a ∷ b ∷ []) bytes whole = absurd (omega arith)
+whole_image (a ∷ b ∷ c ∷ []) bytes whole = absurd (omega arith)
+whole_image (a ∷ b ∷ c ∷ d ∷ rest) bytes whole =
+    let small = word_small a b c d (bytes 0) (bytes 1) (bytes 2) (bytes 3) in
+    let more = whole_image rest (λ i. bytes (suc (suc (suc (suc i))))) (omega arith) in
+    let four : IsBytes (a ∷ b ∷ c ∷ d ∷ []) = four_bytes a b c d (bytes 0) (bytes 1) (bytes 2) (bytes 3) in
+    let word = from_le_bytes w32 (a ∷ b ∷ c ∷ d ∷ []) in
+    let first : item_bytes (item_of_word word) ≡ a ∷ b ∷ c ∷ d ∷ [] = ap (to_le_bytes w32) (item_word_again word small) ∙ le_bytes_4 (a ∷ b ∷ c ∷ d ∷ []) word refl four refl in
+    record {
+      words = (small, more.words);
+      count = omega (arith, more.count);
+      again = joined (item_bytes (item_of_word word)) (a ∷ b ∷ c ∷ d ∷ []) (flat_map item_bytes (map item_of_word (image_words rest))) rest first more.again;
+    }
+
+pub assembled_again : (image : List ℕ) → IsBytes image → length image % 4 ≡ 0 → 0 < length image → length image ≤ 65536 → assembled (disassembled (image_words image)) ≡ Ok image
+unfolding assembled image_of
+assembled_again image bytes whole some few =
+    let w = whole_image image bytes whole in
+    rw (meaning_again (image_words image) w.words (omega (arith, w.count)) (omega (arith, w.count)), w.again) refl

@@ -1,0 +1,11 @@
+pub mod Blank
+pub mod Found
+pub mod Image
+pub mod Label
+pub mod Meaning
+pub mod Name
+pub mod Number
+pub mod Operand
+pub mod Refusal
+pub mod Statement
+pub mod Written

@@ -1,0 +1,35 @@
+ghost use Rattle.std.specs.Prelude.{◌≡◌, ◌≤◌, ◌==◌, length};
+ghost use Rattle.std.specs.List.{position_or_len, before_first, after_first};
+
+/// The place of the first such byte, or the length where there is none.
+pub fn place_of(text: &[u8], byte: u8) -> usize
+    ensures place { result ≡ position_or_len (λ b. b == byte) text.now }
+    ensures within { result ≤ length text.now }
+{
+    for (i, b) in text.iter().enumerate() {
+        if *b == byte {
+            return i;
+        }
+    }
+    text.len()
+}
+
+/// What stands before the first such byte, or all where there is none.
+pub fn before(text: &[u8], byte: u8) -> &[u8]
+    ensures part { result.now ≡ before_first (λ b. b == byte) text.now }
+    ensures short { length result.now ≤ length text.now }
+{
+    &text[..place_of(text, byte)]
+}
+
+/// What stands behind the first such byte, or nothing where there is none.
+pub fn behind(text: &[u8], byte: u8) -> &[u8]
+    ensures part { result.now ≡ after_first (λ b. b == byte) text.now }
+    ensures short { length result.now ≤ length text.now }
+{
+    let place = place_of(text, byte);
+    if place == text.len() {
+        return &text[place..];
+    }
+    &text[place + 1..]
+}
