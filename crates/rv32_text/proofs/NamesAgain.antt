@@ -13,7 +13,7 @@ use Rattle.rv32_text.specs.declared.rows.Atomic.TheVariants as atomic
 use Rattle.rv32_text.specs.declared.rows.Row.{Row}
 use Rattle.rv32_text.specs.declared.rows.Row.TheVariants as row
 use Rattle.rv32_text.specs.Blank.{is_blank, without_blanks_before, without_blanks_behind}
-use Rattle.rv32_text.specs.Name.{number_named, use_named, jump_named, access_named, number_row_named, register_row_named, other_named, register_of, register_name, set_of, set_name, row_of, row_name, plain_of, atomic_of, ordered_of}
+use Rattle.rv32_text.specs.Name.{number_named, use_named, named_among, register_of, register_name, set_of, set_name, row_of, row_name, plain_of, atomic_of, ordered_of}
 use Rattle.rv32_text.specs.Operand.{enclosed_in, address_in}
 use Rattle.rv32_text.specs.Written.{address_text}
 
@@ -82,7 +82,7 @@ abbrev pub IsRow : Row → Type 0
 IsRow r = (row_of (row_name r) ≡ Some r) × (long (row_name r) ≡ true) × (list_all is_clean (row_name r) ≡ true)
 
 pub row_again : (r : Row) → IsRow r
-unfolding row_of plain_of jump_named access_named number_row_named register_row_named other_named atomic_of ordered_of
+unfolding row_of plain_of named_among atomic_of ordered_of
 row_again row.Lui = (refl, refl, refl)
 row_again row.Auipc = (refl, refl, refl)
 row_again row.Jal = (refl, refl, refl)

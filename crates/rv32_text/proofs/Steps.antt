@@ -127,8 +127,8 @@ written_whole out rest total few all =
 
 -- ---- from the items to the answer
 
-ok_inj : (a b : List ℕ) → Ok {E = FirstFault} a ≡ Ok b → a ≡ b
-ok_inj a b e = cc
+same_ok : (r : Result (List ℕ) FirstFault) (a b : List ℕ) → r ≡ Ok a → r ≡ Ok b → a ≡ b
+same_ok r a b p q = cc
 
 pub same_whole : (labels : Labels) (items : List Item) (text : List ℕ) → labels ≡ labels_of text → items_from labels 1 [] (lines text) ≡ Ok items → assembled text ≡ encoded_items items
 unfolding assembled meaning encoded_items
@@ -137,7 +137,9 @@ same_whole labels items text same read = rw (← same, read) refl
 encoded_ok : (items : List Item) (image : List ℕ) → encoded_items items ≡ Ok image → (0 < length items) × (image ≡ image_of items)
 unfolding encoded_items some_item
 encoded_ok [] image e = cc
-encoded_ok (i ∷ items) image e = (omega arith, sym (ok_inj (image_of (i ∷ items)) image (sym (ap (λ (r : Result (List Item) FirstFault). r >>= (λ xs. Ok (image_of xs))) (some_ok (i ∷ items) (omega arith))) ∙ e)))
+encoded_ok (i ∷ items) image e =
+    let whole = ap (λ (r : Result (List Item) FirstFault). r >>= (λ xs. Ok (image_of xs))) (some_ok (i ∷ items) (omega arith)) in
+    (omega arith, same_ok _ image (image_of (i ∷ items)) e whole)
 
 image_is : (labels : Labels) (items : List Item) (text image : List ℕ) → labels ≡ labels_of text → items_from labels 1 [] (lines text) ≡ Ok items
     → AllByRecursion FitsItem items → length items ≤ 16384 → encoded_items items ≡ Ok image → IsImageOf text image
@@ -152,12 +154,19 @@ image_is labels items text image same read fits few e =
       words = subst (λ (xs : List ℕ). AreWordsOf (image_words xs) items) (sym parts.1) (are_words items fits);
     }
 
-pub gives_whole : {X : Type 0} (view : X → List ℕ) (r : Result X TextRefusal) (labels : Labels) (items : List Item) (text : List ℕ) → labels ≡ labels_of text
-    → items_from labels 1 [] (lines text) ≡ Ok items → Gives view r (encoded_items items) → Gives view r (assembled text)
-gives_whole view r labels items text same read given = subst (λ (read : Result (List ℕ) FirstFault). Gives view r read) (sym (same_whole labels items text same read)) given
+pub gives_whole : {X : Type 0} (view : X → List ℕ) (r : Result X TextRefusal) (labels : Labels) (items shown : List Item) (text : List ℕ) → labels ≡ labels_of text
+    → items_from labels 1 [] (lines text) ≡ Ok items → shown ≡ items → Gives view r (encoded_items shown) → Gives view r (assembled text)
+gives_whole view r labels items shown text same read e given =
+    subst (λ (read : Result (List ℕ) FirstFault). Gives view r read) (ap encoded_items e ∙ sym (same_whole labels items text same read)) given
 
-pub image_whole : {X : Type 0} (view : X → List ℕ) (r : Result X TextRefusal) (labels : Labels) (items : List Item) (text : List ℕ) → labels ≡ labels_of text
+given_image : {X : Type 0} (view : X → List ℕ) (r : Result X TextRefusal) (labels : Labels) (items : List Item) (text : List ℕ) → labels ≡ labels_of text
     → items_from labels 1 [] (lines text) ≡ Ok items → AllByRecursion FitsItem items → length items ≤ 16384 → Gives view r (encoded_items items)
     → IfOk r (λ x. IsImageOf text (view x))
-image_whole view (Ok x) labels items text same read fits few given = image_is labels items text (view x) same read fits few given
-image_whole view (Err e) labels items text same read fits few given = tt
+given_image view (Ok x) labels items text same read fits few given = image_is labels items text (view x) same read fits few given
+given_image view (Err e) labels items text same read fits few given = tt
+
+pub image_whole : {X : Type 0} (view : X → List ℕ) (r : Result X TextRefusal) (labels : Labels) (items shown : List Item) (text : List ℕ) → labels ≡ labels_of text
+    → items_from labels 1 [] (lines text) ≡ Ok items → AllByRecursion FitsItem items → length items ≤ 16384 → shown ≡ items → Gives view r (encoded_items shown)
+    → IfOk r (λ x. IsImageOf text (view x))
+image_whole view r labels items shown text same read fits few e given =
+    given_image view r labels items text same read fits few (subst (λ (xs : List Item). Gives view r (encoded_items xs)) e given)

@@ -114,7 +114,7 @@ pub meaning_again : (ws : List ℕ) → AreWords ws → 0 < length ws → length
 unfolding meaning
 meaning_again [] words some few = absurd (omega arith)
 meaning_again (w ∷ ws) words some few =
-    rw (items_again (labels_of (disassembled (w ∷ ws))) 1 [] (w ∷ ws) words few) (some_ok (map item_of_word (w ∷ ws)) (omega arith))
+    rw (items_again (labels_of (disassembled (w ∷ ws))) 1 [] (w ∷ ws) words (omega arith)) (some_ok (map item_of_word (w ∷ ws)) (omega arith))
 
 -- ---- words of images
 

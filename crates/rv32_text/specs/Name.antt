@@ -37,11 +37,15 @@ use_names =
     codes "a6" ∷ codes "a7" ∷ codes "s2" ∷ codes "s3" ∷ codes "s4" ∷ codes "s5" ∷ codes "s6" ∷ codes "s7" ∷
     codes "s8" ∷ codes "s9" ∷ codes "s10" ∷ codes "s11" ∷ codes "t3" ∷ codes "t4" ∷ codes "t5" ∷ codes "t6" ∷ []
 
+-- the place of a text among names
+abbrev pub place_among : List (List ℕ) → List ℕ → Option ℕ
+place_among names text = position (bytes_eq text) names
+
 unfoldable pub number_named : List ℕ → Option ℕ
-number_named text = position (bytes_eq text) number_names
+number_named text = place_among number_names text
 
 unfoldable pub use_named : List ℕ → Option ℕ
-use_named text = position (bytes_eq text) use_names
+use_named text = place_among use_names text
 
 -- the register that a text names, if it names one; s0 is also called fp
 unfoldable pub register_of : List ℕ → Option ℕ
@@ -59,7 +63,7 @@ set_names =
     codes "i" ∷ codes "iw" ∷ codes "ir" ∷ codes "irw" ∷ codes "io" ∷ codes "iow" ∷ codes "ior" ∷ codes "iorw" ∷ []
 
 unfoldable pub set_of : List ℕ → Option ℕ
-set_of text = position (bytes_eq text) set_names
+set_of text = place_among set_names text
 
 abbrev pub set_name : ℕ → List ℕ
 set_name number = slice_index_or set_names number []
@@ -158,53 +162,30 @@ ending_name _ = []
 abbrev pub row_name : Row → List ℕ
 row_name r = base_name r ++ ending_name r
 
--- the rows without an ordering, in groups
-abbrev pub jump_rows : List Row
-jump_rows =
-    row.Lui ∷ row.Auipc ∷ row.Jal ∷ row.Jalr ∷ row.Branch branch.Beq ∷ row.Branch branch.Bne ∷ row.Branch branch.Blt ∷ row.Branch branch.Bge ∷ row.Branch branch.Bltu ∷ row.Branch branch.Bgeu ∷ []
-
-abbrev pub access_rows : List Row
-access_rows =
-    row.Load load.Lb ∷ row.Load load.Lh ∷ row.Load load.Lw ∷ row.Load load.Lbu ∷ row.Load load.Lhu ∷ row.Store store.Sb ∷ row.Store store.Sh ∷ row.Store store.Sw ∷ []
-
-abbrev pub number_rows : List Row
-number_rows =
-    row.OpImm op_imm.Addi ∷ row.OpImm op_imm.Slti ∷ row.OpImm op_imm.Sltiu ∷ row.OpImm op_imm.Xori ∷ row.OpImm op_imm.Ori ∷ row.OpImm op_imm.Andi ∷ row.OpImm op_imm.Slli ∷ row.OpImm op_imm.Srli ∷ row.OpImm op_imm.Srai ∷ []
-
-abbrev pub register_rows : List Row
-register_rows =
-    row.Op op.Add ∷ row.Op op.Sll ∷ row.Op op.Slt ∷ row.Op op.Sltu ∷ row.Op op.Xor ∷ row.Op op.Srl ∷ row.Op op.Or ∷ row.Op op.And ∷ row.Op op.Sub ∷ row.Op op.Sra ∷ []
-
-abbrev pub other_rows : List Row
-other_rows = row.Fence ∷ row.FenceTso ∷ row.Ecall ∷ row.Ebreak ∷ row.Word ∷ []
+-- the rows without an ordering
+abbrev pub plain_rows : List Row
+plain_rows =
+    row.Lui ∷ row.Auipc ∷ row.Jal ∷ row.Jalr ∷
+    row.Branch branch.Beq ∷ row.Branch branch.Bne ∷ row.Branch branch.Blt ∷ row.Branch branch.Bge ∷ row.Branch branch.Bltu ∷ row.Branch branch.Bgeu ∷
+    row.Load load.Lb ∷ row.Load load.Lh ∷ row.Load load.Lw ∷ row.Load load.Lbu ∷ row.Load load.Lhu ∷
+    row.Store store.Sb ∷ row.Store store.Sh ∷ row.Store store.Sw ∷
+    row.OpImm op_imm.Addi ∷ row.OpImm op_imm.Slti ∷ row.OpImm op_imm.Sltiu ∷ row.OpImm op_imm.Xori ∷ row.OpImm op_imm.Ori ∷
+    row.OpImm op_imm.Andi ∷ row.OpImm op_imm.Slli ∷ row.OpImm op_imm.Srli ∷ row.OpImm op_imm.Srai ∷
+    row.Op op.Add ∷ row.Op op.Sll ∷ row.Op op.Slt ∷ row.Op op.Sltu ∷ row.Op op.Xor ∷
+    row.Op op.Srl ∷ row.Op op.Or ∷ row.Op op.And ∷ row.Op op.Sub ∷ row.Op op.Sra ∷
+    row.Fence ∷ row.FenceTso ∷ row.Ecall ∷ row.Ebreak ∷ row.Word ∷ []
 
 abbrev pub atomics : List Atomic
 atomics =
     atomic.Lr ∷ atomic.Sc ∷ atomic.Amo amo.Swap ∷ atomic.Amo amo.Add ∷ atomic.Amo amo.Xor ∷ atomic.Amo amo.And ∷ atomic.Amo amo.Or ∷
     atomic.Amo amo.Min ∷ atomic.Amo amo.Max ∷ atomic.Amo amo.Minu ∷ atomic.Amo amo.Maxu ∷ []
 
--- the row among these that has the name
-abbrev pub named_among : List Row → List ℕ → Option Row
+-- the first of these rows that has the name
+unfoldable pub named_among : List Row → List ℕ → Option Row
 named_among rows text = find (λ r. bytes_eq text (base_name r)) rows
 
-unfoldable pub jump_named : List ℕ → Option Row
-jump_named text = named_among jump_rows text
-
-unfoldable pub access_named : List ℕ → Option Row
-access_named text = named_among access_rows text
-
-unfoldable pub number_row_named : List ℕ → Option Row
-number_row_named text = named_among number_rows text
-
-unfoldable pub register_row_named : List ℕ → Option Row
-register_row_named text = named_among register_rows text
-
-unfoldable pub other_named : List ℕ → Option Row
-other_named text = named_among other_rows text
-
 unfoldable pub plain_of : List ℕ → Option Row
-plain_of text =
-    option_or (jump_named text) (option_or (access_named text) (option_or (number_row_named text) (option_or (register_row_named text) (other_named text))))
+plain_of text = named_among plain_rows text
 
 -- an atomic row with this ordering, by its name without it
 unfoldable pub ordered_of : List ℕ → Bool → Bool → Option Row

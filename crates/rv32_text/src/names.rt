@@ -1,5 +1,7 @@
-ghost use Rattle.std.specs.Prelude.{◌≡◌, ◌<◌, IfSome};
-ghost use Rattle.rv32_text.specs.Name.{number_named as number_named_of, use_named as use_named_of, register_of, register_name as register_name_of, set_of, set_name as set_name_of, branch_name as branch_name_of, load_name as load_name_of, store_name as store_name_of, op_imm_name as op_imm_name_of, op_name as op_name_of, amo_name as amo_name_of, atomic_name as atomic_name_of, ordering_name as ordering_name_of, ending_name as ending_name_of, base_name as base_name_of, jump_named as jump_named_of, access_named as access_named_of, number_row_named as number_row_named_of, register_row_named as register_row_named_of, other_named as other_named_of, plain_of, ordered_of, atomic_of, row_of};
+ghost use Rattle.std.specs.Prelude.{◌≡◌, ◌<◌, [], length, map, slice_index_or, IfSome};
+ghost use Rattle.std.specs.List.{position};
+ghost use Rattle.std.specs.Str.{bytes_eq};
+ghost use Rattle.rv32_text.specs.Name.{number_named as number_named_of, use_named as use_named_of, register_of, register_name as register_name_of, set_of, set_name as set_name_of, branch_name as branch_name_of, load_name as load_name_of, store_name as store_name_of, op_imm_name as op_imm_name_of, op_name as op_name_of, amo_name as amo_name_of, atomic_name as atomic_name_of, ordering_name as ordering_name_of, ending_name as ending_name_of, base_name as base_name_of, named_among as named_among_of, plain_of, ordered_of, atomic_of, row_of};
 
 use crate::rows::{Atomic, Row};
 use rv32_decode::{AmoKind, BranchKind, LoadKind, OpImmKind, OpKind, StoreKind};
@@ -24,12 +26,20 @@ const SET_NAMES: [&[u8]; 16] = [
     b"ior", b"iorw",
 ];
 
+/// The place of a text among names.
+fn place_among(names: &[&[u8]], text: &[u8]) -> Option<usize>
+    ensures place { result ≡ position (λ name. bytes_eq text.now name.now) names.now }
+    ensures within { IfSome result (λ place. place < length names.now) }
+{
+    names.iter().position(|name| text == *name)
+}
+
 #[tactic(auto, unfolding(crate::specs::Name::number_named))]
 fn number_named(text: &[u8]) -> Option<usize>
     ensures register { result ≡ number_named_of text.now }
     ensures within { IfSome result (λ number. number < 32) }
 {
-    NUMBER_NAMES.iter().position(|name| text == *name)
+    place_among(&NUMBER_NAMES, text)
 }
 
 #[tactic(auto, unfolding(crate::specs::Name::use_named))]
@@ -37,7 +47,7 @@ fn use_named(text: &[u8]) -> Option<usize>
     ensures register { result ≡ use_named_of text.now }
     ensures within { IfSome result (λ number. number < 32) }
 {
-    USE_NAMES.iter().position(|name| text == *name)
+    place_among(&USE_NAMES, text)
 }
 
 /// The register that a text names; `s0` is also called `fp`.
@@ -58,12 +68,20 @@ pub fn register(text: &[u8]) -> Option<u8>
     None
 }
 
+/// The name at a place of a table.
+fn name_at(names: &[&'static [u8]], place: u8) -> &'static [u8]
+    requires { place < length names.now }
+    ensures { result.now ≡ slice_index_or (map (λ name. name.now) names.now) place [] }
+{
+    names[usize::from(place)]
+}
+
 /// The name of a register by its number.
 pub fn register_name(number: u8) -> &'static [u8]
     requires { number < 32 }
     ensures { result.now ≡ register_name_of number }
 {
-    NUMBER_NAMES[usize::from(number)]
+    name_at(&NUMBER_NAMES, number)
 }
 
 #[tactic(auto, unfolding(crate::specs::Name::set_of))]
@@ -71,7 +89,7 @@ fn set_named(text: &[u8]) -> Option<usize>
     ensures set { result ≡ set_of text.now }
     ensures within { IfSome result (λ set. set < 16) }
 {
-    SET_NAMES.iter().position(|name| text == *name)
+    place_among(&SET_NAMES, text)
 }
 
 /// The set of accesses that a text names.
@@ -88,7 +106,7 @@ pub fn set_name(set: u8) -> &'static [u8]
     requires { set < 16 }
     ensures { result.now ≡ set_name_of set }
 {
-    SET_NAMES[usize::from(set)]
+    name_at(&SET_NAMES, set)
 }
 
 /// The name of a branch.
@@ -250,7 +268,8 @@ pub fn ending_name(row: Row) -> &'static [u8]
     }
 }
 
-const JUMPS: [Row; 10] = [
+/// The rows without an ordering.
+const PLAIN: [Row; 42] = [
     Row::Lui,
     Row::Auipc,
     Row::Jal,
@@ -261,9 +280,6 @@ const JUMPS: [Row; 10] = [
     Row::Branch(BranchKind::Bge),
     Row::Branch(BranchKind::Bltu),
     Row::Branch(BranchKind::Bgeu),
-];
-
-const ACCESSES: [Row; 8] = [
     Row::Load(LoadKind::Lb),
     Row::Load(LoadKind::Lh),
     Row::Load(LoadKind::Lw),
@@ -272,9 +288,6 @@ const ACCESSES: [Row; 8] = [
     Row::Store(StoreKind::Sb),
     Row::Store(StoreKind::Sh),
     Row::Store(StoreKind::Sw),
-];
-
-const NUMBER_ROWS: [Row; 9] = [
     Row::OpImm(OpImmKind::Addi),
     Row::OpImm(OpImmKind::Slti),
     Row::OpImm(OpImmKind::Sltiu),
@@ -284,9 +297,6 @@ const NUMBER_ROWS: [Row; 9] = [
     Row::OpImm(OpImmKind::Slli),
     Row::OpImm(OpImmKind::Srli),
     Row::OpImm(OpImmKind::Srai),
-];
-
-const REGISTER_ROWS: [Row; 10] = [
     Row::Op(OpKind::Add),
     Row::Op(OpKind::Sll),
     Row::Op(OpKind::Slt),
@@ -297,9 +307,6 @@ const REGISTER_ROWS: [Row; 10] = [
     Row::Op(OpKind::And),
     Row::Op(OpKind::Sub),
     Row::Op(OpKind::Sra),
-];
-
-const OTHERS: [Row; 5] = [
     Row::Fence,
     Row::FenceTso,
     Row::Ecall,
@@ -322,48 +329,12 @@ const ATOMICS: [Atomic; 11] = [
     Atomic::Amo(AmoKind::Maxu),
 ];
 
-#[tactic(auto, unfolding(crate::specs::Name::jump_named))]
-fn jump_named(text: &[u8]) -> Option<Row>
-    ensures { result ≡ jump_named_of text.now }
+/// The first of these rows that has the name.
+#[tactic(auto, unfolding(crate::specs::Name::named_among))]
+fn named_among(rows: &[Row], text: &[u8]) -> Option<Row>
+    ensures { result ≡ named_among_of rows.now text.now }
 {
-    JUMPS.iter().find(|row| text == base_name(**row)).copied()
-}
-
-#[tactic(auto, unfolding(crate::specs::Name::access_named))]
-fn access_named(text: &[u8]) -> Option<Row>
-    ensures { result ≡ access_named_of text.now }
-{
-    ACCESSES
-        .iter()
-        .find(|row| text == base_name(**row))
-        .copied()
-}
-
-#[tactic(auto, unfolding(crate::specs::Name::number_row_named))]
-fn number_row_named(text: &[u8]) -> Option<Row>
-    ensures { result ≡ number_row_named_of text.now }
-{
-    NUMBER_ROWS
-        .iter()
-        .find(|row| text == base_name(**row))
-        .copied()
-}
-
-#[tactic(auto, unfolding(crate::specs::Name::register_row_named))]
-fn register_row_named(text: &[u8]) -> Option<Row>
-    ensures { result ≡ register_row_named_of text.now }
-{
-    REGISTER_ROWS
-        .iter()
-        .find(|row| text == base_name(**row))
-        .copied()
-}
-
-#[tactic(auto, unfolding(crate::specs::Name::other_named))]
-fn other_named(text: &[u8]) -> Option<Row>
-    ensures { result ≡ other_named_of text.now }
-{
-    OTHERS.iter().find(|row| text == base_name(**row)).copied()
+    rows.iter().find(|row| text == base_name(**row)).copied()
 }
 
 /// A row without an ordering, by its name.
@@ -371,19 +342,7 @@ fn other_named(text: &[u8]) -> Option<Row>
 fn plain(text: &[u8]) -> Option<Row>
     ensures { result ≡ plain_of text.now }
 {
-    if let Some(row) = jump_named(text) {
-        return Some(row);
-    }
-    if let Some(row) = access_named(text) {
-        return Some(row);
-    }
-    if let Some(row) = number_row_named(text) {
-        return Some(row);
-    }
-    if let Some(row) = register_row_named(text) {
-        return Some(row);
-    }
-    other_named(text)
+    named_among(&PLAIN, text)
 }
 
 /// An atomic row with this ordering, by its name without it.

@@ -9,8 +9,8 @@ returns-in-Err-clause-exact c =
 
 pub returns-in-Ok-clause-exact : goal.returns-in-Ok-clause-exact
 returns-in-Ok-clause-exact c =
-    gives_whole _ c.encoded.result (found_in c.args.labels.now) c.in-Ok.items.items c.args.text.now (fun_ext c.requires.labels) c.in-Ok.ensures.exact c.encoded.ensures
+    gives_whole _ c.encoded.result (found_in c.args.labels.now) c.in-Ok.items.items c.deref.result.now c.args.text.now (fun_ext c.requires.labels) c.in-Ok.ensures.exact c.deref.ensures.value c.encoded.ensures
 
 pub returns-in-Ok-clause-image : goal.returns-in-Ok-clause-image
 returns-in-Ok-clause-image c =
-    image_whole _ c.encoded.result (found_in c.args.labels.now) c.in-Ok.items.items c.args.text.now (fun_ext c.requires.labels) c.in-Ok.ensures.exact c.in-Ok.ensures.fit c.in-Ok.ensures.few c.encoded.ensures
+    image_whole _ c.encoded.result (found_in c.args.labels.now) c.in-Ok.items.items c.deref.result.now c.args.text.now (fun_ext c.requires.labels) c.in-Ok.ensures.exact c.in-Ok.ensures.fit c.in-Ok.ensures.few c.deref.ensures.value c.encoded.ensures

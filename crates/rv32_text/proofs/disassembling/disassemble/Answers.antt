@@ -8,8 +8,8 @@ use Rattle.rv32_text.proofs.disassembling.disassemble.Goals as goal
 
 pub loop-rest-preserved : goal.loop-rest-preserved
 loop-rest-preserved c = record {
-  same = writes_on c.loop-rest.out.items c.put_line.new.out.items c.first_word.result.0 (image_words c.first_word.result.1.now) (image_words c.loop-rest.rest.now) _ c.in_ok-put_line.ensures c.first_word.ensures.words c.loop-rest.invariant.same;
-  whole = omega (arith, ap length c.first_word.ensures.rest, length-drop 4 c.loop-rest.rest.now);
+  same = writes_on c.loop-rest.out.items c.put_line.new.out.items c.first_word-word.result.0 (image_words c.first_word-word.result.1.now) (image_words c.loop-rest.rest.now) _ c.in_ok-put_line.ensures c.first_word-word.ensures.words c.loop-rest.invariant.same;
+  whole = omega (arith, ap length c.first_word-word.ensures.rest, length-drop 4 c.loop-rest.rest.now);
 }
 
 pub returns-clause-text : goal.returns-clause-text

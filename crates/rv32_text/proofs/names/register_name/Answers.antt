@@ -1,4 +1,4 @@
 use Rattle.rv32_text.proofs.names.register_name.Goals as goal
 
 pub returns : goal.returns
-returns c = ?
+returns c = c.name_at.ensures
