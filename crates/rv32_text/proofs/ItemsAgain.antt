@@ -1,6 +1,6 @@
 -- The text of each item that fits is read as that item.
-use Rattle.std.proofs.Common.{◌≡◌, ℕ, zero, suc, ◌+◌, ◌*◌, ◌/◌, ◌%◌, ◌<◌, ◌≤◌, ◌^◌, Bool, true, false, not, cond, ◌&&◌, ◌||◌, ◌==◌, List, [], ◌∷◌, ◌++◌, length, refl, sym, ap, ◌∙◌, subst, arith, Result, Ok, Err, Some}
-use Rattle.std.specs.Prelude.{nat_lt, nat_le, ℤ, pos, negsuc, ◌≤ℤ◌, ◌<ℤ◌, MatchBool}
+use Rattle.std.proofs.Common.{◌≡◌, ℕ, ◌*◌, ◌/◌, ◌%◌, ◌<◌, ◌^◌, Bool, true, false, not, cond, ◌&&◌, ◌||◌, ◌==◌, List, [], ◌∷◌, ◌++◌, refl, ap, ◌∙◌, arith, Ok}
+use Rattle.std.specs.Prelude.{ℤ, pos, negsuc, ◌≤ℤ◌, ◌<ℤ◌, MatchBool}
 use Rattle.std.specs.List.{list_all, before_first, after_first}
 use Rattle.std.specs.Fmt.{decimal, signed_decimal}
 use Rattle.std.proofs.lemmas.Bool.{eqb-true}
@@ -11,21 +11,18 @@ use Rattle.rv32_decode.specs.declared.instruction.Instr.TheVariants as instr
 use Rattle.rv32_decode.specs.declared.instruction.OpImmKind.{OpImmKind}
 use Rattle.rv32_decode.specs.Kinds.{is_shift}
 use Rattle.rv32_decode.specs.Instr.{Fits, IsSigned, IsEven, FitsImmediate}
-use Rattle.rv32_text.specs.declared.items.Item.{Item}
 use Rattle.rv32_text.specs.declared.items.Item.TheVariants as item
-use Rattle.rv32_text.specs.declared.rows.Atomic.{Atomic}
 use Rattle.rv32_text.specs.declared.rows.Atomic.TheVariants as atomic
-use Rattle.rv32_text.specs.declared.rows.Row.{Row}
 use Rattle.rv32_text.specs.declared.rows.Row.TheVariants as row
 use Rattle.rv32_text.specs.Refusal.{◌>>=◌}
 use Rattle.rv32_text.specs.Blank.{trimmed}
-use Rattle.rv32_text.specs.Number.{number_in, up_to, signed_within, even_within}
-use Rattle.rv32_text.specs.Name.{register_of, register_name, set_of, set_name, row_name}
+use Rattle.rv32_text.specs.Number.{up_to, signed_within}
+use Rattle.rv32_text.specs.Name.{register_name, set_name, row_name}
 use Rattle.rv32_text.specs.Label.{is_label}
-use Rattle.rv32_text.specs.Operand.{first_operand, second_operand, third_operand, enclosed_in, address_in, based_in, target_in, upper_at, jump_at, branch_at, based_at, immediate_within, immediate_at, registers_at, sets_at, address_at, exchange_at, plain_at}
-use Rattle.rv32_text.specs.Statement.{item_at, atomic_at, FitsItem}
-use Rattle.rv32_text.specs.Written.{has_text, based_text, address_text, word_text, instr_text, item_text, with_two, with_three, fence_text}
-use Rattle.rv32_text.proofs.Clean.{Lacks, both, all_join, all_weaken, cut_before, cut_behind, and_true, Starts, Ends, starts, ends, is_solid, kept}
+use Rattle.rv32_text.specs.Operand.{based_in, target_in, upper_at, jump_at, branch_at, based_at, immediate_within, immediate_at, registers_at, sets_at, address_at, exchange_at, plain_at}
+use Rattle.rv32_text.specs.Statement.{item_at, atomic_at}
+use Rattle.rv32_text.specs.Written.{has_text, based_text, address_text, word_text, instr_text, item_text, with_two, fence_text}
+use Rattle.rv32_text.proofs.Clean.{Lacks, all_join, all_weaken, cut_before, cut_behind, and_true, Starts, starts, kept}
 use Rattle.rv32_text.proofs.NamesAgain.{is_clean, IsPiece, piece, register_again, set_again}
 use Rattle.rv32_text.proofs.Numerals.{IsShort, number_again, decimal_piece, signed_piece, is_numeral_byte, signed_bytes, is_decimal_byte, decimal_digits, up_to_again, signed_again, even_again, short_from, word_again, word_piece}
 use Rattle.rv32_text.proofs.OperandsAgain.{piece_starts, piece_ends, first_alone, first_before, second_alone, second_before, third_alone}

@@ -1,16 +1,14 @@
 -- A written line is read as its row and its operands.
-use Rattle.std.proofs.Common.{◌≡◌, ℕ, zero, suc, ◌+◌, ◌<◌, Bool, true, false, not, ◌&&◌, ◌||◌, ◌==◌, List, [], ◌∷◌, ◌++◌, length, drop, refl, sym, ap, ◌∙◌, arith, Option, Some, None, Result, Ok, Err}
+use Rattle.std.proofs.Common.{◌≡◌, ℕ, ◌<◌, Bool, true, false, not, ◌&&◌, ◌||◌, ◌==◌, List, [], ◌∷◌, ◌++◌, length, refl, sym, ap, ◌∙◌, arith, Option, Some, Ok}
 use Rattle.std.specs.Prelude.{nat_lt, nat_le}
-use Rattle.std.specs.List.{list_all, before_first, after_first, position_or_len}
+use Rattle.std.specs.List.{list_all}
 use Rattle.std.proofs.lemmas.Bool.{le-ltb, eq-eqb, ne_eqb}
-use Rattle.std.proofs.lemmas.List.{append_assoc, append-nil, drop_at, drop_all}
-use Rattle.rv32_text.specs.declared.faults.TextFault.{TextFault}
-use Rattle.rv32_text.specs.declared.faults.TextFault.TheVariants as faults
+use Rattle.std.proofs.lemmas.List.{append_assoc, drop_at, drop_all}
 use Rattle.rv32_text.specs.declared.items.Item.{Item}
 use Rattle.rv32_text.specs.declared.labels.Defined.{Defined}
 use Rattle.rv32_text.specs.declared.rows.Row.{Row}
-use Rattle.rv32_text.specs.Blank.{is_blank, is_text, trimmed, without_blanks_before, without_blanks_behind}
-use Rattle.rv32_text.specs.Name.{row_of, row_name}
+use Rattle.rv32_text.specs.Blank.{is_blank, is_text}
+use Rattle.rv32_text.specs.Name.{row_name}
 use Rattle.rv32_text.specs.Label.{before_comment, has_colon, statement_of}
 use Rattle.rv32_text.specs.Operand.{operand_count}
 use Rattle.rv32_text.specs.Statement.{name_of, operands_of, operands_wanted, item_at, item_in, is_labelled, line_item}

@@ -1,6 +1,6 @@
 -- The names that are written are read again.
-use Rattle.std.proofs.Common.{◌≡◌, ℕ, zero, suc, ◌+◌, ◌<◌, ◌≤◌, Bool, true, false, not, ◌&&◌, ◌==◌, List, [], ◌∷◌, ◌++◌, length, refl, sym, subst, arith, inl, inr, Some, Ok}
-use Rattle.std.specs.Prelude.{codes, nat_lt}
+use Rattle.std.proofs.Common.{◌≡◌, ℕ, zero, suc, ◌<◌, Bool, true, false, not, ◌&&◌, ◌==◌, List, [], ◌∷◌, ◌++◌, length, refl, subst, arith, inl, inr, Some, Ok}
+use Rattle.std.specs.Prelude.{nat_lt}
 use Rattle.std.specs.List.{list_all}
 use Rattle.std.proofs.lemmas.Bool.{cases_lt}
 use Rattle.rv32_decode.specs.declared.instruction.BranchKind.TheVariants as branch
@@ -12,7 +12,7 @@ use Rattle.rv32_decode.specs.declared.instruction.AmoKind.TheVariants as amo
 use Rattle.rv32_text.specs.declared.rows.Atomic.TheVariants as atomic
 use Rattle.rv32_text.specs.declared.rows.Row.{Row}
 use Rattle.rv32_text.specs.declared.rows.Row.TheVariants as row
-use Rattle.rv32_text.specs.Blank.{is_blank, without_blanks_before, without_blanks_behind}
+use Rattle.rv32_text.specs.Blank.{without_blanks_before, without_blanks_behind}
 use Rattle.rv32_text.specs.Name.{number_named, use_named, named_among, register_of, register_name, set_of, set_name, row_of, row_name, plain_of, atomic_of, ordered_of}
 use Rattle.rv32_text.specs.Operand.{enclosed_in, address_in}
 use Rattle.rv32_text.specs.Written.{address_text}

@@ -1,6 +1,6 @@
 -- The numbers that are written are read again.
-use Rattle.std.proofs.Common.{◌≡◌, ℕ, zero, suc, ◌+◌, ◌-◌, ◌*◌, ◌/◌, ◌%◌, ◌<◌, ◌≤◌, ◌^◌, ◌∙◌, true, false, not, Bool, cond, ◌&&◌, ◌==◌, eqb, ltb, List, [], ◌∷◌, ◌++◌, length, get_or, take, drop, ◌⊎◌, inl, inr, ap, sym, refl, subst, arith, Some, None, Ok, Err}
-use Rattle.std.specs.Prelude.{nat_lt, nat_le, nat_eq, codes, ℤ, pos, negsuc, neg_ℤ, ◌≤ℤ◌, ◌<ℤ◌, unsigned_abs, int_lt}
+use Rattle.std.proofs.Common.{◌≡◌, ℕ, suc, ◌*◌, ◌/◌, ◌%◌, ◌<◌, ◌≤◌, ◌^◌, true, false, Bool, ◌&&◌, eqb, ltb, List, [], ◌∷◌, length, ap, refl, arith, Some, Ok}
+use Rattle.std.specs.Prelude.{nat_le, nat_eq, codes, ℤ, pos, negsuc, neg_ℤ, int_lt}
 use Rattle.std.specs.List.{list_all, prefix_len, starts_with}
 use Rattle.std.specs.Char.{is_digit, digit_value}
 use Rattle.std.specs.Str.Parse.{AllDigits, digits_value}
@@ -9,12 +9,12 @@ use Rattle.std.proofs.lemmas.Fmt.{digits_decimal, digits_value-decimal, decimal_
 use Rattle.std.proofs.lemmas.Str.Parse.{IsNumeralModel, numerals_by_value, tells_digits}
 use Rattle.std.proofs.lemmas.Bool.{lt-ltb, le-ltb, le-leb, ne_eqb}
 use Rattle.std.proofs.lemmas.Int.{ints}
-use Rattle.mind_base.specs.Number.{number_of, numeral_of, limited_value}
+use Rattle.mind_base.specs.Number.{numeral_of}
 use Rattle.rv32_decode.specs.Instr.{IsSigned, IsEven}
 use Rattle.rv32_text.specs.Number.{magnitude_of, integer_of, number_in, up_to, signed_within, even_within}
 use Rattle.rv32_text.specs.Written.{hex_glyph, word_text}
 use Rattle.rv32_text.proofs.Clean.{both, all_weaken}
-use Rattle.rv32_text.proofs.NamesAgain.{is_clean, IsPiece, EachBelow, each_below, piece}
+use Rattle.rv32_text.proofs.NamesAgain.{is_clean, IsPiece, EachBelow, each_below}
 
 own : IsNumeralModel (AllDigits 10) (digits_value 10)
 own = numerals_by_value (AllDigits 10) tells_digits

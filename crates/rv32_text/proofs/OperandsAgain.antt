@@ -1,13 +1,13 @@
 -- The operands that are written, a comma and a space apart, are found again.
-use Rattle.std.proofs.Common.{◌≡◌, ℕ, zero, suc, ◌+◌, ◌<◌, Bool, true, false, not, cond, ◌&&◌, ◌==◌, List, [], ◌∷◌, ◌++◌, length, filter, refl, sym, ap, ◌∙◌, arith}
-use Rattle.std.specs.Prelude.{nat_lt, count_by}
-use Rattle.std.specs.List.{list_all, before_first, after_first}
+use Rattle.std.proofs.Common.{◌≡◌, ℕ, suc, ◌+◌, Bool, true, false, not, ◌==◌, List, [], ◌∷◌, ◌++◌, length, filter, refl, sym, ap, ◌∙◌, arith}
+use Rattle.std.specs.Prelude.{count_by}
+use Rattle.std.specs.List.{list_all, after_first}
 use Rattle.std.proofs.lemmas.Bool.{ne_eqb}
 use Rattle.std.proofs.lemmas.List.{append-nil}
 use Rattle.std.proofs.lemmas.List.Sums.{length-filter}
-use Rattle.rv32_text.specs.Blank.{is_blank, without_blanks_before, without_blanks_behind, trimmed}
+use Rattle.rv32_text.specs.Blank.{without_blanks_before, without_blanks_behind, trimmed}
 use Rattle.rv32_text.specs.Operand.{operand_count, first_operand, second_operand, third_operand}
-use Rattle.rv32_text.proofs.Clean.{Lacks, and_true, not_true, all_weaken, cut_before, cut_behind, uncut, uncut_place, Starts, Ends, starts, ends, starts_more, ends_behind, ends_cons, is_solid, space_trimmed}
+use Rattle.rv32_text.proofs.Clean.{Lacks, and_true, not_true, all_weaken, cut_before, cut_behind, uncut, Starts, Ends, starts, ends, starts_more, ends_behind, is_solid, space_trimmed}
 use Rattle.rv32_text.proofs.NamesAgain.{is_clean, IsPiece}
 
 abbrev pub is_comma : ℕ → Bool

@@ -1,14 +1,13 @@
 -- Reading lines one after the other, as a loop does, and what an image has of the items that were read.
-use Rattle.std.proofs.Common.{◌≡◌, ℕ, zero, suc, ◌+◌, ◌*◌, ◌<◌, ◌≤◌, ◌^◌, Bool, true, false, ◌==◌, List, [], ◌∷◌, ◌++◌, length, get_or, take, drop, Result, Ok, Err, Some, refl, sym, ap, ◌∙◌, subst, arith}
+use Rattle.std.proofs.Common.{◌≡◌, ℕ, zero, suc, ◌+◌, ◌*◌, ◌<◌, ◌≤◌, ◌^◌, false, ◌==◌, List, [], ◌∷◌, ◌++◌, length, get_or, take, drop, Result, Ok, Err, refl, sym, ap, ◌∙◌, subst, arith}
 use Rattle.std.specs.Prelude.{IfOk}
 use Rattle.std.specs.List.{AllByRecursion, flat_map}
-use Rattle.std.specs.Int.{w32, to_le_bytes, from_le_bytes}
+use Rattle.std.specs.Int.{w32, from_le_bytes}
 use Rattle.std.specs.Str.Lines.{lines}
 use Rattle.std.proofs.lemmas.Bool.{ne_eqb}
 use Rattle.std.proofs.lemmas.List.{append_assoc, append-nil, length-append, flat_map_more, take_more}
 use Rattle.std.proofs.lemmas.Nat.{from_le_bytes-to_le_bytes_4}
-use Rattle.rv32_decode.specs.declared.instruction.Instr.{Instr}
-use Rattle.rv32_decode.specs.Instr.{Fits, instr_of, word_of}
+use Rattle.rv32_decode.specs.Instr.{word_of}
 use Rattle.rv32_decode.proofs.Meaning.{instr_of-word_of}
 use Rattle.rv32_decode.proofs.Spelled.{word_of-below}
 use Rattle.rv32_text.specs.declared.faults.TextRefusal.{TextRefusal}

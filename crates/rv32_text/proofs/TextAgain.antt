@@ -1,10 +1,10 @@
 -- The text of words is read as their items, and the image of these has the words.
-use Rattle.std.proofs.Common.{◌≡◌, ℕ, zero, suc, ◌+◌, ◌-◌, ◌*◌, ◌%◌, ◌<◌, ◌≤◌, ◌^◌, Bool, true, false, not, cond, ◌&&◌, ◌==◌, List, [], ◌∷◌, ◌++◌, length, get_or, take, drop, map, refl, sym, ap, ◌∙◌, arith, Option, Some, None, Result, Ok, Err}
+use Rattle.std.proofs.Common.{◌≡◌, ℕ, zero, suc, ◌+◌, ◌-◌, ◌*◌, ◌%◌, ◌<◌, ◌≤◌, ◌^◌, Bool, true, false, not, cond, ◌==◌, List, [], ◌∷◌, ◌++◌, length, get_or, take, drop, map, refl, sym, ap, ◌∙◌, arith, Option, Some, None, Ok}
 use Rattle.std.specs.Prelude.{nat_lt}
-use Rattle.std.specs.List.{list_all, flat_map, AllByRecursion}
+use Rattle.std.specs.List.{flat_map, AllByRecursion}
 use Rattle.std.specs.Int.{w32, to_le_bytes, from_le_bytes}
 use Rattle.std.specs.Str.Lines.{lines, strip_carriage_return}
-use Rattle.std.proofs.lemmas.Bool.{lt-ltb, ne_eqb}
+use Rattle.std.proofs.lemmas.Bool.{lt-ltb}
 use Rattle.std.proofs.lemmas.List.{append_assoc, append-nil, length-append, take_at, get_or_at}
 use Rattle.std.proofs.lemmas.Nat.{le_bytes_4}
 use Rattle.rv32_decode.specs.declared.instruction.Instr.{Instr}
@@ -12,12 +12,10 @@ use Rattle.rv32_decode.specs.Instr.{Fits, instr_of, word_of}
 use Rattle.rv32_decode.proofs.Meaning.{fits_answer, again_answer}
 use Rattle.rv32_text.specs.declared.items.Item.{Item}
 use Rattle.rv32_text.specs.declared.items.Item.TheVariants as item
-use Rattle.rv32_text.specs.Refusal.{FirstFault, ◌>>=◌}
-use Rattle.rv32_text.specs.Statement.{line_item}
-use Rattle.rv32_text.specs.Meaning.{after_line, items_from, labels_of, some_item, meaning}
+use Rattle.rv32_text.specs.Meaning.{after_line, items_from, labels_of, meaning}
 use Rattle.rv32_text.specs.Image.{item_word, item_bytes, image_of, assembled, image_words}
 use Rattle.rv32_text.specs.Written.{has_text, item_for, item_of_word, item_text, word_line, disassembled}
-use Rattle.rv32_text.proofs.Clean.{Lacks, all_weaken, cut_place, cut_before, cut_behind, Ends, ends}
+use Rattle.rv32_text.proofs.Clean.{all_weaken, cut_place, cut_behind, ends}
 use Rattle.rv32_text.proofs.LineCuts.{lines_ended}
 use Rattle.rv32_text.proofs.LinesAgain.{is_written, IsLine, Labels, IsRead, reads_line, line_length}
 use Rattle.rv32_text.proofs.ItemsAgain.{instr_read, word_read}

@@ -1,5 +1,5 @@
 -- The operands of an item, and what is read of them.
-use Rattle.std.specs.Prelude.{◌≡◌, ℕ, ◌+◌, ◌*◌, ◌^◌, ◌==◌, List, length, codes, ℤ, pos, ◌-ℤ◌, Option, Some, None, Result, Ok, Err, count_by, if◌then◌else◌}
+use Rattle.std.specs.Prelude.{ℕ, ◌+◌, ◌*◌, ◌==◌, List, length, codes, ℤ, pos, ◌-ℤ◌, Option, Some, None, Result, Ok, Err, count_by, if◌then◌else◌}
 use Rattle.std.specs.List.{before_first, after_first}
 use Rattle.rv32_decode.specs.declared.instruction.OpImmKind.{OpImmKind}
 use Rattle.rv32_decode.specs.Kinds.{is_shift}

@@ -1,6 +1,4 @@
-use Rattle.std.proofs.Common.{◌∙◌, ap, sym, arith}
 use Rattle.std.proofs.lemmas.List.{take_rest}
-use Rattle.rv32_text.specs.Image.{image_words}
 use Rattle.rv32_text.proofs.Steps.{first_word_is}
 use Rattle.rv32_text.proofs.images.first_word.Goals as goal
 

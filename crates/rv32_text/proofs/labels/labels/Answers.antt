@@ -1,4 +1,4 @@
-use Rattle.std.proofs.Common.{◌≡◌, ◌+◌, [], ◌∷◌, ◌∙◌, length, ap, sym, arith, List, ℕ}
+use Rattle.std.proofs.Common.{◌≡◌, ◌+◌, [], ◌∙◌, length, ap, sym, arith, List, ℕ}
 use Rattle.std.specs.Str.Lines.{lines}
 use Rattle.std.specs.Option.{option_or}
 use Rattle.std.proofs.lemmas.List.{nil_from_length}
