@@ -2,6 +2,7 @@
 use Rattle.std.proofs.Common.{◌≡◌, ℕ, ◌*◌, ◌/◌, ◌%◌, ◌<◌, ◌^◌, Bool, true, false, not, cond, ◌&&◌, ◌||◌, ◌==◌, List, [], ◌∷◌, ◌++◌, refl, ap, ◌∙◌, arith, Ok}
 use Rattle.std.specs.Prelude.{ℤ, pos, negsuc, ◌≤ℤ◌, ◌<ℤ◌, MatchBool}
 use Rattle.std.specs.List.{list_all, before_first, after_first}
+use Rattle.std.specs.Char.{is_ascii_digit}
 use Rattle.std.specs.Fmt.{decimal, signed_decimal}
 use Rattle.std.proofs.lemmas.Bool.{eqb-true}
 use Rattle.std.proofs.lemmas.Int.{ints}
@@ -24,7 +25,7 @@ use Rattle.rv32_text.specs.Statement.{item_at, atomic_at}
 use Rattle.rv32_text.specs.Written.{has_text, based_text, address_text, word_text, instr_text, item_text, with_two, fence_text}
 use Rattle.rv32_text.proofs.Clean.{Lacks, all_join, all_weaken, cut_before, cut_behind, and_true, Starts, starts, kept}
 use Rattle.rv32_text.proofs.NamesAgain.{is_clean, IsPiece, piece, register_again, set_again}
-use Rattle.rv32_text.proofs.Numerals.{IsShort, number_again, decimal_piece, signed_piece, is_numeral_byte, signed_bytes, is_decimal_byte, decimal_digits, up_to_again, signed_again, even_again, short_from, word_again, word_piece}
+use Rattle.rv32_text.proofs.Numerals.{IsShort, number_again, decimal_piece, signed_piece, is_numeral_byte, signed_bytes, decimal_digits, up_to_again, signed_again, even_again, short_from, word_again, word_piece}
 use Rattle.rv32_text.proofs.OperandsAgain.{piece_starts, piece_ends, first_alone, first_before, second_alone, second_before, third_alone}
 use Rattle.rv32_text.proofs.LinesAgain.{Labels, two, three, IsRead, bare_read, one_read, two_read, three_read}
 
@@ -79,13 +80,13 @@ either_false : (a : Bool) → cond a false false ≡ false
 either_false true = refl
 either_false false = refl
 
-digit_first : (xs : List ℕ) → Starts is_decimal_byte xs → is_label xs ≡ false
+digit_first : (xs : List ℕ) → Starts is_ascii_digit xs → is_label xs ≡ false
 unfolding is_label
 digit_first xs s = rw (s.is, s.passes) (either_false _)
 
 number_no_label : (z : ℤ) → IsShort z → is_label (signed_decimal z) ≡ false
 unfolding is_label
-number_no_label (pos n) short = digit_first (decimal n) (starts is_decimal_byte (decimal n) (decimal_digits n short) (decimal_piece n short).some)
+number_no_label (pos n) short = digit_first (decimal n) (starts is_ascii_digit (decimal n) (decimal_digits n short) (decimal_piece n short).some)
 number_no_label (negsuc n) short = rw (or_true _) refl
 
 target_again : (labels : Labels) (items : ℕ) (z : ℤ) → IsShort z → target_in labels items (signed_decimal z) ≡ Ok z

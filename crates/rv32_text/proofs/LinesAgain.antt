@@ -1,6 +1,7 @@
 -- A written line is read as its row and its operands.
 use Rattle.std.proofs.Common.{◌≡◌, ℕ, ◌<◌, Bool, true, false, not, ◌&&◌, ◌||◌, ◌==◌, List, [], ◌∷◌, ◌++◌, length, refl, sym, ap, ◌∙◌, arith, Option, Some, Ok}
-use Rattle.std.specs.Prelude.{nat_lt, nat_le}
+use Rattle.std.specs.Prelude.{nat_lt}
+use Rattle.std.specs.Char.{is_ascii_graphic}
 use Rattle.std.specs.List.{list_all}
 use Rattle.std.proofs.lemmas.Bool.{le-ltb, eq-eqb, ne_eqb}
 use Rattle.std.proofs.lemmas.List.{append_assoc, drop_at, drop_all}
@@ -27,7 +28,7 @@ clean_written b e = grind arith
 piece_written : (a : List ℕ) → IsPiece a → list_all is_written a ≡ true
 piece_written a p = all_weaken is_clean is_written clean_written a p.clean
 
-written_text : (b : ℕ) → is_written b ≡ true → (b == 9 || (nat_le 0x20 b && nat_le b 0x7e)) ≡ true
+written_text : (b : ℕ) → is_written b ≡ true → (is_blank b || is_ascii_graphic b) ≡ true
 written_text b e = grind arith
 
 written_no_hash : (b : ℕ) → is_written b ≡ true → not (b == 35) ≡ true
@@ -43,7 +44,7 @@ pub record IsLine (line : List ℕ) : Type 0 where
   pub finish : Ends is_solid line
 
 line_text : (line : List ℕ) → IsLine line → is_text line ≡ true
-line_text line l = all_weaken is_written (λ b. b == 9 || (nat_le 0x20 b && nat_le b 0x7e)) written_text line l.written
+line_text line l = all_weaken is_written (λ b. is_blank b || is_ascii_graphic b) written_text line l.written
 
 line_code : (line : List ℕ) → IsLine line → before_comment line ≡ line
 line_code line l = uncut (λ b. b == 35) line (all_weaken is_written (λ b. not (b == 35)) written_no_hash line l.written)

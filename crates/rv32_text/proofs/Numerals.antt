@@ -2,7 +2,7 @@
 use Rattle.std.proofs.Common.{◌≡◌, ℕ, suc, ◌*◌, ◌/◌, ◌%◌, ◌<◌, ◌≤◌, ◌^◌, true, false, Bool, ◌&&◌, eqb, ltb, List, [], ◌∷◌, length, ap, refl, arith, Some, Ok}
 use Rattle.std.specs.Prelude.{nat_le, nat_eq, codes, ℤ, pos, negsuc, neg_ℤ, int_lt}
 use Rattle.std.specs.List.{list_all, prefix_len, starts_with}
-use Rattle.std.specs.Char.{is_digit, digit_value}
+use Rattle.std.specs.Char.{is_digit, is_ascii_digit, digit_value}
 use Rattle.std.specs.Str.Parse.{AllDigits, digits_value}
 use Rattle.std.specs.Fmt.{decimal, signed_decimal, digit_glyph}
 use Rattle.std.proofs.lemmas.Fmt.{digits_decimal, digits_value-decimal, decimal_nonempty}
@@ -24,11 +24,7 @@ own = numerals_by_value (AllDigits 10) tells_digits
 digit_byte : (b : ℕ) → digit_value b < 10 → (48 ≤ b) × (b < 58)
 digit_byte b lt = grind arith
 
--- a decimal digit
-abbrev pub is_decimal_byte : ℕ → Bool
-is_decimal_byte b = nat_le 48 b && nat_le b 57
-
-digits_clean : (ds : List ℕ) → AllDigits 10 ds → list_all is_decimal_byte ds ≡ true
+digits_clean : (ds : List ℕ) → AllDigits 10 ds → list_all is_ascii_digit ds ≡ true
 digits_clean [] all = refl
 digits_clean (d ∷ ds) all =
     let range = digit_byte d all.0 in
@@ -88,15 +84,15 @@ number_again (pos n) small =
     rw (no_sign (decimal n) digits, magnitude_again n small) refl
 number_again (negsuc n) small = rw (magnitude_again (suc n) (omega arith)) refl
 
-clean_digit : (b : ℕ) → is_decimal_byte b ≡ true → is_clean b ≡ true
+clean_digit : (b : ℕ) → is_ascii_digit b ≡ true → is_clean b ≡ true
 clean_digit b e = grind arith
 
-pub decimal_digits : (n : ℕ) → n ≤ most → list_all is_decimal_byte (decimal n) ≡ true
+pub decimal_digits : (n : ℕ) → n ≤ most → list_all is_ascii_digit (decimal n) ≡ true
 decimal_digits n small = digits_clean (decimal n) (digits_decimal own n (omega arith))
 
 decimal_clean : (n : ℕ) → n ≤ most → list_all is_clean (decimal n) ≡ true
 decimal_clean n small =
-    all_weaken is_decimal_byte is_clean clean_digit (decimal n) (decimal_digits n small)
+    all_weaken is_ascii_digit is_clean clean_digit (decimal n) (decimal_digits n small)
 
 pub decimal_piece : (n : ℕ) → n ≤ most → IsPiece (decimal n)
 decimal_piece n small = record { some = decimal_nonempty n (omega arith); clean = decimal_clean n small }
@@ -109,12 +105,12 @@ signed_piece (negsuc n) small = record { some = omega arith; clean = decimal_cle
 abbrev pub is_numeral_byte : ℕ → Bool
 is_numeral_byte b = nat_le 45 b && nat_le b 57
 
-numeral_digit : (b : ℕ) → is_decimal_byte b ≡ true → is_numeral_byte b ≡ true
+numeral_digit : (b : ℕ) → is_ascii_digit b ≡ true → is_numeral_byte b ≡ true
 numeral_digit b e = grind arith
 
 decimal_bytes : (n : ℕ) → n ≤ most → list_all is_numeral_byte (decimal n) ≡ true
 decimal_bytes n small =
-    all_weaken is_decimal_byte is_numeral_byte numeral_digit (decimal n) (decimal_digits n small)
+    all_weaken is_ascii_digit is_numeral_byte numeral_digit (decimal n) (decimal_digits n small)
 
 pub signed_bytes : (z : ℤ) → IsShort z → list_all is_numeral_byte (signed_decimal z) ≡ true
 signed_bytes (pos n) small = decimal_bytes n small

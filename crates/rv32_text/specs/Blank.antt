@@ -1,14 +1,15 @@
 -- Blanks, and the bytes that a text may have.
-use Rattle.std.specs.Prelude.{ℕ, ◌-◌, Bool, ◌||◌, ◌&&◌, ◌==◌, nat_le, List, length, take, drop}
+use Rattle.std.specs.Prelude.{ℕ, ◌-◌, Bool, ◌||◌, ◌==◌, List, length, take, drop}
+use Rattle.std.specs.Char.{is_ascii_graphic}
 use Rattle.std.specs.List.{list_all, prefix_len, suffix_len}
 
 -- a space or a tab
 abbrev pub is_blank : ℕ → Bool
 is_blank b = b == 32 || b == 9
 
--- each byte is a tab or a printing character
+-- each byte is a blank or prints
 abbrev pub is_text : List ℕ → Bool
-is_text line = list_all (λ b. b == 9 || (nat_le 0x20 b && nat_le b 0x7e)) line
+is_text line = list_all (λ b. is_blank b || is_ascii_graphic b) line
 
 -- from the first byte on that is no blank
 unfoldable pub without_blanks_before : List ℕ → List ℕ

@@ -1,5 +1,6 @@
 -- The parts of a line, and where labels are defined.
-use Rattle.std.specs.Prelude.{ℕ, ◌+◌, Bool, false, not, ◌&&◌, ◌||◌, ◌==◌, nat_lt, nat_le, List, [], ◌∷◌, length, slice_index, Option, Some, None, is_none, if◌then◌else◌}
+use Rattle.std.specs.Prelude.{ℕ, ◌+◌, Bool, false, not, ◌&&◌, ◌||◌, ◌==◌, nat_lt, List, [], ◌∷◌, length, slice_index, Option, Some, None, is_none, if◌then◌else◌}
+use Rattle.std.specs.Char.{is_ascii_alphanumeric, is_ascii_digit}
 use Rattle.std.specs.List.{list_all, before_first, after_first, position_or_len}
 use Rattle.std.specs.Option.{option_or}
 use Rattle.std.specs.Str.{bytes_eq}
@@ -32,13 +33,13 @@ items_on line = if length (statement_of (before_comment line)) == 0 then 0 else 
 
 -- a letter, a digit, _ or .
 abbrev pub is_label_byte : ℕ → Bool
-is_label_byte b = (nat_le 97 b && nat_le b 122) || (nat_le 65 b && nat_le b 90) || (nat_le 48 b && nat_le b 57) || b == 95 || b == 46
+is_label_byte b = is_ascii_alphanumeric b || b == 95 || b == 46
 
 -- 1 to 32 such bytes, of which the first is no digit, and no name of a register
 unfoldable pub is_label : List ℕ → Bool
 is_label text =
     if length text == 0 || nat_lt 32 (length text) || not (list_all is_label_byte text) then false
-    else if nat_le 48 (slice_index text 0) && nat_le (slice_index text 0) 57 then false
+    else if is_ascii_digit (slice_index text 0) then false
     else is_none (register_of text)
 
 -- the label that a line defines: well formed, before a colon

@@ -2,12 +2,11 @@ ghost use Rattle.std.specs.Prelude.{◌≡◌, ◌≤◌, length};
 ghost use Rattle.std.specs.List.{prefix_len, position_or_len};
 ghost use Rattle.rv32_text.specs.Blank.{is_blank as is_blank_of, is_text as is_text_of, without_blanks_before, without_blanks_behind, trimmed as trimmed_of};
 
-/// Whether each byte is a tab or prints.
+/// Whether each byte is a blank or prints.
 pub fn is_text(line: &[u8]) -> bool
     ensures { result ≡ is_text_of line.now }
 {
-    line.iter()
-        .all(|b| *b == b'\t' || (*b >= b' ' && *b <= b'~'))
+    line.iter().all(|b| is_blank(*b) || b.is_ascii_graphic())
 }
 
 /// The text from its first byte on that is no blank.

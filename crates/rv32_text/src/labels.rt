@@ -70,11 +70,7 @@ fn items_on(line: &[u8]) -> u32
 fn is_label_byte(byte: u8) -> bool
     ensures { result ≡ is_label_byte_of byte }
 {
-    (byte >= b'a' && byte <= b'z')
-        || (byte >= b'A' && byte <= b'Z')
-        || (byte >= b'0' && byte <= b'9')
-        || byte == b'_'
-        || byte == b'.'
+    byte.is_ascii_alphanumeric() || byte == b'_' || byte == b'.'
 }
 
 fn all_label_bytes(text: &[u8]) -> bool
@@ -91,7 +87,7 @@ pub fn is_label(text: &[u8]) -> bool
     if text.is_empty() || text.len() > 32 || !all_label_bytes(text) {
         return false;
     }
-    if text[0] >= b'0' && text[0] <= b'9' {
+    if text[0].is_ascii_digit() {
         return false;
     }
     register(text).is_none()
