@@ -1,5 +1,5 @@
 -- The text of each item that fits is read as that item.
-use Rattle.std.proofs.Common.{◌≡◌, ℕ, ◌*◌, ◌/◌, ◌%◌, ◌<◌, ◌^◌, Bool, true, false, not, cond, ◌&&◌, ◌||◌, ◌==◌, List, [], ◌∷◌, ◌++◌, refl, ap, ◌∙◌, arith, Ok}
+use Rattle.std.proofs.Common.{◌≡◌, ℕ, ◌*◌, ◌/◌, ◌%◌, ◌<◌, ◌≤◌, ◌^◌, Bool, true, false, not, cond, ◌&&◌, ◌||◌, ◌==◌, List, [], ◌∷◌, ◌++◌, length, refl, ap, ◌∙◌, arith, Ok}
 use Rattle.std.specs.Prelude.{ℤ, pos, negsuc, ◌≤ℤ◌, ◌<ℤ◌, MatchBool}
 use Rattle.std.specs.List.{list_all, before_first, after_first}
 use Rattle.std.specs.Char.{is_ascii_digit}
@@ -18,14 +18,14 @@ use Rattle.rv32_text.specs.declared.rows.Row.TheVariants as row
 use Rattle.rv32_text.specs.Refusal.{◌>>=◌}
 use Rattle.rv32_text.specs.Blank.{trimmed}
 use Rattle.rv32_text.specs.Number.{up_to, signed_within}
-use Rattle.rv32_text.specs.Name.{register_name, set_name, row_name}
+use Rattle.rv32_text.specs.Name.{number_names, register_name, set_name, row_name}
 use Rattle.rv32_text.specs.Label.{is_label}
 use Rattle.rv32_text.specs.Operand.{based_in, target_in, upper_at, jump_at, branch_at, based_at, immediate_within, immediate_at, registers_at, sets_at, address_at, exchange_at, plain_at}
 use Rattle.rv32_text.specs.Statement.{item_at, atomic_at}
 use Rattle.rv32_text.specs.Written.{has_text, based_text, address_text, word_text, instr_text, item_text, with_two, fence_text}
 use Rattle.rv32_text.proofs.Clean.{Lacks, all_join, all_weaken, cut_before, cut_behind, and_true, Starts, starts, kept}
-use Rattle.rv32_text.proofs.NamesAgain.{is_clean, IsPiece, piece, register_again, set_again}
-use Rattle.rv32_text.proofs.Numerals.{IsShort, number_again, decimal_piece, signed_piece, is_numeral_byte, signed_bytes, decimal_digits, up_to_again, signed_again, even_again, short_from, word_again, word_piece}
+use Rattle.rv32_text.proofs.NamesAgain.{is_clean, IsPiece, piece, at_most, register_again, set_again}
+use Rattle.rv32_text.proofs.Numerals.{IsShort, number_again, decimal_piece, signed_piece, signed_size, is_numeral_byte, signed_bytes, decimal_digits, up_to_again, signed_again, even_again, short_from, word_again, word_piece}
 use Rattle.rv32_text.proofs.OperandsAgain.{piece_starts, piece_ends, first_alone, first_before, second_alone, second_before, third_alone}
 use Rattle.rv32_text.proofs.LinesAgain.{Labels, two, three, IsRead, bare_read, one_read, two_read, three_read}
 
@@ -33,6 +33,9 @@ use Rattle.rv32_text.proofs.LinesAgain.{Labels, two, three, IsRead, bare_read, o
 
 reg_piece : (n : ℕ) → n < 32 → IsPiece (register_name n)
 reg_piece n lt = let r = register_again n lt in piece (register_name n) r.1 r.2
+
+reg_size : (n : ℕ) → length (register_name n) ≤ 3
+reg_size n = at_most 3 number_names n refl
 
 address_piece : (n : ℕ) → n < 32 → IsPiece (address_text n)
 address_piece n lt = let r = register_again n lt in piece (address_text n) r.5 r.6
@@ -45,12 +48,15 @@ based_is : (z : ℤ) (n : ℕ) → based_text z n ≡ signed_decimal z ++ 40 ∷
 based_is z n = simp append_assoc
 
 based_piece : (z : ℤ) (n : ℕ) → IsShort z → n < 32 → IsPiece (based_text z n)
-based_piece z n short lt =
-    let number = signed_piece z short in
+based_piece z n known lt =
+    let number = signed_piece z known in
     let name = reg_piece n lt in
     let all : list_all is_clean (signed_decimal z ++ 40 ∷ (register_name n ++ 41 ∷ [])) ≡ true =
     all_join is_clean (signed_decimal z) (40 ∷ (register_name n ++ 41 ∷ [])) number.clean (all_join is_clean (register_name n) (41 ∷ []) name.clean refl) in
-    rw (based_is z n) (record { some = omega (arith, length-append (signed_decimal z) (40 ∷ (register_name n ++ 41 ∷ [])), number.some); clean = all })
+    let size = length-append (signed_decimal z) (40 ∷ (register_name n ++ 41 ∷ [])) in
+    let more = length-append (register_name n) (41 ∷ []) in
+    let short : length (signed_decimal z ++ 40 ∷ (register_name n ++ 41 ∷ [])) ≤ 16 = omega (arith, size, more, signed_size z known, reg_size n) in
+    rw (based_is z n) (record { some = omega (arith, size); short = short; clean = all })
 
 no_open : (b : ℕ) → is_numeral_byte b ≡ true → not (b == 40) ≡ true
 no_open b e = grind arith

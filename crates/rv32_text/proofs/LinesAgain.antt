@@ -1,10 +1,10 @@
 -- A written line is read as its row and its operands.
-use Rattle.std.proofs.Common.{◌≡◌, ℕ, ◌<◌, Bool, true, false, not, ◌&&◌, ◌||◌, ◌==◌, List, [], ◌∷◌, ◌++◌, length, refl, sym, ap, ◌∙◌, arith, Option, Some, Ok}
+use Rattle.std.proofs.Common.{◌≡◌, ℕ, ◌<◌, ◌≤◌, Bool, true, false, not, ◌&&◌, ◌||◌, ◌==◌, List, [], ◌∷◌, ◌++◌, length, refl, sym, ap, ◌∙◌, arith, Option, Some, Ok}
 use Rattle.std.specs.Prelude.{nat_lt}
 use Rattle.std.specs.Char.{is_ascii_graphic}
 use Rattle.std.specs.List.{list_all}
 use Rattle.std.proofs.lemmas.Bool.{le-ltb, eq-eqb, ne_eqb}
-use Rattle.std.proofs.lemmas.List.{append_assoc, drop_at, drop_all}
+use Rattle.std.proofs.lemmas.List.{append_assoc, length-append, drop_at, drop_all}
 use Rattle.rv32_text.specs.declared.items.Item.{Item}
 use Rattle.rv32_text.specs.declared.labels.Defined.{Defined}
 use Rattle.rv32_text.specs.declared.rows.Row.{Row}
@@ -39,6 +39,7 @@ written_no_colon b e = grind arith
 
 -- what is known of a written line
 pub record IsLine (line : List ℕ) : Type 0 where
+  pub size : length line ≤ 79
   pub written : list_all is_written line ≡ true
   pub start : Starts is_solid line
   pub finish : Ends is_solid line
@@ -113,11 +114,12 @@ reads_behind labels items r rest item count read =
     count read
 
 pub bare_line : (r : Row) → IsLine (row_name r)
-bare_line r = record { written = piece_written (row_name r) (name_piece r); start = piece_starts (row_name r) (name_piece r); finish = piece_ends (row_name r) (name_piece r) }
+bare_line r = record { size = omega (arith, (name_piece r).short); written = piece_written (row_name r) (name_piece r); start = piece_starts (row_name r) (name_piece r); finish = piece_ends (row_name r) (name_piece r) }
 
-behind_line : (r : Row) (rest : List ℕ) → list_all is_written rest ≡ true → Ends is_solid rest → IsLine (row_name r ++ 32 ∷ rest)
-behind_line r rest written finish =
+behind_line : (r : Row) (rest : List ℕ) → length rest ≤ 62 → list_all is_written rest ≡ true → Ends is_solid rest → IsLine (row_name r ++ 32 ∷ rest)
+behind_line r rest room written finish =
     record {
+      size = omega (arith, length-append (row_name r) (32 ∷ rest), (name_piece r).short);
       written = all_join is_written (row_name r) (32 ∷ rest) (piece_written (row_name r) (name_piece r)) written;
       start = starts_more is_solid (row_name r) (32 ∷ rest) (piece_starts (row_name r) (name_piece r));
       finish = ends_behind is_solid (row_name r) (32 ∷ rest) (ends_behind is_solid (32 ∷ []) rest finish);
@@ -141,16 +143,17 @@ pub with_three_is : (r : Row) (a b c : List ℕ) → with_three r a b c ≡ row_
 with_three_is r a b c = simp append_assoc
 
 one_line : (r : Row) (a : List ℕ) → IsPiece a → IsLine (row_name r ++ 32 ∷ a)
-one_line r a p = behind_line r a (piece_written a p) (piece_ends a p)
+one_line r a p = behind_line r a (omega (arith, p.short)) (piece_written a p) (piece_ends a p)
 
 two_line : (r : Row) (a b : List ℕ) → IsPiece a → IsPiece b → IsLine (row_name r ++ 32 ∷ two a b)
 two_line r a b p q =
-    behind_line r (two a b) (all_join is_written a (44 ∷ 32 ∷ b) (piece_written a p) (piece_written b q))
+    behind_line r (two a b) (omega (arith, length-append a (44 ∷ 32 ∷ b), p.short, q.short)) (all_join is_written a (44 ∷ 32 ∷ b) (piece_written a p) (piece_written b q))
     (ends_behind is_solid a (44 ∷ 32 ∷ b) (ends_behind is_solid (44 ∷ 32 ∷ []) b (piece_ends b q)))
 
 three_line : (r : Row) (a b c : List ℕ) → IsPiece a → IsPiece b → IsPiece c → IsLine (row_name r ++ 32 ∷ three a b c)
 three_line r a b c p q s =
     behind_line r (three a b c)
+    (omega (arith, length-append a (44 ∷ 32 ∷ (b ++ 44 ∷ 32 ∷ c)), length-append b (44 ∷ 32 ∷ c), p.short, q.short, s.short))
     (all_join is_written a (44 ∷ 32 ∷ (b ++ 44 ∷ 32 ∷ c)) (piece_written a p) (all_join is_written b (44 ∷ 32 ∷ c) (piece_written b q) (piece_written c s)))
     (ends_behind is_solid a (44 ∷ 32 ∷ (b ++ 44 ∷ 32 ∷ c)) (ends_behind is_solid (44 ∷ 32 ∷ []) (b ++ 44 ∷ 32 ∷ c) (ends_behind is_solid b (44 ∷ 32 ∷ c) (ends_behind is_solid (44 ∷ 32 ∷ []) c (piece_ends c s)))))
 

@@ -1,8 +1,8 @@
 -- The names that are written are read again.
-use Rattle.std.proofs.Common.{◌≡◌, ℕ, zero, suc, ◌<◌, Bool, true, false, not, ◌&&◌, ◌==◌, List, [], ◌∷◌, ◌++◌, length, refl, subst, arith, inl, inr, Some, Ok}
-use Rattle.std.specs.Prelude.{nat_lt}
+use Rattle.std.proofs.Common.{◌≡◌, ℕ, zero, suc, ◌<◌, ◌≤◌, Bool, true, false, not, ◌&&◌, ◌==◌, List, [], ◌∷◌, ◌++◌, length, get_or, refl, subst, arith, inl, inr, Some, Ok}
+use Rattle.std.specs.Prelude.{nat_lt, nat_le}
 use Rattle.std.specs.List.{list_all}
-use Rattle.std.proofs.lemmas.Bool.{cases_lt}
+use Rattle.std.proofs.lemmas.Bool.{cases_lt, ltb-true, leb-true}
 use Rattle.rv32_decode.specs.declared.instruction.BranchKind.TheVariants as branch
 use Rattle.rv32_decode.specs.declared.instruction.LoadKind.TheVariants as load
 use Rattle.rv32_decode.specs.declared.instruction.StoreKind.TheVariants as store
@@ -16,14 +16,16 @@ use Rattle.rv32_text.specs.Blank.{without_blanks_before, without_blanks_behind}
 use Rattle.rv32_text.specs.Name.{number_named, use_named, named_among, register_of, register_name, set_of, set_name, row_of, row_name, plain_of, atomic_of, ordered_of}
 use Rattle.rv32_text.specs.Operand.{enclosed_in, address_in}
 use Rattle.rv32_text.specs.Written.{address_text}
+use Rattle.rv32_text.proofs.Clean.{and_true}
 
 -- a byte that may stand in a name or an operand: it prints, and is no blank, #, comma or colon
 abbrev pub is_clean : ℕ → Bool
 is_clean b = nat_lt 32 b && nat_lt b 127 && not (b == 35) && not (b == 44) && not (b == 58)
 
--- a name or an operand as it is written: not empty, and clean
+-- a name or an operand as it is written: clean, not empty, and of at most 16 bytes
 pub record IsPiece (text : List ℕ) : Type 0 where
   pub some : 0 < length text
+  pub short : length text ≤ 16
   pub clean : list_all is_clean text ≡ true
 
 -- a fact of each number below a bound, one by one
@@ -39,22 +41,27 @@ each_below P (suc n) k all lt =
       | inr rest ↦ let e : n ≡ k = omega arith in subst P e all.1
     ]
 
-abbrev pub long : List ℕ → Bool
-long text = nat_lt 0 (length text)
+abbrev pub is_sized : List ℕ → Bool
+is_sized text = nat_lt 0 (length text) && nat_le (length text) 16
 
-some_from : (text : List ℕ) → long text ≡ true → 0 < length text
-some_from [] e = cc
-some_from (x ∷ xs) e = omega arith
+pub piece : (text : List ℕ) → is_sized text ≡ true → list_all is_clean text ≡ true → IsPiece text
+piece text sized c =
+    let parts = and_true (nat_lt 0 (length text)) (nat_le (length text) 16) sized in
+    record { some = ltb-true 0 (length text) parts.0; short = leb-true (length text) 16 parts.1; clean = c }
 
-pub piece : (text : List ℕ) → long text ≡ true → list_all is_clean text ≡ true → IsPiece text
-piece text l c = record { some = some_from text l; clean = c }
+-- a name of a table of names that are so short
+pub at_most : (size : ℕ) (names : List (List ℕ)) (place : ℕ) → list_all (λ name. nat_le (length name) size) names ≡ true → length (get_or names place []) ≤ size
+at_most size [] place e = omega arith
+at_most size (name ∷ names) zero e = leb-true (length name) size (and_true (nat_le (length name) size) (list_all (λ other. nat_le (length other) size) names) e).0
+at_most size (name ∷ names) (suc place) e =
+    at_most size names place (and_true (nat_le (length name) size) (list_all (λ other. nat_le (length other) size) names) e).1
 
 -- ---- registers
 
 abbrev pub IsRegister : ℕ → Type 0
 IsRegister n =
-    (register_of (register_name n) ≡ Some n) × (long (register_name n) ≡ true) × (list_all is_clean (register_name n) ≡ true)
-    × (enclosed_in (register_name n ++ 41 ∷ []) ≡ Ok n) × (address_in (address_text n) ≡ Ok n) × (long (address_text n) ≡ true) × (list_all is_clean (address_text n) ≡ true)
+    (register_of (register_name n) ≡ Some n) × (is_sized (register_name n) ≡ true) × (list_all is_clean (register_name n) ≡ true)
+    × (enclosed_in (register_name n ++ 41 ∷ []) ≡ Ok n) × (address_in (address_text n) ≡ Ok n) × (is_sized (address_text n) ≡ true) × (list_all is_clean (address_text n) ≡ true)
 
 registers : EachBelow IsRegister 32
 unfolding register_of number_named use_named enclosed_in address_in without_blanks_before without_blanks_behind
@@ -67,7 +74,7 @@ register_again n lt = each_below IsRegister 32 n registers lt
 -- ---- sets of accesses
 
 abbrev pub IsSet : ℕ → Type 0
-IsSet n = (set_of (set_name n) ≡ Some n) × (long (set_name n) ≡ true) × (list_all is_clean (set_name n) ≡ true)
+IsSet n = (set_of (set_name n) ≡ Some n) × (is_sized (set_name n) ≡ true) × (list_all is_clean (set_name n) ≡ true)
 
 sets : EachBelow IsSet 16
 unfolding set_of
@@ -79,7 +86,7 @@ set_again n lt = each_below IsSet 16 n sets lt
 -- ---- rows
 
 abbrev pub IsRow : Row → Type 0
-IsRow r = (row_of (row_name r) ≡ Some r) × (long (row_name r) ≡ true) × (list_all is_clean (row_name r) ≡ true)
+IsRow r = (row_of (row_name r) ≡ Some r) × (is_sized (row_name r) ≡ true) × (list_all is_clean (row_name r) ≡ true)
 
 pub row_again : (r : Row) → IsRow r
 unfolding row_of plain_of named_among atomic_of ordered_of

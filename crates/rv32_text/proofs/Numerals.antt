@@ -5,7 +5,7 @@ use Rattle.std.specs.List.{list_all, prefix_len, starts_with}
 use Rattle.std.specs.Char.{is_digit, is_ascii_digit, digit_value}
 use Rattle.std.specs.Str.Parse.{AllDigits, digits_value}
 use Rattle.std.specs.Fmt.{decimal, signed_decimal, digit_glyph}
-use Rattle.std.proofs.lemmas.Fmt.{digits_decimal, digits_value-decimal, decimal_nonempty}
+use Rattle.std.proofs.lemmas.Fmt.{digits_decimal, digits_value-decimal, decimal_nonempty, length-decimal-le}
 use Rattle.std.proofs.lemmas.Str.Parse.{IsNumeralModel, numerals_by_value, tells_digits}
 use Rattle.std.proofs.lemmas.Bool.{lt-ltb, le-ltb, le-leb, ne_eqb}
 use Rattle.std.proofs.lemmas.Int.{ints}
@@ -94,12 +94,21 @@ decimal_clean : (n : ℕ) → n ≤ most → list_all is_clean (decimal n) ≡ t
 decimal_clean n small =
     all_weaken is_ascii_digit is_clean clean_digit (decimal n) (decimal_digits n small)
 
+decimal_size : (n : ℕ) → n ≤ most → length (decimal n) ≤ 10
+decimal_size n small = length-decimal-le 10 n (omega arith) (omega arith) (omega arith)
+
+pub signed_size : (z : ℤ) → IsShort z → length (signed_decimal z) ≤ 11
+signed_size (pos n) small = omega (arith, decimal_size n small)
+signed_size (negsuc n) small = omega (arith, decimal_size (suc n) (omega arith))
+
 pub decimal_piece : (n : ℕ) → n ≤ most → IsPiece (decimal n)
-decimal_piece n small = record { some = decimal_nonempty n (omega arith); clean = decimal_clean n small }
+decimal_piece n small =
+    record { some = decimal_nonempty n (omega arith); short = omega (arith, decimal_size n small); clean = decimal_clean n small }
 
 pub signed_piece : (z : ℤ) → IsShort z → IsPiece (signed_decimal z)
 signed_piece (pos n) small = decimal_piece n small
-signed_piece (negsuc n) small = record { some = omega arith; clean = decimal_clean (suc n) (omega arith) }
+signed_piece (negsuc n) small =
+    record { some = omega arith; short = omega (arith, signed_size (negsuc n) small); clean = decimal_clean (suc n) (omega arith) }
 
 -- a sign or a digit
 abbrev pub is_numeral_byte : ℕ → Bool
@@ -172,5 +181,6 @@ pub word_piece : (w : ℕ) → IsPiece (word_text w)
 word_piece w =
     record {
       some = omega arith;
+      short = omega arith;
       clean = rw ((glyph_again w 7).2, (glyph_again w 6).2, (glyph_again w 5).2, (glyph_again w 4).2, (glyph_again w 3).2, (glyph_again w 2).2, (glyph_again w 1).2, (glyph_again w 0).2) refl;
     }

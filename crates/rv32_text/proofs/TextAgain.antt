@@ -161,3 +161,18 @@ unfolding assembled image_of
 assembled_again image bytes whole some few =
     let w = whole_image image bytes whole in
     rw (meaning_again (image_words image) w.words (omega (arith, w.count)) (omega (arith, w.count)), w.again) refl
+
+-- ---- how long the text is
+
+line_size : (w : ℕ) → w < 2 ^ 32 → length (word_line w) ≤ 80
+line_size w small = omega (arith, length-append (item_text (item_of_word w)) (10 ∷ []), (item_read w small).shape.size)
+
+text_size : (ws : List ℕ) → AreWords ws → length (disassembled ws) ≤ 80 * length ws
+unfolding disassembled
+text_size [] words = omega arith
+text_size (w ∷ ws) words = omega (arith, length-append (word_line w) (flat_map word_line ws), line_size w words.0, text_size ws words.1)
+
+pub text_within : (image : List ℕ) → IsBytes image → length image % 4 ≡ 0 → length (disassembled (image_words image)) ≤ 20 * length image
+text_within image bytes whole =
+    let w = whole_image image bytes whole in
+    omega (arith, text_size (image_words image) w.words, w.count)

@@ -1,4 +1,4 @@
-ghost use Rattle.std.specs.Prelude.{◌≡◌, ◌≤◌, ◌<◌, ◌%◌, ◌++◌, length, Ok, IfOk, OnOk};
+ghost use Rattle.std.specs.Prelude.{◌≡◌, ◌≤◌, ◌<◌, ◌*◌, ◌%◌, ◌++◌, length, Ok, IfOk, OnOk};
 ghost use Rattle.rv32_text.specs.Image.{assembled, image_words};
 ghost use Rattle.rv32_text.specs.Statement.{FitsItem};
 ghost use Rattle.rv32_text.specs.Written.{item_of_word, word_line, disassembled};
@@ -41,6 +41,7 @@ fn put_line(alloc: Global, out: &mut Vec<u8>, word: u32) -> Result<(), NoMemory>
 pub fn disassemble(alloc: Global, image: &[u8]) -> Result<Vec<u8>, NoMemory>
     requires { length image.now % 4 ≡ 0 }
     ensures text { IfOk result (λ text. text.items ≡ disassembled (image_words image.now)) }
+    ensures short { IfOk result (λ text. length text.items ≤ 20 * length image.now) }
     // The text is assembled to the same words.
     ensures again { IfOk result (λ text. 0 < length image.now → length image.now ≤ 65536 → assembled text.items ≡ Ok image.now) }
 {

@@ -3,7 +3,7 @@ use Rattle.std.proofs.lemmas.List.{length-drop}
 use Rattle.rv32_text.specs.Image.{image_words, assembled}
 use Rattle.rv32_text.specs.Written.{disassembled}
 use Rattle.rv32_text.proofs.Steps.{writes_on, written_whole}
-use Rattle.rv32_text.proofs.TextAgain.{assembled_again}
+use Rattle.rv32_text.proofs.TextAgain.{assembled_again, text_within}
 use Rattle.rv32_text.proofs.disassembling.disassemble.Goals as goal
 
 pub loop-rest-preserved : goal.loop-rest-preserved
@@ -20,3 +20,8 @@ pub returns-clause-again : goal.returns-clause-again
 returns-clause-again c =
     let text = written_whole c.loop-rest.out.items c.loop-rest.rest.now (disassembled (image_words c.args.image.now)) (omega arith) c.loop-rest.invariant.same in
     λ some few. ap assembled text ∙ assembled_again c.args.image.now (λ i. omega (arith, c.type_inv.image i)) c.requires some few
+
+pub returns-clause-short : goal.returns-clause-short
+returns-clause-short c =
+    let text = written_whole c.loop-rest.out.items c.loop-rest.rest.now (disassembled (image_words c.args.image.now)) (omega arith) c.loop-rest.invariant.same in
+    omega (arith, ap length text, text_within c.args.image.now (λ i. omega (arith, c.type_inv.image i)) c.requires)
