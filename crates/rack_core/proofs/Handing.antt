@@ -22,6 +22,7 @@ use Rattle.coherence.specs.World.{World, put}
 use Rattle.coherence.proofs.Whole.{run_keeps}
 use Rattle.rack_core.specs.BladeMoves.{AreBladesSound, IsSoundBlade}
 use Rattle.rack_core.specs.Events.{BladeDoes, HandsTo}
+use Rattle.rack_core.specs.Handing.{AsksOn}
 use Rattle.rack_core.specs.Rack.{RackView}
 use Rattle.rack_core.specs.Safe.{IsSound}
 use Rattle.rack_core.specs.Seen.{pending_on, seen}
@@ -31,11 +32,6 @@ use Rattle.rack_core.proofs.BladeSeen.{pending-away}
 use Rattle.rack_core.proofs.Lookups.{slice_get-set, slice_get-set_other}
 use Rattle.rack_core.proofs.MemoryHanded.{memory_handed, asked_for, memory_keeps}
 use Rattle.rack_core.proofs.SwitchHanded.{Handed, switch_handed_up, switch_handed_from}
-
--- what is handed to a memory blade asks for a page that lies there
-abbrev pub AsksOn : LinkKind → (PageView → Option (ℕ × ℕ)) → ℕ → Msg → Type 0
-AsksOn To places number message = AsksAt places number message
-AsksOn kind places number message = Unit {0}
 
 -- what comes of it: the rack is coherent with the rest still to be handed over, and sound, and pages lie
 -- where they lay
@@ -89,7 +85,7 @@ handed_down images number message rest old new flat noted safe sound hands =
 -- ---- the switch
 
 -- an image that goes back is of a page that lies somewhere
-lies_up : (w : World) (number : ℕ) (message : Msg) (behind : List Msg) → AreUps w number (message ∷ behind) → LiesWhere w message
+pub lies_up : (w : World) (number : ℕ) (message : Msg) (behind : List Msg) → AreUps w number (message ∷ behind) → LiesWhere w message
 lies_up w number (Back page image) behind ups = ups.0.placed
 lies_up w number (Get page write) behind ups = tt
 lies_up w number (Fill page perm writable image) behind ups = tt

@@ -54,7 +54,7 @@ awake-waiting Step hart = refl
 awake-waiting Drain hart = refl
 
 -- what is true of all harts is true of them after one changed
-one-of : (P : HartView → Type 0) (h : ℕ) (was now : HartView) (old new : RackView) → OneChanged h was now old new → ((n : ℕ) (hart : HartView) → IsHartAt old n hart → P hart) → P now
+pub one-of : (P : HartView → Type 0) (h : ℕ) (was now : HartView) (old new : RackView) → OneChanged h was now old new → ((n : ℕ) (hart : HartView) → IsHartAt old n hart → P hart) → P now
     → (n : ℕ) (hart : HartView) → IsHartAt new n hart → P hart
 one-of P h was now old new one all its n hart at = by (n == h) refl where
   by : (b : Bool) → (n == h) ≡ b → P hart

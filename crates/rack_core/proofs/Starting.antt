@@ -102,7 +102,7 @@ are_placed plan switch fit h = record {
 -- ---- it is sound
 
 -- blade c is the first blade of that number
-blade_is : (plan : RackPlan) (c : ℕ) (blade : BladeView) → slice_get (map (first_blade plan) (range_with_len 0 (length plan.frames))) c ≡ Some blade
+pub blade_is : (plan : RackPlan) (c : ℕ) (blade : BladeView) → slice_get (map (first_blade plan) (range_with_len 0 (length plan.frames))) c ≡ Some blade
     → (c < length plan.frames) × (blade ≡ first_blade plan c)
 blade_is plan c blade e =
     let blades = map (first_blade plan) (range_with_len 0 (length plan.frames)) in
@@ -149,10 +149,14 @@ enough plan rack h memory pages e page phys at =
     let below = home-below plan.memories memory blade.memory page phys blade.own (sym (lies plan rack.switch page h.switch) ∙ at) in
     omega (arith, below, blade.is)
 
+-- it is coherent with images that are all zero
+pub starts_coherent : (plan : RackPlan) (rack : RackView) → IsFit plan → IsStart plan rack → IsCoherent (seen rack (λ page. zero_image))
+starts_coherent plan rack fit h = subst IsCoherent (sym (first_seen plan rack h)) (coherence.starts (place_in rack.switch) (permission_at rack.switch.protect) (are_placed plan rack.switch fit h.switch))
+
 pub starts : (plan : RackPlan) (rack : RackView) → IsFit plan → IsStart plan rack → IsSafe rack
 starts plan rack fit h = record {
   flat = λ page. zero_image;
-  coherent = subst IsCoherent (sym (first_seen plan rack h)) (coherence.starts (place_in rack.switch) (permission_at rack.switch.protect) (are_placed plan rack.switch fit h.switch));
+  coherent = starts_coherent plan rack fit h;
   sound = record {
     blades = blades_sound plan rack fit h;
     switch = switch_sound plan rack.switch fit h.switch;

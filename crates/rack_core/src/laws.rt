@@ -1,4 +1,4 @@
-ghost use Rattle.std.specs.Prelude.{◌≡◌, ℕ, List, Some, true};
+ghost use Rattle.std.specs.Prelude.{◌≡◌, ℕ, List, [], ◌++◌, Some, true};
 ghost use Rattle.mind_base.specs.Fit.{IsFit};
 ghost use Rattle.mind_base.specs.Page.{PageView};
 ghost use Rattle.mind_base.specs.declared.events.Event.{Event as event};
@@ -10,9 +10,11 @@ ghost use Rattle.coherence.specs.Facts.{may, may_write, IsCoherent};
 ghost use Rattle.mind_base.specs.declared.events.Event.TheVariants.{Step, Drain};
 ghost use Rattle.page_image.specs.PageImage.{PageImageView};
 ghost use Rattle.rack_core.specs.Events.{Leads};
+ghost use Rattle.rack_core.specs.Noted.{AreDone};
 ghost use Rattle.rack_core.specs.Rack.{RackView};
 ghost use Rattle.rack_core.specs.Safe.{IsSafe, IsOfRack, Reaches, AreOfRack};
 ghost use Rattle.rack_core.specs.Seen.{frame_at, region_at, seen};
+ghost use Rattle.rack_core.specs.StandLog.{StandsForLog};
 ghost use Rattle.rack_core.specs.StandRuns.{GoesWith, GoesOn, AreCounted};
 ghost use Rattle.tso_machine.specs.State.{Setup, State};
 ghost use Rattle.rack_core.specs.Start.{IsStart};
@@ -67,4 +69,26 @@ pub fn steps_and_drains_run_the_machine()
         → IsCoherent (seen old flat) → GoesWith images setup old flat m → Leads images (Step h) old new noted → AreCounted new → GoesOn images setup m noted new }
     ensures drain { (images : List image) (setup : Setup) (h : ℕ) (old new : RackView) (noted : List note) (flat : PageView → PageImageView) (m : State)
         → IsCoherent (seen old flat) → GoesWith images setup old flat m → Leads images (Drain h) old new noted → AreCounted new → GoesOn images setup m noted new }
+{}
+
+/// Whatever a schedule of such events does, from a rack of a plan that fits, the labels that it notes are a run of
+/// the abstract machine of that plan and of the images, from its start and whole, to a state that the rack stands
+/// for. So it is before the first event and after each one, as long as of no hart more stores took effect than have
+/// tags, which the blades say of the last rack.
+pub fn runs_are_runs_of_the_machine()
+    ensures starts { (images : List image) (plan : rack_plan) (rack : RackView)
+        → IsFit plan → IsStart plan rack → StandsForLog images rack [] }
+    ensures event { (images : List image) (e : event) (old new : RackView) (log noted : List note)
+        → IsOfRack e → StandsForLog images old log → Leads images e old new noted → AreCounted new
+        → StandsForLog images new (log ++ noted) }
+    ensures run { (images : List image) (events : List event) (first last : RackView) (log noted : List note)
+        → AreOfRack events → StandsForLog images first log → Reaches images events first last noted → AreCounted last
+        → StandsForLog images last (log ++ noted) }
+{}
+
+/// What a rack notes of an event is what its nodes did: that the event begins, and its number, is noted by who
+/// runs it.
+pub fn nodes_note_what_they_did()
+    ensures { (images : List image) (e : event) (old new : RackView) (noted : List note)
+        → Leads images e old new noted → AreDone noted }
 {}
