@@ -21,12 +21,10 @@ use Rattle.rack_core.specs.Safe.{IsSound, IsSafe}
 use Rattle.rack_core.specs.Seen.{pending_on, seen}
 use Rattle.rack_core.specs.SwitchMoves.{AreAsked, AsksAt, with_front}
 use Rattle.rack_core.proofs.BladeDelivers.{other_link, flip}
-use Rattle.rack_core.proofs.Handing.{AsksOn, After, handed_over}
+use Rattle.rack_core.specs.Handing.{AsksOn, AskOn}
+use Rattle.rack_core.proofs.Handing.{After, handed_over}
 
 -- ---- messages one after another
-
-abbrev pub AskOn : LinkKind → (PageView → Option (ℕ × ℕ)) → ℕ → List Msg → Type 0
-AskOn kind places number messages = AllByRecursion (AsksOn kind places number) messages
 
 pub all_handed : (images : List Image) (kind : LinkKind) (number : ℕ) (messages : List Msg) (old new : RackView) (flat : PageView → PageImageView) (noted : List Note)
     → IsCoherent (with_front kind number messages (seen old flat)) → IsSound old → number < 8 → AskOn kind (place_in old.switch) number messages

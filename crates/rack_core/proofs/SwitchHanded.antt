@@ -30,7 +30,7 @@ put-twice {X} k x y f = fun_ext (λ n. by n (n == k)) where
   by n true = refl
   by n false = refl
 
-shows_front : (kind : LinkKind) (number : ℕ) (messages : List Msg) (rack : RackView) (flat : PageView → PageImageView) → Shows (with_front kind number messages (seen rack flat)) rack.switch
+pub shows_front : (kind : LinkKind) (number : ℕ) (messages : List Msg) (rack : RackView) (flat : PageView → PageImageView) → Shows (with_front kind number messages (seen rack flat)) rack.switch
 shows_front Up number messages rack flat = record { wants = refl; regions = refl; last = refl; places = record { places = refl; perms = refl } }
 shows_front Down number messages rack flat = record { wants = refl; regions = refl; last = refl; places = record { places = refl; perms = refl } }
 shows_front To number messages rack flat = record { wants = refl; regions = refl; last = refl; places = record { places = refl; perms = refl } }

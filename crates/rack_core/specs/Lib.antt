@@ -1,9 +1,17 @@
+pub mod AtOnce
 pub mod BladeMoves
+pub mod Calls
 pub mod Events
+pub mod Handing
+pub mod Newest
+pub mod Noted
 pub mod Rack
 pub mod Safe
 pub mod Seen
+pub mod Shape
+pub mod StandLog
 pub mod StandRuns
 pub mod Stands
 pub mod Start
 pub mod SwitchMoves
+pub mod Waits

@@ -6,13 +6,15 @@ use Rattle.compute_blade.specs.Blade.{BladeView}
 use Rattle.switch_core.specs.Switch.{SwitchView}
 use Rattle.rack_net.specs.Net.{NetView}
 
--- the plan, which never changes; the compute blades, the switch, the images of each memory blade, and the links
+-- the plan, which never changes; the compute blades, the switch, the images of each memory blade, and the links;
+-- and how many commands were asked
 pub record RackView : Type 0 where
   pub plan : RackPlan
   pub blades : List BladeView
   pub switch : SwitchView
   pub memories : List (List PageImageView)
   pub net : NetView
+  pub asked : ℕ
 
 abbrev pub with_blade : ℕ → BladeView → RackView → RackView
 with_blade number blade rack = record rack { blades = slice_set rack.blades number blade }

@@ -34,3 +34,4 @@ pub record IsStart (plan : RackPlan) (rack : RackView) : Type 0 where
   pub switch : IsFirstSwitch plan rack.switch
   pub memories : rack.memories ≡ map first_memory plan.memories
   pub net : links_of rack.net ≡ (λ name. empty_link)
+  pub asked : rack.asked ≡ 0

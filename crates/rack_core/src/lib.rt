@@ -1,10 +1,20 @@
-//! The rack: compute blades, the switch, memory blades and the links between them, event by event, and why
-//! their caches agree at every moment. Definitions and laws so far; the rack as a value of code comes next.
+//! The rack: compute blades, the switch, memory blades and the links between them, event by event; why their
+//! caches agree at every moment, and why what the rack notes is a run of the abstract machine.
 #![tactic(auto)]
 
 mod laws;
+mod laws_at_once;
+mod laws_of_images;
+mod laws_of_waits;
+mod racks;
+mod sends;
+mod starts;
 
 pub use laws::{
-    caches_agree, every_event_keeps_coherence, one_writer_in_the_rack,
-    steps_and_drains_run_the_machine,
+    caches_agree, every_event_keeps_coherence, nodes_note_what_they_did, one_writer_in_the_rack,
+    runs_are_runs_of_the_machine, steps_and_drains_run_the_machine,
 };
+pub use laws_at_once::what_happens_at_once;
+pub use laws_of_images::the_newest_image;
+pub use laws_of_waits::waits_fit;
+pub use racks::Rack;
