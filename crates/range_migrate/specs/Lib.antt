@@ -1,0 +1,5 @@
+pub mod Accepted
+pub mod Ending
+pub mod Migrates
+pub mod Plan
+pub mod Run

@@ -1,0 +1,19 @@
+//! Moves of blocks of pages to other memory blades: how each ends, which pages are copied, and where they lie afterwards.
+#![tactic(auto)]
+
+mod copies;
+mod endings;
+mod laws;
+mod moves;
+mod plans;
+mod questions;
+mod runs;
+
+pub use copies::next_copy;
+pub use endings::finish;
+pub use laws::accepted_moves_decide;
+pub use moves::{Copy1, Move};
+pub use plans::plan;
+
+#[cfg(test)]
+mod tests;

@@ -1,0 +1,132 @@
+ghost use Rattle.std.specs.Prelude.{◌≡◌, ◌+◌, ◌<◌, ◌≤◌, ◌%◌, ◌^◌, [], ◌∷◌, map, IfOk};
+ghost use Rattle.spare_pool.specs.Pool.{PoolView};
+ghost use Rattle.range_migrate.specs.Run.{ArePools, AreRuns};
+ghost use Rattle.range_migrate.specs.Ending.{IsPlaced, FitsSpare};
+
+use crate::{Move, finish, next_copy, plan};
+use mind_base::{MemoryPlan, NoMemory, Outcome, Page, Range, Sequence, Span};
+use range_translate::Table;
+use spare_pool::Pool;
+use std::alloc::Global;
+use std::test::Fail;
+
+fn sixteen_pages(alloc: Global, base: u32) -> Result<MemoryPlan, NoMemory>
+    requires { base + 16 ≤ 1048576 }
+    ensures { IfOk result (λ m. m ≡ record { homes = record { domain = 0; base = base; pages = 16 } ∷ []; spare = 4 }) }
+{
+    let mut homes = Sequence::new(alloc);
+    homes.push(Span {
+        domain: 0,
+        base,
+        pages: 16,
+    })?;
+    Ok(MemoryPlan { homes, spare: 4 })
+}
+
+/// The homes of pages 0 to 15 on memory blade 0 and of pages 16 to 31 on memory blade 1, and two slots.
+fn base_table(alloc: Global) -> Result<Table, NoMemory>
+    ensures { IfOk result (λ table. table ≡ record {
+      homes = record { homes = record { domain = 0; base = 0; pages = 16 } ∷ []; spare = 4 }
+          ∷ record { homes = record { domain = 0; base = 16; pages = 16 } ∷ []; spare = 4 } ∷ [];
+      slots = 2;
+      outliers = [];
+    }) }
+{
+    let mut memories = Vec::new(alloc);
+    memories.push(sixteen_pages(alloc, 0)?)?;
+    memories.push(sixteen_pages(alloc, 16)?)?;
+    Table::new(alloc, memories.as_slice(), 2)
+}
+
+/// A pool of four spare pages for each of two memory blades.
+fn base_pools(alloc: Global) -> Result<Vec<Pool>, NoMemory>
+    ensures { IfOk result (λ pools. map (λ (pool : PoolView). pool.pages) pools.items ≡ 4 ∷ 4 ∷ []) }
+{
+    let mut pools = Vec::new(alloc);
+    pools.push(Pool::new(alloc, 4)?)?;
+    pools.push(Pool::new(alloc, 4)?)?;
+    Ok(pools)
+}
+
+/// The move when all its pages were copied.
+fn copied(mut step: Move, table: &Table) -> Move
+    requires placed { IsPlaced table.now.homes step.range }
+    requires run { FitsSpare table.now.homes step step.run }
+    ensures same { result ≡ record step { next = result.next } }
+    ensures all { 2 ^ step.range.log ≤ result.next }
+{
+    while next_copy(&mut step, table).is_some() {}
+    step
+}
+
+/// Plans a move, copies its pages and ends it.
+fn migrate(row: &Row, table: &mut Table, pools: &mut Vec<Pool>) -> Outcome
+    requires pools { ArePools table.old.homes pools.old.items }
+    requires runs { AreRuns table.old.homes table.old.outliers pools.old.items }
+    ensures pools { ArePools table.new.homes pools.new.items }
+    ensures runs { AreRuns table.new.homes table.new.outliers pools.new.items }
+{
+    if row.memory as usize >= pools.len() {
+        return Outcome::Unmapped;
+    }
+    match plan(&row.range, row.memory, table, pools) {
+        Ok(step) => {
+            finish(copied(step, table), table, pools);
+            Outcome::Fine
+        }
+        Err(outcome) => outcome,
+    }
+}
+
+/// A block of domain 0, the memory blade that it is to move to, and how that ends.
+#[derive(Clone, Copy)]
+struct Row {
+    range: Range,
+    memory: u8,
+    outcome: Outcome,
+}
+
+fn row_of(base: u32, log: u8, memory: u8, outcome: Outcome) -> Row
+    requires log { log ≤ 9 }
+    requires base { base < 1048576 }
+    requires aligned { base % 2 ^ log ≡ 0 }
+{
+    Row {
+        range: Range {
+            domain: 0,
+            base,
+            log,
+        },
+        memory,
+        outcome,
+    }
+}
+
+fn page(number: u32) -> Page
+    requires { number < 1000 }
+{
+    Page { domain: 0, number }
+}
+
+#[test]
+fn each_move_ends_as_the_ones_before_it_let_it(rt: HostRuntime) -> Result<(), Fail> {
+    let mut table = base_table(rt.alloc())?;
+    let mut pools = base_pools(rt.alloc())?;
+    let rows = [
+        row_of(0, 1, 0, Outcome::Same),
+        row_of(0, 3, 1, Outcome::Room),
+        row_of(32, 0, 1, Outcome::Unplaced),
+        row_of(0, 0, 1, Outcome::Fine),
+        row_of(2, 0, 1, Outcome::Fine),
+        row_of(4, 0, 1, Outcome::Slots),
+        row_of(0, 0, 0, Outcome::Fine),
+        row_of(4, 0, 1, Outcome::Fine),
+    ];
+    for row in &rows {
+        assert_eq!(rt; migrate(row, &mut table, &mut pools), row.outcome);
+    }
+    assert_eq!(rt; table.place(page(0)), Some((0, 0)));
+    assert_eq!(rt; table.place(page(2)), Some((1, 17)));
+    assert_eq!(rt; table.place(page(4)), Some((1, 16)));
+    Ok(())
+}
