@@ -340,7 +340,7 @@ ends-after homes slots moves outliers pools range memory result k =
     let way : one ≡ other = way-same range memory (place_of homes outliers) (place_after homes moves) home (list_any (λ o. encloses o.range range) outliers) (list_any (λ e. encloses e.range range) (in_force moves)) k.places enclosed in
     let others : length (outside range outliers) ≡ length (others_in_force range moves) = k.same (λ o. not (is_inside o.range range)) in
     let agree = λ (m page : ℕ). free-after homes slots moves outliers pools m page k in
-    let back = λ (m page : ℕ). ((agree m page).1, (agree m page).0) in (
+    let back : (m page : ℕ) → IsFreeAfter homes moves m page ↔ IsFreeAt pools m page = λ m page. ((agree m page).1, (agree m page).0) in (
       λ w. subst (λ v. EndsBy v range memory (length (others_in_force range moves)) slots (IsFreeAfter homes moves) result) way
           (subst (λ n. EndsBy one range memory n slots (IsFreeAfter homes moves) result) others (ends-along one range memory (length (outside range outliers)) slots (IsFreeAt pools) (IsFreeAfter homes moves) result agree w)),
       λ w. subst (λ v. EndsBy v range memory (length (outside range outliers)) slots (IsFreeAt pools) result) (sym way)

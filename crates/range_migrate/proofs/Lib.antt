@@ -2,7 +2,9 @@ pub mod Counting
 pub mod InOrder
 pub mod Kept
 pub mod Nested
+pub mod Onward
 pub mod PageSteps
 pub mod PlanFacts
+pub mod Pools
 pub mod Removing
 pub mod UnderWay

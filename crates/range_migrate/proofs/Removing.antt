@@ -1,5 +1,5 @@
 -- One outlier is taken out: what is left, and which uses of spare pages end.
-use Rattle.std.proofs.Common.{◌≡◌, ℕ, zero, suc, ◌+◌, ◌-◌, ◌<◌, ◌≤◌, ◌%◌, ◌^◌, ◌↔◌, ◌⊎◌, Bool, true, false, cond, not, ◌&&◌, List, [], ◌∷◌, length, map, filter, slice_get, Option, Some, None, IsSomeAnd, IsTrue, Contains, refl, sym, ap, ◌∙◌, subst, arith, inl, inr}
+use Rattle.std.proofs.Common.{◌≡◌, ℕ, zero, suc, ◌+◌, ◌-◌, ◌<◌, ◌≤◌, ◌%◌, ◌^◌, ◌↔◌, ◌⊎◌, Bool, true, false, cond, not, ◌&&◌, ◌==◌, nat_lt, nat_le, List, [], ◌∷◌, length, map, filter, slice_get, Option, Some, None, IsSomeAnd, IsTrue, Contains, refl, sym, ap, ◌∙◌, subst, arith, inl, inr}
 use Rattle.std.specs.List.{AllByRecursion, find}
 use Rattle.std.specs.Option.{unwrap_or}
 use Rattle.std.proofs.lemmas.Bool.{cases_Bool, cases_lt, false≢true}
@@ -156,6 +156,34 @@ pool_at homes pools memory bound same some within = found_at pools memory (subst
   found_at (p ∷ ps) zero l = (omega arith, l)
   found_at (p ∷ ps) (suc i) l = let f = found_at ps i l in (omega (arith, f.0), f.1)
 
+-- A run that may be given back: it lies in the pool of its memory blade, and none of its pages is free.
+pub record CanGive (pools : List PoolView) (memory first log : ℕ) : Type 0 where
+  pub there : memory < length pools
+  pub aligned : first % 2 ^ log ≡ 0
+  pub inside : IsSomeAnd (slice_get pools memory) (λ pool. first + 2 ^ log ≤ pool.pages)
+  pub taken : (page : ℕ) → InRun log first page → IsFreeAt pools memory page → ⊥
+
+-- the pages that an outlier's run has
+to_lies : (memory m first page size : ℕ) → memory ≡ m → first ≤ page → page < first + size → (memory == m && nat_le first page && nat_lt page (first + size)) ≡ true
+to_lies memory m first page size e a b = grind (arith, nat_tests)
+
+from_lies : (memory m first page size : ℕ) → (memory == m && nat_le first page && nat_lt page (first + size)) ≡ true → (memory ≡ m) × ((first ≤ page) × (page < first + size))
+from_lies memory m first page size e = (grind (arith, nat_tests), (grind (arith, nat_tests), grind (arith, nat_tests)))
+
+pub can-give : (homes : List MemoryPlan) (pools : List PoolView) (xs : List Outlier) (o : Outlier) (first : ℕ) → ArePools homes pools → IsOrdered xs → Contains xs o → AreRuns homes xs pools →
+    first ≡ first_of homes o → CanGive pools o.memory first o.range.log
+can-give homes pools xs o first same ordered there runs e = subst (λ n. CanGive pools o.memory n o.range.log) (sym e) record {
+  there = pool.0;
+  aligned = fits.run.aligned;
+  inside = pool.1;
+  taken = λ page r w. used-taken homes o xs pools o.memory page ordered there runs (to_lies o.memory o.memory (first_of homes o) page (2 ^ o.range.log) refl r.0 r.1) w;
+} where
+  fits : FitsRun homes o
+  fits = all-at (FitsRun homes) xs o runs.runs there
+
+  pool : (o.memory < length pools) × IsSomeAnd (slice_get pools o.memory) (λ pool. first_of homes o + 2 ^ o.range.log ≤ pool.pages)
+  pool = pool_at homes pools o.memory (first_of homes o + 2 ^ o.range.log) same (let some = pow_pos o.range.log in omega (arith, some)) fits.run.inside
+
 -- What is still to do while the outliers inside a block are taken out, one after another, is what was to do at first.
 pub record Removal (range : RangeView) (first : TableView) (first_pools : List PoolView) (table : TableView) (pools : List PoolView) : Type 0 where
   pub homes : table.homes ≡ first.homes
@@ -175,8 +203,22 @@ removal-start range table pools same runs = record {
   runs = runs;
 }
 
-abbrev FreedBy : List MemoryPlan → Outlier → List PoolView → List PoolView → Type 0
+abbrev pub FreedBy : List MemoryPlan → Outlier → List PoolView → List PoolView → Type 0
 FreedBy homes o pools new_pools = (m page : ℕ) → IsFreeAt new_pools m page ↔ (IsFreeAt pools m page ⊎ IsTrue (lies_in homes m page o))
+
+pub freed-by : (homes : List MemoryPlan) (o : Outlier) (pools new_pools : List PoolView) (first : ℕ) → first ≡ first_of homes o →
+    ((m page : ℕ) → IsFreeAt new_pools m page ↔ (IsFreeAt pools m page ⊎ ((o.memory ≡ m) × InRun o.range.log first page))) → FreedBy homes o pools new_pools
+freed-by homes o pools new_pools first e given m page = (λ w. there (g.0 w), λ w. g.1 (back w)) where
+  g : IsFreeAt new_pools m page ↔ (IsFreeAt pools m page ⊎ ((o.memory ≡ m) × InRun o.range.log (first_of homes o) page))
+  g = subst (λ n. IsFreeAt new_pools m page ↔ (IsFreeAt pools m page ⊎ ((o.memory ≡ m) × InRun o.range.log n page))) e (given m page)
+
+  there : (IsFreeAt pools m page ⊎ ((o.memory ≡ m) × InRun o.range.log (first_of homes o) page)) → IsFreeAt pools m page ⊎ IsTrue (lies_in homes m page o)
+  there (inl w) = inl w
+  there (inr r) = inr (to_lies o.memory m (first_of homes o) page (2 ^ o.range.log) r.0 r.1.0 r.1.1)
+
+  back : (IsFreeAt pools m page ⊎ IsTrue (lies_in homes m page o)) → IsFreeAt pools m page ⊎ ((o.memory ≡ m) × InRun o.range.log (first_of homes o) page)
+  back (inl w) = inl w
+  back (inr t) = inr (from_lies o.memory m (first_of homes o) page (2 ^ o.range.log) t)
 
 pub removal-step : (range : RangeView) (first : TableView) (first_pools : List PoolView) (table new_table : TableView) (pools new_pools : List PoolView) (o : Outlier) → Removal range first first_pools table pools →
     IsOrdered table.outliers → find (λ p. is_inside p.range range) table.outliers ≡ Some o → new_table ≡ record table { outliers = without o.range table.outliers } →

@@ -14,7 +14,7 @@ use Rattle.range_translate.proofs.BlockOrder.{ordered-filter}
 use Rattle.spare_pool.specs.Pool.{PoolView, IsPool, InRun}
 use Rattle.range_migrate.specs.Run.{home_pages, spare_pages, ArePools, IsFreeAt, IsRun, first_of, lies_in, users, FitsRun, AreRuns}
 use Rattle.range_migrate.specs.Plan.{each_page, outside, IsFreeRunAt, new_move}
-use Rattle.range_migrate.specs.Ending.{IsPlaced, FitsSpare, outlier_of, outliers_after, given_up, Frees, OwnsRun, HasSlot, IsUnderWay}
+use Rattle.range_migrate.specs.Ending.{IsPlaced, FitsSpare, outlier_of, outliers_after, given_up, Frees, OwnsRun, HasSlot, IsUnderWay, table_after}
 use Rattle.range_migrate.specs.declared.moves.Move.{Move}
 use Rattle.range_migrate.proofs.InOrder.{put-count, all-left, all-put}
 use Rattle.range_migrate.proofs.PageSteps.{lies_to}
@@ -35,7 +35,7 @@ page_after FreeB New false u g n parts once unused new own = (omega (arith, once
   after (inl w) = omega (arith, unused w, parts)
   after (inr w) = omega (arith, w, parts, once)
 
-after_home : (homes : List MemoryPlan) (range : RangeView) (outliers : List Outlier) (pools new_pools : List PoolView) → AreRuns homes outliers pools → Frees homes range outliers pools new_pools → AreRuns homes (outside range outliers) new_pools
+pub after_home : (homes : List MemoryPlan) (range : RangeView) (outliers : List Outlier) (pools new_pools : List PoolView) → AreRuns homes outliers pools → Frees homes range outliers pools new_pools → AreRuns homes (outside range outliers) new_pools
 after_home homes range outliers pools new_pools runs frees = record {
   runs = all-left (FitsRun homes) (λ o. not (is_inside o.range range)) outliers runs.runs;
   apart = λ m page. let h = (page_at m page).0 in omega (arith, h);
@@ -45,7 +45,7 @@ after_home homes range outliers pools new_pools runs frees = record {
   page_at m page = page_after (IsFreeAt pools m page) (IsFreeAt new_pools m page) false (users homes outliers m page) (given_up homes range outliers m page) (users homes (outside range outliers) m page)
       (left_users homes range outliers m page) (runs.apart m page) (runs.taken m page) (frees m page) (λ e. absurd (false≢true e))
 
-after_run : (homes : List MemoryPlan) (move : Move) (first : ℕ) (outliers : List Outlier) (pools new_pools : List PoolView) → IsOrdered outliers → AreRuns homes outliers pools → first + 2 ^ move.range.log ≤ spare_pages homes move.memory → first % 2 ^ move.range.log ≡ 0 →
+after_run : (homes : List MemoryPlan) (move : Move) (first : ℕ) (outliers : List Outlier) (pools new_pools : List PoolView) → IsOrdered (outside move.range outliers) → AreRuns homes outliers pools → first + 2 ^ move.range.log ≤ spare_pages homes move.memory → first % 2 ^ move.range.log ≡ 0 →
     ((page : ℕ) → InRun move.range.log first page → (IsFreeAt pools move.memory page → ⊥) × (users homes outliers move.memory page ≡ 0)) →
     Frees homes move.range outliers pools new_pools → AreRuns homes (put_in_order (outlier_of homes move first) (outside move.range outliers)) new_pools
 after_run homes move first outliers pools new_pools ordered runs inside aligned own frees = record {
@@ -57,7 +57,7 @@ after_run homes move first outliers pools new_pools ordered runs inside aligned 
   count : (m page : ℕ) → users homes (put_in_order (outlier_of homes move first) (outside move.range outliers)) m page
       ≡ cond (lies_in homes m page (outlier_of homes move first)) 1 0 + users homes (outside move.range outliers) m page
   count m page =
-      put-count (lies_in homes m page) (outlier_of homes move first) (outside move.range outliers) (ordered-filter (λ o. not (is_inside o.range move.range)) outliers ordered) (new_outside move.range outliers)
+      put-count (lies_in homes m page) (outlier_of homes move first) (outside move.range outliers) ordered (new_outside move.range outliers)
       ∙ one_more (lies_in homes m page (outlier_of homes move first)) (outlier_of homes move first) (filter (lies_in homes m page) (outside move.range outliers))
 
   page_at : (m page : ℕ) → (cond (lies_in homes m page (outlier_of homes move first)) 1 0 + users homes (outside move.range outliers) m page ≤ 1)
@@ -68,7 +68,7 @@ after_run homes move first outliers pools new_pools ordered runs inside aligned 
       subst (λ k. (IsFreeAt pools k page → ⊥) × (users homes outliers k page ≡ 0)) h.0 (own page h.1)))
 
 -- no spare page has two uses when the move has ended
-pub runs-after : (table : TableView) (pools new_pools : List PoolView) (move : Move) (run : Option ℕ) → IsOrdered table.outliers → AreRuns table.homes table.outliers pools → FitsSpare table.homes move run →
+pub runs-after : (table : TableView) (pools new_pools : List PoolView) (move : Move) (run : Option ℕ) → IsOrdered (outside move.range table.outliers) → AreRuns table.homes table.outliers pools → FitsSpare table.homes move run →
     OwnsRun table pools move run → Frees table.homes move.range table.outliers pools new_pools → AreRuns table.homes (outliers_after table.homes move run table.outliers) new_pools
 runs-after table pools new_pools move None ordered runs fits own frees = after_home table.homes move.range table.outliers pools new_pools runs frees
 runs-after table pools new_pools move (Some first) ordered runs fits own frees = after_run table.homes move first table.outliers pools new_pools ordered runs fits own.0 own.1 frees
@@ -111,3 +111,12 @@ under_way-run table pools new_pools range memory first same there placed runs ru
   own = (run.aligned, λ page l. (λ w. ((taken memory page).0 w).1 (refl, l), runs.taken memory page (run.each page l)));
   slot = slot;
 }
+
+-- the table of a move that has ended by a run
+pub table-by_run : (table removed new : TableView) (move : Move) (first : ℕ) (o : Outlier) → move.run ≡ Some first → removed ≡ record table { outliers = outside move.range table.outliers } →
+    o ≡ outlier_of removed.homes move first → new ≡ record removed { outliers = put_in_order o removed.outliers } → new ≡ table_after move table
+table-by_run table removed new move first o run e same put = subst Ends (sym e) (λ s p.
+    p ∙ ap (λ (x : Outlier). let t : TableView = record { homes = table.homes; slots = table.slots; outliers = put_in_order x (outside move.range table.outliers) } in t) s
+    ∙ ap (λ (r : Option ℕ). let t : TableView = record { homes = table.homes; slots = table.slots; outliers = outliers_after table.homes move r table.outliers } in t) (sym run)) same put where
+      Ends : TableView → Type 0
+      Ends r = o ≡ outlier_of r.homes move first → new ≡ record r { outliers = put_in_order o r.outliers } → new ≡ table_after move table

@@ -54,3 +54,7 @@ Reached homes slots [] outliers pools =
 Reached homes slots (migrate ∷ earlier) outliers pools =
     (old_outliers : List Outlier) × (old_pools : List PoolView)
     × Reached homes slots earlier old_outliers old_pools × Moves homes slots migrate old_outliers old_pools outliers pools
+
+-- a table and pools that can stand after some migrates
+abbrev pub AreReached : TableView → List PoolView → Type 0
+AreReached table pools = (migrates : List Migrate) × Reached table.homes table.slots migrates table.outliers pools

@@ -1,9 +1,10 @@
-ghost use Rattle.std.specs.Prelude.{◌≡◌, ℕ, ◌≤◌, ◌^◌, ◌↔◌, ◌⊎◌, filter, not, Contains, IsTrue};
+ghost use Rattle.std.specs.Prelude.{◌≡◌, ℕ, ◌≤◌, ◌^◌, ◌↔◌, ◌⊎◌, Some, filter, not, Contains, IsTrue};
 ghost use Rattle.range_translate.specs.Block.{is_same};
+ghost use Rattle.range_translate.specs.Place.{FitsOutlier};
 ghost use Rattle.range_translate.specs.Table.{IsTable};
-ghost use Rattle.range_migrate.specs.Run.{ArePools, AreRuns, IsFreeAt, lies_in};
+ghost use Rattle.range_migrate.specs.Run.{ArePools, AreRuns, FitsRun, IsFreeAt, first_of, lies_in};
 ghost use Rattle.range_migrate.specs.Plan.{outside};
-ghost use Rattle.range_migrate.specs.Ending.{IsUnderWay, Frees, table_after};
+ghost use Rattle.range_migrate.specs.Ending.{FitsSpare, IsUnderWay, Frees, outlier_of, table_after};
 
 use crate::Move;
 use crate::runs::give_run;
@@ -26,14 +27,22 @@ pub fn finish(step: Move, table: &mut Table, pools: &mut Vec<Pool>)
     let Some(first) = step.run else {
         return;
     };
-    let outlier = Outlier {
+    let Ok(()) = table.put_outlier(outlier_of(&step, first, table)) else {
+        unreachable!();
+    };
+}
+
+/// The outlier of a move to this run.
+fn outlier_of(step: &Move, first: u32, table: &Table) -> Outlier
+    requires run { FitsSpare table.now.homes step.now (Some first) }
+    ensures outlier { result ≡ outlier_of table.now.homes step.now first }
+    ensures fits { FitsOutlier result }
+{
+    Outlier {
         range: step.range,
         memory: step.memory,
         first: table.spare_base(step.memory) + first,
-    };
-    let Ok(()) = table.put_outlier(outlier) else {
-        unreachable!();
-    };
+    }
 }
 
 /// Removes the outliers inside the block, and makes their runs free.
@@ -62,7 +71,16 @@ fn remove_one(outlier: &Outlier, table: &mut Table, pools: &mut Vec<Pool>)
     ensures runs { AreRuns table.old.homes table.new.outliers pools.new.items }
     ensures valid { IsTable table.new }
 {
+    let first = first_of(outlier, table);
     table.remove(&outlier.range);
-    let first = outlier.first - table.spare_base(outlier.memory);
     give_run(pools, outlier.memory, first, outlier.range.log);
+}
+
+/// The first page of the outlier's run, counted among the spare pages.
+fn first_of(outlier: &Outlier, table: &Table) -> u32
+    requires { FitsRun table.now.homes outlier.now }
+    ensures first { result ≡ first_of table.now.homes outlier.now }
+    ensures table { IsTable table.now }
+{
+    outlier.first - table.spare_base(outlier.memory)
 }

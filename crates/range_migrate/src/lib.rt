@@ -4,6 +4,7 @@
 mod copies;
 mod endings;
 mod laws;
+mod migrates;
 mod moves;
 mod plans;
 mod questions;
@@ -12,6 +13,7 @@ mod runs;
 pub use copies::next_copy;
 pub use endings::finish;
 pub use laws::accepted_moves_decide;
+pub use migrates::migrate;
 pub use moves::{Copy1, Move};
 pub use plans::plan;
 

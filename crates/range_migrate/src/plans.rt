@@ -1,4 +1,5 @@
 ghost use Rattle.std.specs.Prelude.{◌≡◌, ◌<◌, length, IfOk};
+ghost use Rattle.mind_base.specs.Range.{IsRange};
 ghost use Rattle.range_migrate.specs.Run.{ArePools, AreRuns};
 ghost use Rattle.range_migrate.specs.Ending.{IsUnderWay};
 ghost use Rattle.range_migrate.specs.Plan.{Plans, Takes, new_move, outside};
@@ -28,6 +29,7 @@ pub fn plan(
     ensures pools { ArePools table.now.homes pools.new.items }
     ensures ready { AreRuns table.now.homes table.now.outliers pools.old.items
         → IfOk result (IsUnderWay table.now pools.new.items) }
+    ensures block { IsRange range.now.domain range.now.base range.now.log }
 {
     if !are_placed(range, table) {
         return Err(Outcome::Unplaced);

@@ -1,4 +1,5 @@
 ghost use Rattle.std.specs.Prelude.{◌≡◌, ◌<◌, ◌^◌, is_some};
+ghost use Rattle.mind_base.specs.Range.{IsRange};
 ghost use Rattle.mind_base.specs.Home.{home_of};
 ghost use Rattle.range_translate.specs.Place.{place_of};
 ghost use Rattle.range_migrate.specs.Plan.{page_at, each_page, is_at};
@@ -8,7 +9,8 @@ use range_translate::Table;
 
 /// How many pages the block has.
 pub fn pages_in(range: &Range) -> u32
-    ensures { result ≡ 2 ^ range.now.log }
+    ensures pages { result ≡ 2 ^ range.now.log }
+    ensures block { IsRange range.now.domain range.now.base range.now.log }
 {
     1 << range.log
 }
@@ -36,7 +38,8 @@ fn is_at(place: Option<(u8, u32)>, memory: u8) -> bool
 
 /// Whether all pages of the block have a home.
 pub fn are_placed(range: &Range, table: &Table) -> bool
-    ensures { result ≡ each_page range.now (λ page. is_some (home_of table.now.homes page)) }
+    ensures placed { result ≡ each_page range.now (λ page. is_some (home_of table.now.homes page)) }
+    ensures block { IsRange range.now.domain range.now.base range.now.log }
 {
     for n in 0..pages_in(range) {
         if table.home(page_at(range, n)).is_none() {

@@ -1,5 +1,5 @@
 ghost use Rattle.std.specs.Prelude.{◌≡◌, ◌+◌, ◌<◌, ◌≤◌, ◌^◌, ◌%◌, ◌↔◌, ◌⊎◌, ℕ, length, map, slice_get, IsTrue, IsSomeAnd};
-ghost use Rattle.spare_pool.specs.Pool.{PoolView, InRun};
+ghost use Rattle.spare_pool.specs.Pool.{PoolView, IsPool, InRun};
 ghost use Rattle.range_migrate.specs.Run.{IsFreeAt};
 ghost use Rattle.range_migrate.specs.Plan.{HasFreeRun, IsLowestRunAt};
 
@@ -9,7 +9,8 @@ use spare_pool::Pool;
 pub fn has_run(pools: &[Pool], memory: u8, log: u8) -> bool
     requires log { log ≤ 9 }
     requires there { memory < length pools.now }
-    ensures { IsTrue result ↔ HasFreeRun (IsFreeAt pools.now) memory log }
+    ensures free { IsTrue result ↔ HasFreeRun (IsFreeAt pools.now) memory log }
+    ensures pool { IsSomeAnd (slice_get pools.now memory) IsPool }
 {
     pools[memory as usize].fits(log)
 }

@@ -1,9 +1,9 @@
-ghost use Rattle.std.specs.Prelude.{◌≡◌, ◌+◌, ◌<◌, ◌≤◌, ◌%◌, ◌^◌, [], ◌∷◌, map, IfOk};
-ghost use Rattle.spare_pool.specs.Pool.{PoolView};
-ghost use Rattle.range_migrate.specs.Run.{ArePools, AreRuns};
-ghost use Rattle.range_migrate.specs.Ending.{IsPlaced, FitsSpare};
+ghost use Rattle.std.specs.Prelude.{◌≡◌, ◌+◌, ◌<◌, ◌≤◌, ◌%◌, ◌^◌, [], ◌∷◌, IfOk};
+ghost use Rattle.range_translate.specs.Table.{IsTable};
+ghost use Rattle.spare_pool.specs.Pool.{all_free};
+ghost use Rattle.range_migrate.specs.Migrates.{AreReached};
 
-use crate::{Move, finish, next_copy, plan};
+use crate::migrate;
 use mind_base::{MemoryPlan, NoMemory, Outcome, Page, Range, Sequence, Span};
 use range_translate::Table;
 use spare_pool::Pool;
@@ -25,12 +25,13 @@ fn sixteen_pages(alloc: Global, base: u32) -> Result<MemoryPlan, NoMemory>
 
 /// The homes of pages 0 to 15 on memory blade 0 and of pages 16 to 31 on memory blade 1, and two slots.
 fn base_table(alloc: Global) -> Result<Table, NoMemory>
-    ensures { IfOk result (λ table. table ≡ record {
+    ensures empty { IfOk result (λ table. table ≡ record {
       homes = record { homes = record { domain = 0; base = 0; pages = 16 } ∷ []; spare = 4 }
           ∷ record { homes = record { domain = 0; base = 16; pages = 16 } ∷ []; spare = 4 } ∷ [];
       slots = 2;
       outliers = [];
     }) }
+    ensures table { IfOk result IsTable }
 {
     let mut memories = Vec::new(alloc);
     memories.push(sixteen_pages(alloc, 0)?)?;
@@ -40,7 +41,7 @@ fn base_table(alloc: Global) -> Result<Table, NoMemory>
 
 /// A pool of four spare pages for each of two memory blades.
 fn base_pools(alloc: Global) -> Result<Vec<Pool>, NoMemory>
-    ensures { IfOk result (λ pools. map (λ (pool : PoolView). pool.pages) pools.items ≡ 4 ∷ 4 ∷ []) }
+    ensures { IfOk result (λ pools. pools.items ≡ all_free 4 ∷ all_free 4 ∷ []) }
 {
     let mut pools = Vec::new(alloc);
     pools.push(Pool::new(alloc, 4)?)?;
@@ -48,32 +49,16 @@ fn base_pools(alloc: Global) -> Result<Vec<Pool>, NoMemory>
     Ok(pools)
 }
 
-/// The move when all its pages were copied.
-fn copied(mut step: Move, table: &Table) -> Move
-    requires placed { IsPlaced table.now.homes step.range }
-    requires run { FitsSpare table.now.homes step step.run }
-    ensures same { result ≡ record step { next = result.next } }
-    ensures all { 2 ^ step.range.log ≤ result.next }
-{
-    while next_copy(&mut step, table).is_some() {}
-    step
-}
-
-/// Plans a move, copies its pages and ends it.
-fn migrate(row: &Row, table: &mut Table, pools: &mut Vec<Pool>) -> Outcome
-    requires pools { ArePools table.old.homes pools.old.items }
-    requires runs { AreRuns table.old.homes table.old.outliers pools.old.items }
-    ensures pools { ArePools table.new.homes pools.new.items }
-    ensures runs { AreRuns table.new.homes table.new.outliers pools.new.items }
+/// How the row's migrate ends.
+fn outcome_of(row: &Row, table: &mut Table, pools: &mut Vec<Pool>) -> Outcome
+    requires reached { AreReached table.old pools.old.items }
+    ensures reached { AreReached table.new pools.new.items }
 {
     if row.memory as usize >= pools.len() {
         return Outcome::Unmapped;
     }
-    match plan(&row.range, row.memory, table, pools) {
-        Ok(step) => {
-            finish(copied(step, table), table, pools);
-            Outcome::Fine
-        }
+    match migrate(&row.range, row.memory, table, pools) {
+        Ok(_) => Outcome::Fine,
         Err(outcome) => outcome,
     }
 }
@@ -123,7 +108,7 @@ fn each_move_ends_as_the_ones_before_it_let_it(rt: HostRuntime) -> Result<(), Fa
         row_of(4, 0, 1, Outcome::Fine),
     ];
     for row in &rows {
-        assert_eq!(rt; migrate(row, &mut table, &mut pools), row.outcome);
+        assert_eq!(rt; outcome_of(row, &mut table, &mut pools), row.outcome);
     }
     assert_eq!(rt; table.place(page(0)), Some((0, 0)));
     assert_eq!(rt; table.place(page(2)), Some((1, 17)));

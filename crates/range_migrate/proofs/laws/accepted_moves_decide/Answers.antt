@@ -1,4 +1,6 @@
+use Rattle.std.proofs.Common.{refl}
 use Rattle.range_migrate.specs.Migrates.{accepted}
+use Rattle.range_migrate.proofs.Onward.{pools-reached}
 use Rattle.range_migrate.proofs.Kept.{always, free-after, ends-after}
 use Rattle.range_migrate.proofs.laws.accepted_moves_decide.Goals as goal
 
@@ -13,3 +15,9 @@ returns-clause-outcomes c = λ homes slots migrates outliers pools range memory 
 
 pub returns-clause-runs : goal.returns-clause-runs
 returns-clause-runs c = λ homes slots migrates outliers pools r. (always homes slots migrates outliers pools r).runs
+
+pub returns-clause-first : goal.returns-clause-first
+returns-clause-first c = λ homes slots table. (table, refl, refl)
+
+pub returns-clause-pools : goal.returns-clause-pools
+returns-clause-pools c = λ homes slots migrates outliers pools r. pools-reached homes slots migrates outliers pools r
