@@ -9,8 +9,8 @@ use Rattle.range_migrate.proofs.questions.are_placed.Goals as goal
 pub loop-n-init : goal.loop-n-init
 loop-n-init c = all_below-zero (λ i. is_some (home_of c.args.table.now.homes (page_at c.args.range.now i)))
 
-pub returns-then-is_none : goal.returns-then-is_none
-returns-then-is_none c =
+pub returns-then-is_none-clause-placed : goal.returns-then-is_none-clause-placed
+returns-then-is_none-clause-placed c =
     let lower : c.loop-n.n < 2 ^ c.args.range.now.log = subst (λ k. c.loop-n.n < k) c.pages_in-n-end.ensures.pages c.loop-n-test.true in
     let home : c.home.result ≡ home_of c.args.table.now.homes (page_at c.args.range.now c.loop-n.n) = c.home.ensures ∙ ap (λ (page : PageView). home_of c.args.table.now.homes page) c.page_at.ensures in
     sym (all_below-fails (λ i. is_some (home_of c.args.table.now.homes (page_at c.args.range.now i))) (2 ^ c.args.range.now.log) c.loop-n.n lower
