@@ -9,7 +9,7 @@ use Rattle.spare_pool.specs.Pool.{PoolView, all_free}
 use Rattle.range_migrate.specs.Run.{ArePools}
 use Rattle.range_migrate.specs.Plan.{Plans, Takes}
 use Rattle.range_migrate.specs.Ending.{IsUnderWay, Frees, outliers_after, table_after}
-use Rattle.range_migrate.specs.Migrates.{Migrate, Reached}
+use Rattle.range_migrate.specs.Migrates.{Migrate, Reached, AreReached}
 use Rattle.range_migrate.specs.declared.moves.Move.{Move}
 use Rattle.range_migrate.proofs.Nested.{IsBlock}
 use Rattle.range_migrate.proofs.Kept.{always}
@@ -68,3 +68,8 @@ pub table-copied : (table : TableView) (move copied : Move) (n : ℕ) → copied
 table-copied table move copied n e =
     ap (λ (m : Move). table_after m table) e
     ∙ ap (λ (os : List Outlier). let t : TableView = record { homes = table.homes; slots = table.slots; outliers = os } in t) (after-copied table.homes move n move.run table.outliers)
+
+-- a table without outliers, and pools that are all free, stand at the start
+pub reached-first : (homes : List MemoryPlan) (slots : ℕ) (table : TableView) (pools : List PoolView) → table ≡ record { homes = homes; slots = slots; outliers = [] } → IsTable table →
+    pools ≡ map (λ m. all_free m.spare) homes → AreReached table pools
+reached-first homes slots table pools e is free = subst (λ (t : TableView). IsTable t → AreReached t pools) (sym e) (λ i. ([], (i, (refl, free)))) is
