@@ -1,36 +1,36 @@
 -- What is true of outliers and pools after every list of migrates.
-use Rattle.std.proofs.Common.{◌≡◌, ◌≢◌, ℕ, zero, suc, ◌+◌, ◌-◌, ◌<◌, ◌≤◌, ◌%◌, ◌^◌, ◌↔◌, ◌⊎◌, Bool, true, false, cond, not, ◌&&◌, ◌||◌, ◌==◌, nat_lt, nat_le, List, [], ◌∷◌, ◌++◌, length, map, filter, Option, Some, None, is_some, Result, Ok, Err, All, IsTrue, Contains, refl, sym, ap, ◌∙◌, subst, arith, inl, inr}
-use Rattle.std.specs.List.{AllByRecursion, list_any, range_with_len}
+use Rattle.std.proofs.Common.{◌≡◌, ◌≢◌, ℕ, zero, suc, ◌+◌, ◌-◌, ◌<◌, ◌≤◌, ◌%◌, ◌^◌, ◌↔◌, Bool, true, false, cond, not, ◌&&◌, ◌||◌, ◌==◌, nat_lt, nat_le, List, [], ◌∷◌, length, map, filter, Option, Some, None, is_some, Result, Ok, Err, refl, sym, ap, ◌∙◌, subst, arith, inl, inr}
+use Rattle.std.specs.List.{AllByRecursion, list_any}
 use Rattle.std.specs.Option.{option_map}
 use Rattle.std.proofs.lemmas.Bool.{cases_Bool, cases_lt, false≢true}
 use Rattle.std.proofs.lemmas.Bool.Decides.{nat_tests}
 use Rattle.std.proofs.lemmas.Nat.{pow_pos}
 use Rattle.std.proofs.lemmas.List.Elements.{All-from_recursion, recursion_from_All}
 use Rattle.mind_base.specs.Page.{PageView}
-use Rattle.mind_base.specs.Range.{RangeView, IsRange, InRange, in_range}
+use Rattle.mind_base.specs.Range.{RangeView, InRange, in_range}
 use Rattle.mind_base.specs.Home.{home_of}
 use Rattle.mind_base.specs.declared.commands.Outcome.{Outcome}
 use Rattle.mind_base.specs.declared.plans.MemoryPlan.{MemoryPlan}
 use Rattle.range_translate.specs.Block.{is_inside, encloses}
 use Rattle.range_translate.specs.Order.{IsOrdered, put_in_order}
 use Rattle.range_translate.specs.Place.{place_of, smallest_of, place_or_home, place_in_outlier, IsSmallest}
-use Rattle.range_translate.specs.Table.{TableView, IsTable}
+use Rattle.range_translate.specs.Table.{IsTable}
 use Rattle.range_translate.specs.declared.outliers.Outlier.{Outlier}
 use Rattle.range_translate.proofs.BlockOrder.{ordered-filter}
-use Rattle.range_translate.proofs.SmallestLaw.{moved, at_home, in_range-true, in_range-has}
-use Rattle.spare_pool.specs.Pool.{PoolView, InRun, all_free}
+use Rattle.range_translate.proofs.SmallestLaw.{moved, at_home, in_range-has}
+use Rattle.spare_pool.specs.Pool.{PoolView, all_free}
 use Rattle.spare_pool.proofs.Pages.{in_range as in_list, range_has}
-use Rattle.range_migrate.specs.Run.{home_pages, spare_pages, ArePools, IsFreeAt, IsRun, first_of, lies_in, users, FitsRun, AreRuns}
-use Rattle.range_migrate.specs.Plan.{page_at, each_page, is_at, way_of, outside, IsFreeRunAt, IsLowestRunAt, new_move, EndsBy, EndsByRun, Plans, Uses, Takes, target_of}
-use Rattle.range_migrate.specs.Ending.{outlier_of, outliers_after, given_up, Frees}
-use Rattle.range_migrate.specs.Accepted.{place_after, with_run, in_force, first_page, has_spare, IsFreeAfter, others_in_force, EndsAfter}
-use Rattle.range_migrate.specs.Migrates.{Migrate, accepted_in, accepted, table_with, Ended, Moves, Reached}
+use Rattle.range_migrate.specs.Run.{home_pages, spare_pages, IsFreeAt, first_of, lies_in, users, FitsRun, AreRuns}
+use Rattle.range_migrate.specs.Plan.{each_page, is_at, way_of, outside, IsFreeRunAt, new_move, EndsBy, Plans, Uses, Takes, target_of}
+use Rattle.range_migrate.specs.Ending.{outlier_of, given_up, Frees}
+use Rattle.range_migrate.specs.Accepted.{place_after, in_force, first_page, has_spare, IsFreeAfter, others_in_force, EndsAfter}
+use Rattle.range_migrate.specs.Migrates.{Migrate, accepted_in, accepted, table_with, Ended, Reached}
 use Rattle.range_migrate.specs.declared.moves.Move.{Move}
 use Rattle.range_migrate.proofs.Counting.{filter-same, filter-filter, parts_of_test, any-count}
 use Rattle.range_migrate.proofs.InOrder.{IsNew, put-count, put-smallest, left-smallest, all-left, all-put, all-passing, all-map, put-there}
 use Rattle.range_migrate.proofs.Nested.{IsBlock, inside-by_size}
 use Rattle.range_migrate.proofs.PageSteps.{page_step, lies_to, lies_from, used-inside}
-use Rattle.range_migrate.proofs.PlanFacts.{each_page-at, Accepts, accepts, way-same, ends-along}
+use Rattle.range_migrate.proofs.PlanFacts.{each_page-at, accepts, way-same, ends-along}
 
 -- a move in force as an outlier
 abbrev pub as_outlier : List MemoryPlan → Move → Outlier

@@ -1,5 +1,5 @@
 -- From one list of migrates to the next.
-use Rattle.std.proofs.Common.{◌≡◌, ℕ, ◌<◌, List, [], ◌∷◌, length, map, Option, Some, None, Result, Ok, Err, refl, sym, ap, ◌∙◌, subst}
+use Rattle.std.proofs.Common.{◌≡◌, ℕ, ◌<◌, List, [], ◌∷◌, length, map, Option, Some, None, Ok, Err, refl, sym, ap, ◌∙◌, subst}
 use Rattle.mind_base.specs.Range.{RangeView}
 use Rattle.mind_base.specs.declared.commands.Outcome.{Outcome}
 use Rattle.mind_base.specs.declared.plans.MemoryPlan.{MemoryPlan}
@@ -29,31 +29,40 @@ pub accepted-next : (table new_table : TableView) (pools between new_pools : Lis
     new_table ≡ table_after move table → Frees table.homes move.range table.outliers between new_pools → ArePools table.homes new_pools → IsTable new_table →
     Reached new_table.homes new_table.slots (record { range = range; memory = memory; result = Ok move } ∷ migrates) new_table.outliers new_pools
 accepted-next table new_table pools between new_pools range memory move migrates r block there planned taken e frees one_each is =
-    subst (λ (t : TableView). Reached t.homes t.slots (record { range = range; memory = memory; result = Ok move } ∷ migrates) t.outliers new_pools) (sym e)
-    (table.outliers, pools, r, record {
-      block = block;
-      there = there;
-      planned = planned;
-      between = between;
-      taken = taken;
-      ended = (refl, frees);
-      one_each = one_each;
-      table = subst IsTable e is;
-    })
+    subst (λ (t : TableView). Reached t.homes t.slots (record { range = range; memory = memory; result = Ok move } ∷ migrates) t.outliers new_pools) (sym e) (
+      table.outliers,
+      pools,
+      r,
+      record {
+        block = block;
+        there = there;
+        planned = planned;
+        between = between;
+        taken = taken;
+        ended = (refl, frees);
+        one_each = one_each;
+        table = subst IsTable e is;
+      },
+    )
 
 pub refused-next : (table : TableView) (pools new_pools : List PoolView) (range : RangeView) (memory : ℕ) (outcome : Outcome) (migrates : List Migrate) →
     Reached table.homes table.slots migrates table.outliers pools → IsBlock range → memory < length table.homes → Plans table pools range memory (Err outcome) → Takes pools (Err outcome) new_pools →
     ArePools table.homes new_pools → Reached table.homes table.slots (record { range = range; memory = memory; result = Err outcome } ∷ migrates) table.outliers new_pools
-refused-next table pools new_pools range memory outcome migrates r block there planned taken one_each = (table.outliers, pools, r, record {
-  block = block;
-  there = there;
-  planned = planned;
-  between = new_pools;
-  taken = taken;
-  ended = (refl, refl);
-  one_each = one_each;
-  table = (always table.homes table.slots migrates table.outliers pools r).table;
-})
+refused-next table pools new_pools range memory outcome migrates r block there planned taken one_each = (
+  table.outliers,
+  pools,
+  r,
+  record {
+    block = block;
+    there = there;
+    planned = planned;
+    between = new_pools;
+    taken = taken;
+    ended = (refl, refl);
+    one_each = one_each;
+    table = (always table.homes table.slots migrates table.outliers pools r).table;
+  },
+)
 
 -- a move stays under way while its pages are copied
 pub under_way-copied : (table : TableView) (pools : List PoolView) (move : Move) (n : ℕ) → IsUnderWay table pools move → IsUnderWay table pools (record move { next = n })
@@ -72,4 +81,4 @@ table-copied table move copied n e =
 -- a table without outliers, and pools that are all free, stand at the start
 pub reached-first : (homes : List MemoryPlan) (slots : ℕ) (table : TableView) (pools : List PoolView) → table ≡ record { homes = homes; slots = slots; outliers = [] } → IsTable table →
     pools ≡ map (λ m. all_free m.spare) homes → AreReached table pools
-reached-first homes slots table pools e is free = subst (λ (t : TableView). IsTable t → AreReached t pools) (sym e) (λ i. ([], (i, (refl, free)))) is
+reached-first homes slots table pools e is free = subst (λ (t : TableView). IsTable t → AreReached t pools) (sym e) (λ i. ([], (i, refl, free))) is

@@ -1,5 +1,5 @@
 -- One pool among those of the memory blades: what it says of free pages and runs, and what changes when it changes.
-use Rattle.std.proofs.Common.{◌≡◌, ℕ, zero, suc, ◌+◌, ◌-◌, ◌<◌, ◌≤◌, ◌%◌, ◌^◌, ◌↔◌, ◌⊎◌, List, [], ◌∷◌, length, map, slice_get, slice_set, Option, Some, None, IsSomeAnd, All, Contains, refl, sym, ap, ◌∙◌, subst, arith, inl, inr}
+use Rattle.std.proofs.Common.{◌≡◌, ℕ, zero, suc, ◌+◌, ◌-◌, ◌<◌, ◌≤◌, ◌^◌, ◌↔◌, ◌⊎◌, List, [], ◌∷◌, length, map, slice_get, slice_set, Option, Some, None, IsSomeAnd, All, Contains, refl, sym, ap, ◌∙◌, subst, arith, inl, inr}
 use Rattle.std.specs.List.{AllByRecursion}
 use Rattle.std.specs.Option.{unwrap_or}
 use Rattle.std.proofs.lemmas.Bool.{cases_eq}
@@ -10,7 +10,7 @@ use Rattle.mind_base.specs.declared.plans.MemoryPlan.{MemoryPlan}
 use Rattle.spare_pool.specs.Pool.{PoolView, IsPool, InRun, IsFreeRun, IsLowestRun}
 use Rattle.range_translate.specs.Place.{pages_of}
 use Rattle.range_migrate.specs.Run.{home_pages, spare_pages, ArePools, IsFreeAt}
-use Rattle.range_migrate.specs.Plan.{IsFreeRunAt, HasFreeRun, IsLowestRunAt}
+use Rattle.range_migrate.specs.Plan.{IsFreeRunAt, IsLowestRunAt}
 
 pub free-at : (pools : List PoolView) (memory page : ℕ) (pool : PoolView) → slice_get pools memory ≡ Some pool → IsFreeAt pools memory page ↔ Contains pool.free page
 free-at pools memory page pool e = subst (λ (o : Option PoolView). IsSomeAnd o (λ p. Contains p.free page) ↔ Contains pool.free page) (sym e) (λ w. w, λ w. w)

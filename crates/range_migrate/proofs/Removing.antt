@@ -1,8 +1,8 @@
 -- One outlier is taken out: what is left, and which uses of spare pages end.
-use Rattle.std.proofs.Common.{◌≡◌, ℕ, zero, suc, ◌+◌, ◌-◌, ◌<◌, ◌≤◌, ◌%◌, ◌^◌, ◌↔◌, ◌⊎◌, Bool, true, false, cond, not, ◌&&◌, ◌==◌, nat_lt, nat_le, List, [], ◌∷◌, length, map, filter, slice_get, Option, Some, None, IsSomeAnd, IsTrue, Contains, refl, sym, ap, ◌∙◌, subst, arith, inl, inr}
+use Rattle.std.proofs.Common.{◌≡◌, ℕ, zero, suc, ◌+◌, ◌-◌, ◌<◌, ◌≤◌, ◌%◌, ◌^◌, ◌↔◌, ◌⊎◌, Bool, true, false, cond, not, ◌&&◌, ◌==◌, nat_lt, nat_le, List, [], ◌∷◌, length, map, filter, slice_get, Some, None, IsSomeAnd, IsTrue, Contains, refl, sym, ap, ◌∙◌, subst, arith, inl, inr}
 use Rattle.std.specs.List.{AllByRecursion, find}
 use Rattle.std.specs.Option.{unwrap_or}
-use Rattle.std.proofs.lemmas.Bool.{cases_Bool, cases_lt, false≢true}
+use Rattle.std.proofs.lemmas.Bool.{cases_Bool, false≢true}
 use Rattle.std.proofs.lemmas.Bool.Decides.{nat_tests}
 use Rattle.std.proofs.lemmas.Nat.{pow_pos}
 use Rattle.mind_base.specs.Range.{RangeView}
@@ -13,10 +13,10 @@ use Rattle.range_translate.specs.Table.{TableView}
 use Rattle.range_translate.specs.declared.outliers.Outlier.{Outlier}
 use Rattle.range_translate.proofs.BlockOrder.{equal_blocks}
 use Rattle.spare_pool.specs.Pool.{PoolView, InRun}
-use Rattle.range_migrate.specs.Run.{home_pages, spare_pages, ArePools, IsFreeAt, first_of, lies_in, users, FitsRun, AreRuns}
+use Rattle.range_migrate.specs.Run.{spare_pages, ArePools, IsFreeAt, first_of, lies_in, users, FitsRun, AreRuns}
 use Rattle.range_migrate.specs.Plan.{outside}
 use Rattle.range_migrate.specs.Ending.{given_up, Frees}
-use Rattle.range_migrate.proofs.Counting.{filter-same, filter-filter, parts_of_test, bit_of}
+use Rattle.range_migrate.proofs.Counting.{filter-same, filter-filter, bit_of}
 use Rattle.range_migrate.proofs.InOrder.{all-left}
 
 pub all-at : (P : Outlier → Type 0) (xs : List Outlier) (o : Outlier) → AllByRecursion P xs → Contains xs o → P o

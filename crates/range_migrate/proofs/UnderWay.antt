@@ -1,20 +1,17 @@
 -- A planned move is under way, and what its end leaves of the runs.
-use Rattle.std.proofs.Common.{◌≡◌, ◌≢◌, ℕ, ◌+◌, ◌-◌, ◌<◌, ◌≤◌, ◌%◌, ◌^◌, ◌↔◌, ◌⊎◌, Bool, true, false, cond, not, ◌&&◌, List, [], ◌∷◌, length, map, filter, slice_get, Option, Some, None, is_some, Result, Ok, Err, All, Contains, refl, sym, ap, ◌∙◌, subst, arith, inl, inr}
-use Rattle.std.specs.List.{AllByRecursion}
-use Rattle.std.proofs.lemmas.Bool.{cases_Bool, false≢true}
-use Rattle.mind_base.specs.Page.{PageView}
-use Rattle.mind_base.specs.Range.{RangeView, InRange}
+use Rattle.std.proofs.Common.{◌≡◌, ◌≢◌, ℕ, ◌+◌, ◌-◌, ◌<◌, ◌≤◌, ◌%◌, ◌^◌, ◌↔◌, ◌⊎◌, Bool, true, false, cond, not, List, length, filter, Option, Some, None, is_some, refl, sym, ap, ◌∙◌, subst, arith, inl, inr}
+use Rattle.std.proofs.lemmas.Bool.{false≢true}
+use Rattle.mind_base.specs.Range.{RangeView}
 use Rattle.mind_base.specs.Home.{home_of}
 use Rattle.mind_base.specs.declared.plans.MemoryPlan.{MemoryPlan}
 use Rattle.range_translate.specs.Block.{is_inside}
 use Rattle.range_translate.specs.Order.{IsOrdered, put_in_order}
-use Rattle.range_translate.specs.Table.{TableView, IsTable}
+use Rattle.range_translate.specs.Table.{TableView}
 use Rattle.range_translate.specs.declared.outliers.Outlier.{Outlier}
-use Rattle.range_translate.proofs.BlockOrder.{ordered-filter}
-use Rattle.spare_pool.specs.Pool.{PoolView, IsPool, InRun}
-use Rattle.range_migrate.specs.Run.{home_pages, spare_pages, ArePools, IsFreeAt, IsRun, first_of, lies_in, users, FitsRun, AreRuns}
+use Rattle.spare_pool.specs.Pool.{PoolView, InRun}
+use Rattle.range_migrate.specs.Run.{home_pages, spare_pages, ArePools, IsFreeAt, lies_in, users, FitsRun, AreRuns}
 use Rattle.range_migrate.specs.Plan.{each_page, outside, IsFreeRunAt, new_move}
-use Rattle.range_migrate.specs.Ending.{IsPlaced, FitsSpare, outlier_of, outliers_after, given_up, Frees, OwnsRun, HasSlot, IsUnderWay, table_after}
+use Rattle.range_migrate.specs.Ending.{IsPlaced, FitsSpare, outlier_of, outliers_after, given_up, Frees, OwnsRun, IsUnderWay, table_after}
 use Rattle.range_migrate.specs.declared.moves.Move.{Move}
 use Rattle.range_migrate.proofs.InOrder.{put-count, all-left, all-put}
 use Rattle.range_migrate.proofs.PageSteps.{lies_to}

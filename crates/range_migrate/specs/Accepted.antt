@@ -1,6 +1,6 @@
 -- Where pages lie, which runs are in use and how a move ends, by the list of the moves that were accepted. The
 -- latest stands first.
-use Rattle.std.specs.Prelude.{◌≡◌, ℕ, ◌+◌, ◌<◌, ◌≤◌, ◌^◌, Bool, not, ◌&&◌, ◌==◌, nat_lt, nat_le, List, [], ◌∷◌, ◌++◌, length, filter, Option, Some, None, unwrap_or, Result, if◌then◌else◌}
+use Rattle.std.specs.Prelude.{◌≡◌, ℕ, ◌+◌, ◌<◌, ◌^◌, Bool, not, ◌&&◌, ◌==◌, nat_lt, nat_le, List, [], ◌∷◌, ◌++◌, length, filter, Option, Some, None, unwrap_or, Result, if◌then◌else◌}
 use Rattle.std.specs.List.{list_any}
 use Rattle.mind_base.specs.Page.{PageView}
 use Rattle.mind_base.specs.Range.{RangeView, in_range}

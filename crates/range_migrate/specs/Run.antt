@@ -1,10 +1,10 @@
 -- Runs of spare pages: which are free, and which pages the moved blocks lie in.
-use Rattle.std.specs.Prelude.{◌≡◌, ℕ, ◌+◌, ◌-◌, ◌%◌, ◌^◌, ◌<◌, ◌≤◌, Bool, ◌&&◌, ◌==◌, nat_lt, nat_le, List, length, map, filter, slice_get, IsSomeAnd, option_map, unwrap_or}
+use Rattle.std.specs.Prelude.{◌≡◌, ℕ, ◌+◌, ◌-◌, ◌%◌, ◌^◌, ◌≤◌, Bool, ◌&&◌, ◌==◌, nat_lt, nat_le, List, length, map, filter, slice_get, IsSomeAnd, unwrap_or}
 use Rattle.std.specs.List.{AllByRecursion, Contains}
 use Rattle.mind_base.specs.declared.plans.MemoryPlan.{MemoryPlan}
 use Rattle.range_translate.specs.Place.{pages_of}
 use Rattle.range_translate.specs.declared.outliers.Outlier.{Outlier}
-use Rattle.spare_pool.specs.Pool.{PoolView, InRun}
+use Rattle.spare_pool.specs.Pool.{PoolView}
 
 -- how many home pages a memory blade has, which is the physical number of its first spare page
 abbrev pub home_pages : List MemoryPlan → ℕ → ℕ

@@ -1,4 +1,4 @@
-use Rattle.std.proofs.Common.{◌≡◌, ℕ, ◌+◌, ◌≤◌, ◌^◌, Some, sym, ap, ◌∙◌, subst, arith}
+use Rattle.std.proofs.Common.{◌≡◌, ◌+◌, ◌≤◌, ◌^◌, sym, ap, ◌∙◌, subst, arith}
 use Rattle.mind_base.specs.Page.{PageView}
 use Rattle.range_migrate.specs.Run.{spare_pages}
 use Rattle.range_migrate.specs.Ending.{FitsSpare}

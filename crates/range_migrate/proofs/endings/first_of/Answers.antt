@@ -1,5 +1,4 @@
-use Rattle.std.proofs.Common.{◌≡◌, ◌-◌, ◌≤◌, sym, ap, subst}
-use Rattle.range_migrate.specs.Run.{home_pages}
+use Rattle.std.proofs.Common.{◌-◌, ◌≤◌, sym, ap, subst}
 use Rattle.range_migrate.proofs.Pools.{run-there, base-is}
 use Rattle.range_migrate.proofs.endings.first_of.Goals as goal
 

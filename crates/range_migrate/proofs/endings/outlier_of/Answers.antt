@@ -1,6 +1,5 @@
-use Rattle.std.proofs.Common.{◌≡◌, ℕ, ◌+◌, sym, ap, arith}
+use Rattle.std.proofs.Common.{ℕ, ◌+◌, sym, ap, arith}
 use Rattle.range_translate.specs.declared.outliers.Outlier.{Outlier}
-use Rattle.range_migrate.specs.Run.{home_pages}
 use Rattle.range_migrate.proofs.Pools.{run-there, spare-few, base-is}
 use Rattle.range_migrate.proofs.endings.outlier_of.Goals as goal
 

@@ -1,9 +1,8 @@
-use Rattle.std.proofs.Common.{◌≡◌, ◌<◌, ◌∙◌, length, Some, None, sym, subst}
-use Rattle.std.specs.List.{find}
+use Rattle.std.proofs.Common.{◌<◌, ◌∙◌, length, sym, subst}
 use Rattle.range_translate.specs.Block.{is_inside}
 use Rattle.range_translate.specs.Table.{TableView}
 use Rattle.range_translate.specs.declared.outliers.Outlier.{Outlier}
-use Rattle.range_migrate.proofs.Removing.{found, removal-start, removal-step, removal-end, fewer-left}
+use Rattle.range_migrate.proofs.Removing.{found, removal-step, removal-end, fewer-left}
 use Rattle.range_migrate.proofs.endings.remove_inside.Goals as goal
 
 pub remove_one-requires-clause-there : goal.remove_one-requires-clause-there

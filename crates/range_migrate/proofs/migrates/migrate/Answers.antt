@@ -1,6 +1,5 @@
-use Rattle.std.proofs.Common.{◌≡◌, ◌<◌, ◌∙◌, length, sym, ap, subst, arith}
-use Rattle.range_migrate.specs.Run.{ArePools, AreRuns}
-use Rattle.range_migrate.specs.Ending.{IsUnderWay, Frees, table_after}
+use Rattle.std.proofs.Common.{◌<◌, ◌∙◌, length, sym, subst, arith}
+use Rattle.range_migrate.specs.Ending.{IsUnderWay, Frees}
 use Rattle.range_migrate.specs.declared.moves.Move.{Move}
 use Rattle.range_migrate.proofs.Kept.{always}
 use Rattle.range_migrate.proofs.Onward.{pools-reached, accepted-next, refused-next, under_way-copied, table-copied}

@@ -1,7 +1,7 @@
-use Rattle.std.proofs.Common.{◌≡◌, ℕ, ◌+◌, ◌<◌, ◌≤◌, ◌^◌, ◌↔◌, List, length, slice_get, IsSomeAnd, Some, sym, ap, ◌∙◌, subst, arith}
+use Rattle.std.proofs.Common.{◌≡◌, ℕ, ◌+◌, ◌<◌, ◌≤◌, ◌↔◌, List, length, slice_get, IsSomeAnd, sym, ap, ◌∙◌, subst, arith}
 use Rattle.mind_base.specs.Range.{RangeView}
 use Rattle.spare_pool.specs.Pool.{PoolView, IsPool, InRun}
-use Rattle.range_migrate.specs.Run.{ArePools, IsFreeAt, spare_pages}
+use Rattle.range_migrate.specs.Run.{ArePools, IsFreeAt}
 use Rattle.range_migrate.specs.Plan.{IsFreeRunAt, outside}
 use Rattle.range_migrate.specs.Ending.{IsUnderWay}
 use Rattle.range_migrate.proofs.Pools.{as_many, run-fits}

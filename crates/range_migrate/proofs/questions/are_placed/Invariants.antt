@@ -1,8 +1,7 @@
 use Rattle.std.proofs.Common.{◌≡◌, true, is_some}
 use Rattle.mind_base.specs.Cover.{all_below}
 use Rattle.mind_base.specs.Home.{home_of}
-use Rattle.range_translate.specs.Place.{place_of}
-use Rattle.range_migrate.specs.Plan.{page_at, is_at}
+use Rattle.range_migrate.specs.Plan.{page_at}
 use Rattle.range_migrate.proofs.questions.are_placed.Given as goal
 
 abbrev pub invariant-loop-n : goal.invariant-loop-n

@@ -1,7 +1,6 @@
-use Rattle.std.proofs.Common.{◌≡◌, true, is_some}
+use Rattle.std.proofs.Common.{◌≡◌, true}
 use Rattle.mind_base.specs.Cover.{all_below}
 use Rattle.mind_base.specs.Home.{home_of}
-use Rattle.range_translate.specs.Place.{place_of}
 use Rattle.range_migrate.specs.Plan.{page_at, is_at}
 use Rattle.range_migrate.proofs.questions.have_homes_at.Given as goal
 

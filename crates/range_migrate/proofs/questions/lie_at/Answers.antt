@@ -1,6 +1,5 @@
-use Rattle.std.proofs.Common.{◌≡◌, ℕ, ◌<◌, ◌^◌, Bool, true, false, not, is_some, sym, ap, ◌∙◌, subst}
+use Rattle.std.proofs.Common.{◌≡◌, ◌<◌, ◌^◌, sym, ap, ◌∙◌, subst}
 use Rattle.mind_base.specs.Page.{PageView}
-use Rattle.mind_base.specs.Home.{home_of}
 use Rattle.range_translate.specs.Place.{place_of}
 use Rattle.range_migrate.specs.Plan.{page_at, is_at}
 use Rattle.range_migrate.proofs.PlanFacts.{all_below-zero, all_below-more, all_below-fails}

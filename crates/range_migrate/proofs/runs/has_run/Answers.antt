@@ -1,6 +1,6 @@
 use Rattle.std.proofs.Common.{◌≡◌, Some, IsSomeAnd, slice_get, refl, sym, subst}
 use Rattle.std.proofs.lemmas.Option.{slice_get_read}
-use Rattle.spare_pool.specs.Pool.{PoolView, IsPool}
+use Rattle.spare_pool.specs.Pool.{IsPool}
 use Rattle.range_migrate.proofs.Pools.{run-at}
 use Rattle.range_migrate.proofs.runs.has_run.Goals as goal
 
