@@ -141,6 +141,9 @@ all-by test (x ∷ xs) all = let (here, rest) = all-both test x (test x) (list_a
 pub built-of : (xs ys zs : List Event) (b : Bool) → xs ≡ zs → ys ≡ zs → b ≡ list_all is_built ys → b ≡ true → AllByRecursion IsBuilt xs
 built-of xs ys zs b whole part found all = let P : List Event → Type 0 = λ es. AllByRecursion IsBuilt es in subst P (part ∙ sym whole) (all-by is_built ys (sym found ∙ all))
 
+pub all-same : {X : Type 0} (P : X → Type 0) (xs ys : List X) → xs ≡ ys → AllByRecursion P ys → AllByRecursion P xs
+all-same P xs ys same all = subst (AllByRecursion P) (sym same) all
+
 nothing-on : (images : List Image) → images ++ [] ≡ images
 nothing-on [] = refl
 nothing-on (i ∷ images) = ap (λ is. i ∷ is) (nothing-on images)

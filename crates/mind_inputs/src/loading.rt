@@ -1,6 +1,7 @@
 ghost use Rattle.std.specs.Prelude.{◌≡◌, ◌≤◌, ◌<◌, [], length, IfOk};
 ghost use Rattle.std.specs.List.{AllByRecursion, list_all};
 ghost use Rattle.mind_base.specs.Fit.{IsFit, FitsImage, FitImages};
+ghost use Rattle.schedule_text.specs.Event.{IsEventOf};
 ghost use Rattle.mind_inputs.specs.Inputs.{Judges, JudgesOne, JudgesImages, Bytes, rack_judged, image_judged, schedule_judged, is_built, IsBuilt};
 ghost use Rattle.mind_inputs.specs.Judged.{Gives};
 ghost use Rattle.mind_inputs.specs.Loading.{Loads, Brings, stopped_of};
@@ -89,6 +90,7 @@ fn events_from(alloc: Global, bytes: &[u8], plan: &RackPlan) -> Result<Sequence<
     ensures judged { Gives result (schedule_judged plan.now (Bytes bytes.now)) }
     ensures few { IfOk result (λ events. length events ≤ 1000000) }
     ensures built { IfOk result (λ events. AllByRecursion IsBuilt events) }
+    ensures numbers { IfOk result (λ events. AllByRecursion (IsEventOf plan.now) events) }
 {
     match schedule_of(alloc, bytes, plan) {
         Ok(events) => if all_built(events.as_slice()) {
@@ -190,6 +192,7 @@ fn read_schedule<S: Store>(
         (S.faults store.old) (S.faults store.new) (S.missed store.old) (S.missed store.new) result }
     ensures few { IfOk result (λ events. length events ≤ 1000000) }
     ensures built { IfOk result (λ events. AllByRecursion IsBuilt events) }
+    ensures numbers { IfOk result (λ events. AllByRecursion (IsEventOf plan.now) events) }
 {
     match store.read_all(alloc, name, SCHEDULE_BYTES) {
         Ok(bytes) => events_from(alloc, bytes.as_slice(), plan),
@@ -214,11 +217,12 @@ pub fn load<S: Store>(
     ensures loads { Loads (S.holds store.old) (Judges (S.holds store.old) (record { rack = rack.now; schedule = schedule.now }))
         (S.faults store.old) (S.faults store.new) (S.missed store.old) (S.missed store.new) result }
 
-    // What is accepted: a fit rack, its images, and events that are built.
+    // What is accepted: a fit rack, its images, and events of that rack, of kinds that are built.
     ensures fit { IfOk result (λ loaded. IsFit loaded.plan) }
     ensures images { IfOk result (λ loaded. FitImages loaded.plan.images loaded.images) }
     ensures few { IfOk result (λ loaded. length loaded.events ≤ 1000000) }
     ensures built { IfOk result (λ loaded. AllByRecursion IsBuilt loaded.events) }
+    ensures numbers { IfOk result (λ loaded. AllByRecursion (IsEventOf loaded.plan) loaded.events) }
 {
     let plan = match read_rack(alloc, store, rack) {
         Ok(plan) => plan,

@@ -21,6 +21,7 @@ fn main(rt: HostRuntime) -> ExitCode {
     let mut store = DirStore::new(&rt);
     let mut sink = OutSink::new(&rt);
     let mut log = Log::new(rt.alloc());
+    let mut end = None;
     let status = match words(&rt) {
         Ok(words) => mind(
             rt.alloc(),
@@ -28,6 +29,7 @@ fn main(rt: HostRuntime) -> ExitCode {
             &mut store,
             &mut sink,
             &mut log,
+            &mut end,
         ),
         Err(_) => Status::NoMemory,
     };

@@ -1,9 +1,7 @@
-//! Runs of a rack: a schedule's events, one after another, on the abstract machine; and journals of runs,
-//! checked on it.
+//! Logs of runs on the abstract machine: a journal is checked to be that of a run, and the report of a run is
+//! made from its log.
 #![tactic(auto)]
 
 mod checking;
-mod running;
 
-pub use checking::{Checked, check};
-pub use running::{machine_of, run, run_journal};
+pub use checking::{Checked, check, report_of};

@@ -10,9 +10,12 @@ use Rattle.mind_inputs.specs.Journals.{Checkable, JudgesCheck}
 use Rattle.mind_inputs.specs.Loading.{FaultTold, MissTold, Loads, StopsBy}
 use Rattle.mind_inputs.specs.declared.stopped.Stopped.{Stopped}
 use Rattle.mind_inputs.specs.declared.stopped.Stopped.TheVariants as stopped
+use Rattle.rack_core.specs.Rack.{RackView}
 use Rattle.mind_top.specs.Words.{Form, Run, Check, IsForm}
 use Rattle.mind_top.specs.Due.{EndsBy, Due, not_a_run_line}
 use Rattle.mind_top.specs.Ending.{Counts, EndsWith}
+use Rattle.mind_top.specs.Headline.{RunWrites}
+use Rattle.mind_top.specs.Left.{Left, LeavesNothing}
 use Rattle.mind_top.specs.Parts.{Says, SaysLine, Stops, RunEnds, CheckEnds}
 use Rattle.mind_top.specs.declared.words.Output.{Output}
 use Rattle.mind_top.specs.declared.statuses.Status.{Status}
@@ -20,43 +23,44 @@ use Rattle.mind_top.specs.declared.statuses.Status.TheVariants as status
 
 -- ---- what was due was written, or the write failed
 
-due-written : (holds : Option Files) (words : List (List ℕ)) (log : List Note) (before now : Counts) (old new : Option (List ℕ)) (text : List ℕ) (due : Status)
-    → Due holds words log due text → Appends old new text → EndsWith holds words log before now old new due
-due-written holds words log before now old new text status.Done due appends = (text, due, appends)
-due-written holds words log before now old new text status.Usage due appends = (text, due, appends)
-due-written holds words log before now old new text status.Malformed due appends = (text, due, appends)
-due-written holds words log before now old new text status.NotARun due appends = (text, due, appends)
-due-written holds words log before now old new text status.ReadFault due appends = absurd due
-due-written holds words log before now old new text status.WriteFault due appends = absurd due
-due-written holds words log before now old new text status.NoMemory due appends = absurd due
+due-written : (holds : Option Files) (words : List (List ℕ)) (left : Left) (before now : Counts) (old new : Option (List ℕ)) (text : List ℕ) (due : Status)
+    → Due holds words left due text → Appends old new text → EndsWith holds words left before now old new due
+due-written holds words left before now old new text status.Done due appends = (text, due, appends)
+due-written holds words left before now old new text status.Usage due appends = (text, due, appends)
+due-written holds words left before now old new text status.Malformed due appends = (text, due, appends)
+due-written holds words left before now old new text status.NotARun due appends = (text, due, appends)
+due-written holds words left before now old new text status.ReadFault due appends = absurd due
+due-written holds words left before now old new text status.WriteFault due appends = absurd due
+due-written holds words left before now old new text status.NoMemory due appends = absurd due
+due-written holds words left before now old new text status.Spent due appends = absurd due
 
-pub said : (holds : Option Files) (words : List (List ℕ)) (log : List Note) (before now : Counts) (old new : Option (List ℕ)) (text : List ℕ) (due result : Status)
-    → Due holds words log due text → Says old new before.failed now.failed text due result → EndsWith holds words log before now old new result
-said holds words log before now old new text due result is_due (inl (same, appends)) =
-    let P : Status → Type 0 = λ s. EndsWith holds words log before now old new s in
-    subst P (sym same) (due-written holds words log before now old new text due is_due appends)
-said holds words log before now old new text due result is_due (inr (fault, rises, front)) =
-    let P : Status → Type 0 = λ s. EndsWith holds words log before now old new s in
+pub said : (holds : Option Files) (words : List (List ℕ)) (left : Left) (before now : Counts) (old new : Option (List ℕ)) (text : List ℕ) (due result : Status)
+    → Due holds words left due text → Says old new before.failed now.failed text due result → EndsWith holds words left before now old new result
+said holds words left before now old new text due result is_due (inl (same, appends)) =
+    let P : Status → Type 0 = λ s. EndsWith holds words left before now old new s in
+    subst P (sym same) (due-written holds words left before now old new text due is_due appends)
+said holds words left before now old new text due result is_due (inr (fault, rises, front)) =
+    let P : Status → Type 0 = λ s. EndsWith holds words left before now old new s in
     subst P (sym fault) (rises, due, text, is_due, front)
 
 -- the same of a line, for which there may be no memory
-said-line : (holds : Option Files) (words : List (List ℕ)) (form : Form) (log : List Note) (before now : Counts) (old new : Option (List ℕ)) (text : List ℕ) (due result : Status)
-    → log ≡ [] → IsForm words form → Due holds words log due text → SaysLine old new before.failed now.failed text due result → EndsWith holds words log before now old new result
-said-line holds words form log before now old new text due result empty is is_due (inl (none, kept)) =
-    let P : Status → Type 0 = λ s. EndsWith holds words log before now old new s in subst P (sym none) ((form, is), inl empty, kept)
-said-line holds words form log before now old new text due result empty is is_due (inr says) = said holds words log before now old new text due result is_due says
+said-line : (holds : Option Files) (words : List (List ℕ)) (form : Form) (left : Left) (before now : Counts) (old new : Option (List ℕ)) (text : List ℕ) (due result : Status)
+    → LeavesNothing left → IsForm words form → Due holds words left due text → SaysLine old new before.failed now.failed text due result → EndsWith holds words left before now old new result
+said-line holds words form left before now old new text due result empty is is_due (inl (none, kept)) =
+    let P : Status → Type 0 = λ s. EndsWith holds words left before now old new s in subst P (sym none) ((form, is), (empty.1, inl empty.0), kept)
+said-line holds words form left before now old new text due result empty is is_due (inr says) = said holds words left before now old new text due result is_due says
 
 -- ---- an input was not brought
 
-pub stopped-call : (holds : Option Files) (words : List (List ℕ)) (form : Form) (log : List Note) (before now : Counts) (old new : Option (List ℕ)) (why : Stopped) (result : Status)
-    → log ≡ [] → IsForm words form → StopsBy holds (λ ending. EndsBy holds form ending) before.faults now.faults before.missed now.missed why
-    → Stops old new before.failed now.failed why result → EndsWith holds words log before now old new result
-stopped-call holds words form log before now old new (stopped.Refused refusal) result empty is stops says =
-    said-line holds words form log before now old new (line_of refusal) status.Malformed result empty is (form, is, refusal, stops, empty, refl) says
-stopped-call holds words form log before now old new stopped.ReadFault result empty is (rises, told) (same, kept) =
-    let P : Status → Type 0 = λ s. EndsWith holds words log before now old new s in subst P (sym same) (form, is, rises, told, empty, kept)
-stopped-call holds words form log before now old new stopped.NoMemory result empty is stops (same, kept) =
-    let P : Status → Type 0 = λ s. EndsWith holds words log before now old new s in subst P (sym same) ((form, is), inl empty, kept)
+pub stopped-call : (holds : Option Files) (words : List (List ℕ)) (form : Form) (left : Left) (before now : Counts) (old new : Option (List ℕ)) (why : Stopped) (result : Status)
+    → LeavesNothing left → IsForm words form → StopsBy holds (λ ending. EndsBy holds form ending) before.faults now.faults before.missed now.missed why
+    → Stops old new before.failed now.failed why result → EndsWith holds words left before now old new result
+stopped-call holds words form left before now old new (stopped.Refused refusal) result empty is stops says =
+    said-line holds words form left before now old new (line_of refusal) status.Malformed result empty is (form, is, refusal, stops, empty, refl) says
+stopped-call holds words form left before now old new stopped.ReadFault result empty is (rises, told) (same, kept) =
+    let P : Status → Type 0 = λ s. EndsWith holds words left before now old new s in subst P (sym same) (form, is, rises, told, empty, kept)
+stopped-call holds words form left before now old new stopped.NoMemory result empty is stops (same, kept) =
+    let P : Status → Type 0 = λ s. EndsWith holds words left before now old new s in subst P (sym same) ((form, is), (empty.1, inl empty.0), kept)
 
 miss-told : (holds : Option Files) (judges : Judged → Type 0) (f f' : ℕ) → FaultTold holds judges f f' → MissTold holds (judges (Ends Missing)) f f'
 miss-told None judges f f' told = tt
@@ -70,39 +74,54 @@ loads-stops holds judges f f' m m' stopped.NoMemory loads = tt
 
 -- ---- a run
 
-pub run-stopped : (holds : Option Files) (words : List (List ℕ)) (output : Output) (paths : Paths) (log : List Note) (before now : Counts) (old new : Option (List ℕ)) (why : Stopped) (result : Status)
-    → log ≡ [] → IsForm words (Run output paths) → Loads holds (Judges holds paths) before.faults now.faults before.missed now.missed (Err why)
-    → Stops old new before.failed now.failed why result → EndsWith holds words log before now old new result
-run-stopped holds words output paths log before now old new why result empty is loads says =
-    stopped-call holds words (Run output paths) log before now old new why result empty is
+pub run-stopped : (holds : Option Files) (words : List (List ℕ)) (output : Output) (paths : Paths) (left : Left) (before now : Counts) (old new : Option (List ℕ)) (why : Stopped) (result : Status)
+    → LeavesNothing left → IsForm words (Run output paths) → Loads holds (Judges holds paths) before.faults now.faults before.missed now.missed (Err why)
+    → Stops old new before.failed now.failed why result → EndsWith holds words left before now old new result
+run-stopped holds words output paths left before now old new why result empty is loads says =
+    stopped-call holds words (Run output paths) left before now old new why result empty is
     (loads-stops holds (Judges holds paths) before.faults now.faults before.missed now.missed why loads) says
 
-pub run-ended : (holds : Option Files) (words : List (List ℕ)) (output : Output) (paths : Paths) (accepted : Accepted) (log : List Note) (before now : Counts) (old new : Option (List ℕ)) (result : Status)
-    → IsForm words (Run output paths) → Judges holds paths (Accepts accepted) → RunEnds output accepted log old new before.failed now.failed result
-    → EndsWith holds words log before now old new result
-run-ended holds words output paths accepted log before now old new result is judges (inl (none, kept, stands)) =
-    let P : Status → Type 0 = λ s. EndsWith holds words log before now old new s in
-    subst P (sym none) ((Run output paths, is), inr (output, paths, is, accepted, judges, stands), kept)
-run-ended holds words output paths accepted log before now old new result is judges (inr (text, writes, says)) =
-    said holds words log before now old new text status.Done result (Run output paths, is, (accepted, judges, writes)) says
+pub run-ended : (holds : Option Files) (words : List (List ℕ)) (output : Output) (paths : Paths) (accepted : Accepted) (left : Left) (before now : Counts) (old new : Option (List ℕ)) (result : Status)
+    → IsForm words (Run output paths) → Judges holds paths (Accepts accepted) → RunEnds output accepted left old new before.failed now.failed result
+    → EndsWith holds words left before now old new result
+run-ended holds words output paths accepted left before now old new result is judges (inl (none, kept, no_rack, stands)) =
+    let P : Status → Type 0 = λ s. EndsWith holds words left before now old new s in
+    subst P (sym none) ((Run output paths, is), (no_rack, inr (output, paths, is, accepted, judges, stands)), kept)
+run-ended holds words output paths accepted left before now old new result is judges (inr (inl (spent, kept, stopped))) =
+    let P : Status → Type 0 = λ s. EndsWith holds words left before now old new s in
+    subst P (sym spent) ((output, paths, is, accepted, judges, stopped), kept)
+run-ended holds words output paths accepted left before now old new result is judges (inr (inr (text, writes, says))) =
+    said holds words left before now old new text status.Done result (Run output paths, is, (accepted, judges, writes)) says
+
+pub run-said : (output : Output) (accepted : Accepted) (left : Left) (old new : Option (List ℕ)) (failed failed' : ℕ) (said text : List ℕ) (result : Status) → RunWrites output accepted left text
+    → said ≡ text → Says old new failed failed' said status.Done result → RunEnds output accepted left old new failed failed' result
+run-said output accepted left old new failed failed' said text result writes same says =
+    let P : List ℕ → Type 0 = λ t. Says old new failed failed' t status.Done result in inr (inr (text, writes, subst P same says))
 
 -- ---- a check
 
+-- which leaves nothing
+abbrev pub nothing : Left
+nothing = record { log = []; end = None }
+
 pub check-ended : (holds : Option Files) (words : List (List ℕ)) (paths : Paths) (journal : List ℕ) (inputs : Checkable) (before now : Counts) (old new : Option (List ℕ)) (result : Status)
     → IsForm words (Check paths journal) → JudgesCheck holds paths journal (Ok inputs) → CheckEnds inputs old new before.failed now.failed result
-    → EndsWith holds words [] before now old new result
+    → EndsWith holds words nothing before now old new result
 check-ended holds words paths journal inputs before now old new result is judges (inl (none, kept)) =
-    let P : Status → Type 0 = λ s. EndsWith holds words [] before now old new s in subst P (sym none) ((Check paths journal, is), inl refl, kept)
+    let P : Status → Type 0 = λ s. EndsWith holds words nothing before now old new s in subst P (sym none) ((Check paths journal, is), (refl, inl refl), kept)
 check-ended holds words paths journal inputs before now old new result is judges (inr (inl (text, whole, says))) =
-    said holds words [] before now old new text status.Done result (Check paths journal, is, (inputs, judges, whole, refl)) says
+    said holds words nothing before now old new text status.Done result (Check paths journal, is, (inputs, judges, whole, (refl, refl))) says
 check-ended holds words paths journal inputs before now old new result is judges (inr (inr (label, stuck, says))) =
-    said-line holds words (Check paths journal) [] before now old new (not_a_run_line label) status.NotARun result refl is (paths, journal, is, inputs, judges, label, stuck, refl, refl) says
+    said-line holds words (Check paths journal) nothing before now old new (not_a_run_line label) status.NotARun result (refl, refl) is
+    (paths, journal, is, inputs, judges, label, stuck, (refl, refl), refl) says
 
--- a log that stayed empty
-pub with-log : (holds : Option Files) (words : List (List ℕ)) (log : List Note) (before now : Counts) (old new : Option (List ℕ)) (result : Status)
-    → log ≡ [] → EndsWith holds words [] before now old new result → EndsWith holds words log before now old new result
-with-log holds words log before now old new result empty ends =
-    let P : List Note → Type 0 = λ l. EndsWith holds words l before now old new result in subst P (sym empty) ends
+-- a log that stayed empty, and no rack
+pub with-nothing : (holds : Option Files) (words : List (List ℕ)) (log : List Note) (end : Option RackView) (before now : Counts) (old new : Option (List ℕ)) (result : Status)
+    → log ≡ [] → end ≡ None → EndsWith holds words nothing before now old new result → EndsWith holds words (record { log = log; end = end }) before now old new result
+with-nothing holds words log end before now old new result empty none ends =
+    let P : List Note → Type 0 = λ l. EndsWith holds words (record { log = l; end = None }) before now old new result in
+    let Q : Option RackView → Type 0 = λ r. EndsWith holds words (record { log = log; end = r }) before now old new result in
+    subst Q (sym none) (subst P (sym empty) ends)
 
 -- a line that was said in another spelling
 pub line-said : (old new : Option (List ℕ)) (failed failed' : ℕ) (said text : List ℕ) (due result : Status) → said ≡ text → Says old new failed failed' said due result

@@ -2,3 +2,5 @@ pub mod Clauses
 pub mod Decided
 pub mod Ends
 pub mod Forms
+pub mod Headlines
+pub mod Rans

@@ -1,7 +1,7 @@
 -- The exit statuses of the process.
 use Rattle.std.specs.Prelude.{ℕ}
 use Rattle.mind_top.specs.declared.statuses.Status.{Status}
-use Rattle.mind_top.specs.declared.statuses.Status.TheVariants.{Done, Usage, Malformed, ReadFault, WriteFault, NoMemory, NotARun}
+use Rattle.mind_top.specs.declared.statuses.Status.TheVariants.{Done, Usage, Malformed, ReadFault, WriteFault, NoMemory, NotARun, Spent}
 
 abbrev pub code_of : Status → ℕ
 code_of Done = 0
@@ -11,3 +11,4 @@ code_of ReadFault = 3
 code_of WriteFault = 4
 code_of NoMemory = 5
 code_of NotARun = 6
+code_of Spent = 7

@@ -1,33 +1,24 @@
 -- What is due: by the form of the words and the files that they name.
-use Rattle.std.specs.Prelude.{◌≡◌, ◌⊎◌, ℕ, false, codes, List, [], ◌∷◌, ◌++◌, Option, Some, Result, Ok, Err}
+use Rattle.std.specs.Prelude.{◌≡◌, ◌⊎◌, ℕ, false, codes, List, [], ◌∷◌, ◌++◌, Option, None, Result, Ok, Err}
 use Rattle.std.specs.Fmt.{digits}
 use Rattle.mind_base.specs.Store.{Files, Rises}
-use Rattle.mind_base.specs.declared.notes.Note.{Note}
 use Rattle.mind_inputs.specs.Words.{Paths}
 use Rattle.mind_inputs.specs.Refusal.{line_of}
 use Rattle.mind_inputs.specs.Inputs.{Ending, Missing, Refused, Judged, Ends, Accepts, Accepted, Judges, judge}
 use Rattle.mind_inputs.specs.Journals.{Checkable, JudgesCheck, IsOnlyJudgement}
 use Rattle.mind_inputs.specs.declared.refusals.Refusal.{Refusal}
-use Rattle.tso_machine.specs.State.{Setup, start_state}
+use Rattle.tso_machine.specs.State.{start_state}
 use Rattle.tso_machine.specs.Replay.{labels, Replayed, Whole, Stuck, replay}
 use Rattle.report_text.specs.Report.{report_text}
-use Rattle.mind_steps.specs.Run.{setup_of, Headline, JournalHeadline, IsReportOf, IsStuckAt, Stands}
+use Rattle.mind_steps.specs.Run.{IsReportOf, IsStuckAt, Stands}
+use Rattle.mind_top.specs.Headline.{setup_by, RunWrites, IsStopped}
+use Rattle.mind_top.specs.Left.{Left, LeavesNothing}
 use Rattle.mind_top.specs.Words.{Form, Run, Check, IsForm, IsCheck, IsNoForm, usage_line}
 use Rattle.mind_top.specs.declared.words.Output.{Output}
-use Rattle.mind_top.specs.declared.words.Output.TheVariants.{Report, Journal}
 use Rattle.mind_top.specs.declared.statuses.Status.{Status}
 use Rattle.mind_top.specs.declared.statuses.Status.TheVariants as status
 
 -- ---- what each form makes of its inputs
-
--- the machine of accepted inputs
-abbrev pub setup_by : Accepted → Setup
-setup_by accepted = setup_of accepted.plan accepted.images
-
--- a run leaves its log, and writes its report or the text of the log
-abbrev pub RunWrites : Output → Accepted → List Note → List ℕ → Type 0
-RunWrites Report accepted log text = Headline (setup_by accepted) accepted.events log text
-RunWrites Journal accepted log text = JournalHeadline (setup_by accepted) accepted.events log text
 
 -- a journal whose labels replay whole is that of a run, and the text is its report
 abbrev pub IsWhole : Checkable → List ℕ → Type 0
@@ -42,33 +33,40 @@ not_a_run_line label = codes "not a run: label " ++ digits 10 false label ++ 10 
 
 -- ---- by the form
 
--- the inputs of a form are accepted, and this log and text are due; a check leaves no log
-abbrev pub DoneBy : Option Files → Form → List Note → List ℕ → Type 0
-DoneBy holds (Run output paths) log text = (accepted : Accepted) × Judges holds paths (Accepts accepted) × RunWrites output accepted log text
-DoneBy holds (Check paths journal) log text = (inputs : Checkable) × JudgesCheck holds paths journal (Ok inputs) × IsWhole inputs text × (log ≡ [])
+-- the inputs of a form are accepted, and this is due to be left and written; a check leaves nothing
+abbrev pub DoneBy : Option Files → Form → Left → List ℕ → Type 0
+DoneBy holds (Run output paths) left text = (accepted : Accepted) × Judges holds paths (Accepts accepted) × RunWrites output accepted left text
+DoneBy holds (Check paths journal) left text = (inputs : Checkable) × JudgesCheck holds paths journal (Ok inputs) × IsWhole inputs text × LeavesNothing left
 
 -- an input of a form ends the call
 abbrev pub EndsBy : Option Files → Form → Ending → Type 0
 EndsBy holds (Run output paths) ending = Judges holds paths (Ends ending)
 EndsBy holds (Check paths journal) ending = JudgesCheck holds paths journal (Err ending)
 
--- The status and the text that are due where the one write does not fail, and the log that stands then.
-abbrev pub Due : Option Files → List (List ℕ) → List Note → Status → List ℕ → Type 0
-Due holds words log status.Done text = (form : Form) × IsForm words form × DoneBy holds form log text
-Due holds words log status.Usage text = IsNoForm words × (log ≡ []) × (text ≡ usage_line)
-Due holds words log status.Malformed text =
-    (form : Form) × IsForm words form × (refusal : Refusal) × EndsBy holds form (Refused refusal) × (log ≡ []) × (text ≡ line_of refusal)
-Due holds words log status.NotARun text =
+-- The status and the text that are due where the one write does not fail, and what is left then.
+abbrev pub Due : Option Files → List (List ℕ) → Left → Status → List ℕ → Type 0
+Due holds words left status.Done text = (form : Form) × IsForm words form × DoneBy holds form left text
+Due holds words left status.Usage text = IsNoForm words × LeavesNothing left × (text ≡ usage_line)
+Due holds words left status.Malformed text =
+    (form : Form) × IsForm words form × (refusal : Refusal) × EndsBy holds form (Refused refusal) × LeavesNothing left × (text ≡ line_of refusal)
+Due holds words left status.NotARun text =
     (paths : Paths) × (journal : List ℕ) × IsCheck words paths journal × (inputs : Checkable) × JudgesCheck holds paths journal (Ok inputs)
-    × (label : ℕ) × IsStuck inputs label × (log ≡ []) × (text ≡ not_a_run_line label)
-Due holds words log status.ReadFault text = ⊥
-Due holds words log status.WriteFault text = ⊥
-Due holds words log status.NoMemory text = ⊥
+    × (label : ℕ) × IsStuck inputs label × LeavesNothing left × (text ≡ not_a_run_line label)
+Due holds words left status.ReadFault text = ⊥
+Due holds words left status.WriteFault text = ⊥
+Due holds words left status.NoMemory text = ⊥
+Due holds words left status.Spent text = ⊥
 
--- where memory ran out, the labels before the last event of the log replay, if a run took place at all
-abbrev pub LogStands : Option Files → List (List ℕ) → List Note → Type 0
-LogStands holds words log = (log ≡ []) ⊎ ((output : Output) × (paths : Paths) × IsForm words (Run output paths) × (accepted : Accepted)
-    × Judges holds paths (Accepts accepted) × Stands (setup_by accepted) log)
+-- Where memory ran out, no rack is left, and the labels before the last event of the log replay, if a run took place
+-- at all.
+abbrev pub LogStands : Option Files → List (List ℕ) → Left → Type 0
+LogStands holds words left = (left.end ≡ None) × ((left.log ≡ []) ⊎ ((output : Output) × (paths : Paths) × IsForm words (Run output paths) × (accepted : Accepted)
+    × Judges holds paths (Accepts accepted) × Stands (setup_by accepted) left.log))
+
+-- the inputs of a run are accepted, and it stopped
+abbrev pub StopsRun : Option Files → List (List ℕ) → Left → Type 0
+StopsRun holds words left = (output : Output) × (paths : Paths) × IsForm words (Run output paths) × (accepted : Accepted)
+    × Judges holds paths (Accepts accepted) × IsStopped accepted left
 
 -- ---- the status that the files call for
 
@@ -102,10 +100,22 @@ IsSaid status.NotARun = Unit {0}
 IsSaid status.ReadFault = ⊥
 IsSaid status.WriteFault = ⊥
 IsSaid status.NoMemory = ⊥
+IsSaid status.Spent = ⊥
 
 -- the status that is due is answered, or the write of what it says failed
 abbrev pub IsAnswered : ℕ → ℕ → Status → Status → Type 0
 IsAnswered failed failed' due result = (result ≡ due) ⊎ ((result ≡ status.WriteFault) × IsSaid due × Rises failed failed')
+
+-- a run that the files call for may stop where a number would pass its last value; a check has no rack
+abbrev pub MayStop : Form → Status → Type 0
+MayStop (Run output paths) due = due ≡ status.Done
+MayStop (Check paths journal) due = ⊥
+
+-- The files decide the status. It gives way to want of memory, in a run to a number at its last value, and to a
+-- failed write where the files call for one.
+abbrev pub Decides : Files → Form → ℕ → ℕ → Status → Type 0
+Decides files form failed failed' result = (result ≡ status.NoMemory)
+    ⊎ ((due : Status) × CallFor files form due × (IsAnswered failed failed' due result ⊎ ((result ≡ status.Spent) × MayStop form due)))
 
 -- ---- what a check says
 

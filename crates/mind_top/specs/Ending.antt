@@ -1,12 +1,12 @@
--- How a call of the program ends: its status, what it wrote, and the log that it leaves.
-use Rattle.std.specs.Prelude.{◌≡◌, ◌⊎◌, ℕ, List, [], Option}
+-- How a call of the program ends: its status, what it wrote, and what it leaves.
+use Rattle.std.specs.Prelude.{◌≡◌, ◌⊎◌, ℕ, List, Option}
 use Rattle.mind_base.specs.Store.{Files, Rises}
 use Rattle.mind_base.specs.Sink.{Appends, AppendsFront}
-use Rattle.mind_base.specs.declared.notes.Note.{Note}
 use Rattle.mind_inputs.specs.Inputs.{Missing}
 use Rattle.mind_inputs.specs.Loading.{MissTold}
 use Rattle.mind_top.specs.Words.{Form, IsForm}
-use Rattle.mind_top.specs.Due.{EndsBy, Due, LogStands}
+use Rattle.mind_top.specs.Due.{EndsBy, Due, LogStands, StopsRun}
+use Rattle.mind_top.specs.Left.{Left, LeavesNothing}
 use Rattle.mind_top.specs.declared.statuses.Status.{Status}
 use Rattle.mind_top.specs.declared.statuses.Status.TheVariants as status
 
@@ -17,15 +17,17 @@ pub record Counts : Type 0 where
   pub failed : ℕ
 
 -- A call ends with its status: what is due was written; or the write failed, and a front of it stands
--- there; or a read failed, or memory ran out, and nothing was written. The last two come only with words of a form.
-abbrev pub EndsWith : Option Files → List (List ℕ) → List Note → Counts → Counts → Option (List ℕ) → Option (List ℕ) → Status → Type 0
-EndsWith holds words log before now old new status.Done = (text : List ℕ) × Due holds words log status.Done text × Appends old new text
-EndsWith holds words log before now old new status.Usage = (text : List ℕ) × Due holds words log status.Usage text × Appends old new text
-EndsWith holds words log before now old new status.Malformed = (text : List ℕ) × Due holds words log status.Malformed text × Appends old new text
-EndsWith holds words log before now old new status.NotARun = (text : List ℕ) × Due holds words log status.NotARun text × Appends old new text
-EndsWith holds words log before now old new status.ReadFault = (form : Form) × IsForm words form
+-- there; or a read failed, memory ran out, or a run stopped, and nothing was written. The last three come only with
+-- words of a form.
+abbrev pub EndsWith : Option Files → List (List ℕ) → Left → Counts → Counts → Option (List ℕ) → Option (List ℕ) → Status → Type 0
+EndsWith holds words left before now old new status.Done = (text : List ℕ) × Due holds words left status.Done text × Appends old new text
+EndsWith holds words left before now old new status.Usage = (text : List ℕ) × Due holds words left status.Usage text × Appends old new text
+EndsWith holds words left before now old new status.Malformed = (text : List ℕ) × Due holds words left status.Malformed text × Appends old new text
+EndsWith holds words left before now old new status.NotARun = (text : List ℕ) × Due holds words left status.NotARun text × Appends old new text
+EndsWith holds words left before now old new status.ReadFault = (form : Form) × IsForm words form
     × (Rises before.faults now.faults ⊎ Rises before.missed now.missed) × MissTold holds (EndsBy holds form Missing) before.faults now.faults
-    × (log ≡ []) × (new ≡ old)
-EndsWith holds words log before now old new status.WriteFault = Rises before.failed now.failed
-    × (s : Status) × (text : List ℕ) × Due holds words log s text × AppendsFront old new text
-EndsWith holds words log before now old new status.NoMemory = ((form : Form) × IsForm words form) × LogStands holds words log × (new ≡ old)
+    × LeavesNothing left × (new ≡ old)
+EndsWith holds words left before now old new status.WriteFault = Rises before.failed now.failed
+    × (s : Status) × (text : List ℕ) × Due holds words left s text × AppendsFront old new text
+EndsWith holds words left before now old new status.NoMemory = ((form : Form) × IsForm words form) × LogStands holds words left × (new ≡ old)
+EndsWith holds words left before now old new status.Spent = StopsRun holds words left × (new ≡ old)

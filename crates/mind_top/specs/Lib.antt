@@ -2,5 +2,8 @@ pub mod Asked
 pub mod Code
 pub mod Due
 pub mod Ending
+pub mod Headline
+pub mod Left
 pub mod Parts
+pub mod Ran
 pub mod Words

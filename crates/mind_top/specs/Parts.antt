@@ -1,8 +1,7 @@
 -- How the parts of a call end, for the proof of the whole.
-use Rattle.std.specs.Prelude.{◌≡◌, ◌⊎◌, ℕ, List, Option}
+use Rattle.std.specs.Prelude.{◌≡◌, ◌⊎◌, ℕ, List, Option, None}
 use Rattle.mind_base.specs.Store.{Files, Rises}
 use Rattle.mind_base.specs.Sink.{Appends, AppendsFront}
-use Rattle.mind_base.specs.declared.notes.Note.{Note}
 use Rattle.mind_inputs.specs.Refusal.{line_of}
 use Rattle.mind_inputs.specs.Inputs.{Accepted}
 use Rattle.mind_inputs.specs.Journals.{Checkable}
@@ -10,8 +9,10 @@ use Rattle.mind_inputs.specs.declared.stopped.Stopped.{Stopped}
 use Rattle.mind_inputs.specs.declared.stopped.Stopped.TheVariants as stopped
 use Rattle.mind_steps.specs.Run.{Stands}
 use Rattle.mind_top.specs.Words.{Form, IsForm}
-use Rattle.mind_top.specs.Due.{setup_by, RunWrites, IsWhole, IsStuck, not_a_run_line}
+use Rattle.mind_top.specs.Due.{IsWhole, IsStuck, not_a_run_line}
 use Rattle.mind_top.specs.Ending.{Counts, EndsWith}
+use Rattle.mind_top.specs.Headline.{setup_by, RunWrites, IsStopped}
+use Rattle.mind_top.specs.Left.{Left}
 use Rattle.mind_top.specs.declared.words.Output.{Output}
 use Rattle.mind_top.specs.declared.statuses.Status.{Status}
 use Rattle.mind_top.specs.declared.statuses.Status.TheVariants as status
@@ -32,10 +33,11 @@ Stops old new failed failed' stopped.ReadFault result = (result ≡ status.ReadF
 Stops old new failed failed' stopped.NoMemory result = (result ≡ status.NoMemory) × (new ≡ old)
 
 -- how a run of accepted inputs ends
-abbrev pub RunEnds : Output → Accepted → List Note → Option (List ℕ) → Option (List ℕ) → ℕ → ℕ → Status → Type 0
-RunEnds output accepted log old new failed failed' result =
-    ((result ≡ status.NoMemory) × (new ≡ old) × Stands (setup_by accepted) log)
-    ⊎ ((text : List ℕ) × RunWrites output accepted log text × Says old new failed failed' text status.Done result)
+abbrev pub RunEnds : Output → Accepted → Left → Option (List ℕ) → Option (List ℕ) → ℕ → ℕ → Status → Type 0
+RunEnds output accepted left old new failed failed' result =
+    ((result ≡ status.NoMemory) × (new ≡ old) × (left.end ≡ None) × Stands (setup_by accepted) left.log)
+    ⊎ (((result ≡ status.Spent) × (new ≡ old) × IsStopped accepted left)
+    ⊎ ((text : List ℕ) × RunWrites output accepted left text × Says old new failed failed' text status.Done result))
 
 -- how the check of accepted inputs ends
 abbrev pub CheckEnds : Checkable → Option (List ℕ) → Option (List ℕ) → ℕ → ℕ → Status → Type 0
@@ -45,5 +47,5 @@ CheckEnds inputs old new failed failed' result =
     ⊎ ((label : ℕ) × IsStuck inputs label × SaysLine old new failed failed' (not_a_run_line label) status.NotARun result))
 
 -- how a call of this form ends
-abbrev pub Answers : Option Files → Form → List Note → Counts → Counts → Option (List ℕ) → Option (List ℕ) → Status → Type 0
-Answers holds form log before now old new result = (words : List (List ℕ)) → IsForm words form → EndsWith holds words log before now old new result
+abbrev pub Answers : Option Files → Form → Left → Counts → Counts → Option (List ℕ) → Option (List ℕ) → Status → Type 0
+Answers holds form left before now old new result = (words : List (List ℕ)) → IsForm words form → EndsWith holds words left before now old new result

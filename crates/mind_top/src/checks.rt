@@ -1,10 +1,11 @@
-ghost use Rattle.std.specs.Prelude.{◌≡◌, ◌≤◌, ℕ, List, []};
+ghost use Rattle.std.specs.Prelude.{◌≡◌, ◌≤◌, ℕ, List, [], None};
 ghost use Rattle.mind_base.specs.Fit.{IsFit, FitImages};
 ghost use Rattle.mind_base.specs.declared.notes.Note.{Note};
 ghost use Rattle.mind_inputs.specs.Words.{Paths};
 ghost use Rattle.mind_inputs.specs.Journals.{Checkable};
 ghost use Rattle.mind_top.specs.Words.{Check};
 ghost use Rattle.mind_top.specs.Ending.{Counts};
+ghost use Rattle.mind_top.specs.Left.{Left};
 ghost use Rattle.mind_top.specs.Parts.{CheckEnds, Answers};
 
 use crate::Status;
@@ -28,7 +29,7 @@ fn finish_check<K: Sink>(alloc: Global, loaded: &Loaded, journal: &Log, sink: &m
     }
 }
 
-/// Reads and judges the files of these names, and checks the journal. No log comes of it.
+/// Reads and judges the files of these names, and checks the journal. Nothing is left of it.
 pub fn answer_check<S: Store, K: Sink>(
     alloc: Global,
     rack: &str,
@@ -41,7 +42,7 @@ pub fn answer_check<S: Store, K: Sink>(
     ensures faults { S.faults store.old ≤ S.faults store.new }
     ensures missed { S.missed store.old ≤ S.missed store.new }
     ensures failed { K.faults sink.old ≤ K.faults sink.new }
-    ensures answers { Answers (S.holds store.old) (Check (record { rack = rack.now; schedule = schedule.now }) journal.now) []
+    ensures answers { Answers (S.holds store.old) (Check (record { rack = rack.now; schedule = schedule.now }) journal.now) (record { log = []; end = None })
         (record { faults = S.faults store.old; missed = S.missed store.old; failed = K.faults sink.old })
         (record { faults = S.faults store.new; missed = S.missed store.new; failed = K.faults sink.new })
         (K.written sink.old) (K.written sink.new) result }

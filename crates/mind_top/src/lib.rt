@@ -2,6 +2,7 @@
 #![tactic(auto)]
 
 mod checks;
+mod events;
 mod laws;
 mod runs;
 mod statuses;

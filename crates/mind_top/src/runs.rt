@@ -1,60 +1,97 @@
-ghost use Rattle.std.specs.Prelude.{◌≡◌, ◌≤◌, [], length, IfOk, OnErr};
+ghost use Rattle.std.specs.Prelude.{◌≡◌, ◌≤◌, [], length, None, IfOk};
+ghost use Rattle.std.specs.List.{AllByRecursion};
 ghost use Rattle.mind_base.specs.Fit.{IsFit, FitImages};
 ghost use Rattle.mind_inputs.specs.Words.{Paths};
-ghost use Rattle.mind_steps.specs.Run.{Stands};
+ghost use Rattle.mind_steps.specs.Run.{events, below, IsWholeRun};
+ghost use Rattle.rack_core.specs.Calls.{IsEventFor};
 ghost use Rattle.mind_top.specs.Words.{Run};
-ghost use Rattle.mind_top.specs.Due.{setup_by, RunWrites};
 ghost use Rattle.mind_top.specs.Ending.{Counts};
+ghost use Rattle.mind_top.specs.Headline.{setup_by, IsTextOf};
+ghost use Rattle.mind_top.specs.Left.{Left};
 ghost use Rattle.mind_top.specs.Parts.{RunEnds, Answers};
+ghost use Rattle.mind_top.specs.Ran.{RanThrough};
 
 use crate::Status;
+use crate::events::run_events;
 use crate::texts::{say, stop};
 use crate::words::Output;
-use mind_base::{Log, NoMemory, Sink, Store};
+use journal_text::journal;
+use mind_base::{Log, NoMemory, Sink, Stop, Store};
 use mind_inputs::{Loaded, load};
-use mind_steps::{run, run_journal};
+use mind_steps::report_of;
+use rack_core::Rack;
 use std::alloc::Global;
 
-/// Runs accepted inputs; the answer is what is to be written.
-fn output_of_run(
-    alloc: Global,
-    output: Output,
-    loaded: &Loaded,
-    log: &mut Log,
-) -> Result<Vec<u8>, NoMemory>
+/// The text of the log of a run that is asked for.
+fn text_of(alloc: Global, output: Output, loaded: &Loaded, log: &Log) -> Result<Vec<u8>, NoMemory>
     requires fit { IsFit loaded.now.plan }
     requires images { FitImages loaded.now.plan.images loaded.now.images }
-    requires few { length loaded.now.events ≤ 1000000 }
-    requires empty { log.old.notes ≡ [] }
-    ensures ok { IfOk result (λ text. RunWrites output loaded.now log.new.notes text.items) }
-    ensures err { OnErr result (Stands (setup_by loaded.now) log.new.notes) }
+    requires run { IsWholeRun (setup_by loaded.now) log.now.notes }
+    ensures { IfOk result (λ text. IsTextOf output loaded.now log.now.notes text.items) }
 {
-    let images = loaded.images.as_slice();
-    let events = loaded.events.as_slice();
     match output {
-        Output::Report => run(alloc, &loaded.plan, images, events, log),
-        Output::Journal => run_journal(alloc, &loaded.plan, images, events, log),
+        Output::Report => report_of(alloc, &loaded.plan, loaded.images.as_slice(), log),
+        Output::Journal => journal(alloc, log),
     }
 }
 
-/// Runs accepted inputs and writes what is asked for.
+/// Ends a run that went through all its events: its rack is left, and what is asked for is written.
 fn finish<K: Sink>(
+    alloc: Global,
+    output: Output,
+    loaded: &Loaded,
+    rack: Rack,
+    sink: &mut K,
+    log: &Log,
+    end: &mut Option<Rack>,
+) -> Status
+    requires fit { IsFit loaded.now.plan }
+    requires images { FitImages loaded.now.plan.images loaded.now.images }
+    requires ran { RanThrough loaded.now log.now.notes rack }
+    requires events { events log.now.notes ≡ below (length loaded.now.events) }
+    requires none { end.old ≡ None }
+    ensures ends { RunEnds output loaded.now (record { log = log.now.notes; end = end.new }) (K.written sink.old) (K.written sink.new) (K.faults sink.old) (K.faults sink.new) result }
+    ensures failed { K.faults sink.old ≤ K.faults sink.new }
+{
+    match text_of(alloc, output, loaded, log) {
+        Ok(text) => {
+            *end = Some(rack);
+            say(sink, text.as_slice(), Status::Done)
+        }
+        Err(NoMemory) => Status::NoMemory,
+    }
+}
+
+/// Runs accepted inputs on a rack from its start and writes what is asked for.
+fn run<K: Sink>(
     alloc: Global,
     output: Output,
     loaded: &Loaded,
     sink: &mut K,
     log: &mut Log,
+    end: &mut Option<Rack>,
 ) -> Status
     requires fit { IsFit loaded.now.plan }
     requires images { FitImages loaded.now.plan.images loaded.now.images }
+    requires events { AllByRecursion (IsEventFor loaded.now.plan) loaded.now.events }
     requires few { length loaded.now.events ≤ 1000000 }
     requires empty { log.old.notes ≡ [] }
-    ensures ends { RunEnds output loaded.now log.new.notes (K.written sink.old) (K.written sink.new) (K.faults sink.old) (K.faults sink.new) result }
+    requires none { end.old ≡ None }
+    ensures ends { RunEnds output loaded.now (record { log = log.new.notes; end = end.new }) (K.written sink.old) (K.written sink.new) (K.faults sink.old) (K.faults sink.new) result }
     ensures failed { K.faults sink.old ≤ K.faults sink.new }
 {
-    match output_of_run(alloc, output, loaded, log) {
-        Ok(text) => say(sink, text.as_slice(), Status::Done),
-        Err(NoMemory) => Status::NoMemory,
+    let mut rack = match Rack::start(alloc, &loaded.plan) {
+        Ok(rack) => rack,
+        Err(NoMemory) => return Status::NoMemory,
+    };
+    let images = loaded.images.as_slice();
+    match run_events(alloc, &mut rack, images, loaded.events.as_slice(), log) {
+        Ok(()) => finish(alloc, output, loaded, rack, sink, log, end),
+        Err(Stop::Spent) => {
+            *end = Some(rack);
+            Status::Spent
+        }
+        Err(Stop::NoMemory) => Status::NoMemory,
     }
 }
 
@@ -67,19 +104,22 @@ pub fn answer_run<S: Store, K: Sink>(
     store: &mut S,
     sink: &mut K,
     log: &mut Log,
+    end: &mut Option<Rack>,
 ) -> Status
-    requires { log.old.notes ≡ [] }
+    requires empty { log.old.notes ≡ [] }
+    requires none { end.old ≡ None }
     ensures keeps { S.holds store.new ≡ S.holds store.old }
     ensures faults { S.faults store.old ≤ S.faults store.new }
     ensures missed { S.missed store.old ≤ S.missed store.new }
     ensures failed { K.faults sink.old ≤ K.faults sink.new }
-    ensures answers { Answers (S.holds store.old) (Run output (record { rack = rack.now; schedule = schedule.now })) log.new.notes
+    ensures answers { Answers (S.holds store.old) (Run output (record { rack = rack.now; schedule = schedule.now }))
+        (record { log = log.new.notes; end = end.new })
         (record { faults = S.faults store.old; missed = S.missed store.old; failed = K.faults sink.old })
         (record { faults = S.faults store.new; missed = S.missed store.new; failed = K.faults sink.new })
         (K.written sink.old) (K.written sink.new) result }
 {
     match load(alloc, store, rack, schedule) {
-        Ok(loaded) => finish(alloc, output, &loaded, sink, log),
+        Ok(loaded) => run(alloc, output, &loaded, sink, log, end),
         Err(stopped) => stop(alloc, &stopped, sink),
     }
 }

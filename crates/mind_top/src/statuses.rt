@@ -11,6 +11,7 @@ pub enum Status {
     WriteFault,
     NoMemory,
     NotARun,
+    Spent,
 }
 
 impl Status {
@@ -26,6 +27,7 @@ impl Status {
             Status::WriteFault => 4,
             Status::NoMemory => 5,
             Status::NotARun => 6,
+            Status::Spent => 7,
         }
     }
 }

@@ -1,14 +1,15 @@
-ghost use Rattle.std.specs.Prelude.{◌≡◌, ◌≤◌, ◌⊎◌, ℕ, List, [], Ok, length, map, string_bytes, IfSome};
+ghost use Rattle.std.specs.Prelude.{◌≡◌, ◌≤◌, ◌⊎◌, ℕ, List, [], Ok, None, map, string_bytes, IfSome};
 ghost use Rattle.mind_base.specs.Store.{Rises};
 ghost use Rattle.mind_base.specs.Sink.{Appends};
 ghost use Rattle.mind_inputs.specs.Words.{Paths};
 ghost use Rattle.mind_inputs.specs.Inputs.{Accepted, Judges, Accepts};
 ghost use Rattle.mind_inputs.specs.Journals.{Checkable, JudgesCheck};
-ghost use Rattle.mind_steps.specs.Run.{setup_of, Headline, JournalHeadline};
 ghost use Rattle.mind_top.specs.declared.statuses.Status.{Status as status};
 ghost use Rattle.mind_top.specs.Words.{Form, IsForm, IsRun, IsJournal, IsCheck, IsNoForm};
-ghost use Rattle.mind_top.specs.Due.{IsWhole, IsStuck, not_a_run_line, CallFor, IsAnswered};
+ghost use Rattle.mind_top.specs.Due.{IsWhole, IsStuck, not_a_run_line, StopsRun, IsAnswered, Decides};
 ghost use Rattle.mind_top.specs.Ending.{Counts, EndsWith};
+ghost use Rattle.mind_top.specs.Headline.{Headline, JournalHeadline};
+ghost use Rattle.mind_top.specs.Left.{Left, LeavesNothing};
 
 use crate::Status;
 use crate::checks::answer_check;
@@ -16,6 +17,7 @@ use crate::runs::answer_run;
 use crate::texts::say;
 use crate::words::{Asked, asked_of};
 use mind_base::{Log, Sink, Store};
+use rack_core::Rack;
 use std::alloc::Global;
 
 const USAGE_LINE: &[u8; 84] =
@@ -27,13 +29,15 @@ fn top<S: Store, K: Sink>(
     store: &mut S,
     sink: &mut K,
     log: &mut Log,
+    end: &mut Option<Rack>,
 ) -> Status
-    requires { log.old.notes ≡ [] }
+    requires empty { log.old.notes ≡ [] }
+    requires none { end.old ≡ None }
     ensures keeps { S.holds store.new ≡ S.holds store.old }
     ensures faults { S.faults store.old ≤ S.faults store.new }
     ensures missed { S.missed store.old ≤ S.missed store.new }
     ensures failed { K.faults sink.old ≤ K.faults sink.new }
-    ensures ends { EndsWith (S.holds store.old) (map string_bytes words.now) log.new.notes
+    ensures ends { EndsWith (S.holds store.old) (map string_bytes words.now) (record { log = log.new.notes; end = end.new })
         (record { faults = S.faults store.old; missed = S.missed store.old; failed = K.faults sink.old })
         (record { faults = S.faults store.new; missed = S.missed store.new; failed = K.faults sink.new })
         (K.written sink.old) (K.written sink.new) result }
@@ -46,7 +50,7 @@ fn top<S: Store, K: Sink>(
                 rack,
                 schedule,
             },
-        ) => answer_run(alloc, output, rack, schedule, store, sink, log),
+        ) => answer_run(alloc, output, rack, schedule, store, sink, log, end),
         Some(
             Asked::Check {
                 rack,
@@ -61,32 +65,38 @@ fn top<S: Store, K: Sink>(
 /// `run RACK SCHEDULE` writes the report of a run, `journal RACK SCHEDULE` the text of its log, and
 /// `check RACK SCHEDULE JOURNAL` the report of a journal whose labels the machine allows.
 ///
-/// The log gets the notes of a run. It stays empty where no run takes place; where memory ran out, the
-/// labels before its last event note still replay from the machine's start.
+/// A run is that of a rack, event by event of the schedule. The log gets its notes, and `end` the rack as it is
+/// at the end, also where the text could not be written. Where memory ran out there is no rack; where the
+/// status is `Spent` it is the one that stopped, since a number of it has its last value. In both cases the
+/// labels before the log's last event note still replay from the machine's start. Everywhere else the log
+/// stays empty and `end` None.
 pub fn mind<S: Store, K: Sink>(
     alloc: Global,
     words: &[String],
     store: &mut S,
     sink: &mut K,
     log: &mut Log,
+    end: &mut Option<Rack>,
 ) -> Status
-    requires { log.old.notes ≡ [] }
+    requires empty { log.old.notes ≡ [] }
+    requires none { end.old ≡ None }
 
-    // Every status, with its cause, what was written, and the log that it leaves.
-    ensures ends { EndsWith (S.holds store.old) (map string_bytes words.now) log.new.notes
+    // Every status, with its cause, what was written, and the log and the rack that are left.
+    ensures ends { EndsWith (S.holds store.old) (map string_bytes words.now) (record { log = log.new.notes; end = end.new })
         (record { faults = S.faults store.old; missed = S.missed store.old; failed = K.faults sink.old })
         (record { faults = S.faults store.new; missed = S.missed store.new; failed = K.faults sink.new })
         (K.written sink.old) (K.written sink.new) result }
 
-    // The report is that of a run of the machine, the run being the labels of the log.
+    // The report is that of a run of the machine, the run being the labels of the log. The rack at the end stands
+    // for the log, and is reached from the start by the events of the schedule with its notes.
     ensures headline { (paths : Paths) → IsRun (map string_bytes words.now) paths → result ≡ Status.Done
         → (accepted : Accepted) × Judges (S.holds store.old) paths (Accepts accepted) × (text : List ℕ)
-        × Headline (setup_of accepted.plan accepted.images) accepted.events log.new.notes text × Appends (K.written sink.old) (K.written sink.new) text }
+        × Headline accepted (record { log = log.new.notes; end = end.new }) text × Appends (K.written sink.old) (K.written sink.new) text }
 
     // The journal is the text of the log of such a run.
     ensures journal { (paths : Paths) → IsJournal (map string_bytes words.now) paths → result ≡ Status.Done
         → (accepted : Accepted) × Judges (S.holds store.old) paths (Accepts accepted) × (text : List ℕ)
-        × JournalHeadline (setup_of accepted.plan accepted.images) accepted.events log.new.notes text × Appends (K.written sink.old) (K.written sink.new) text }
+        × JournalHeadline accepted (record { log = log.new.notes; end = end.new }) text × Appends (K.written sink.old) (K.written sink.new) text }
 
     // A journal is found to be that of a run where its labels replay whole, and the report is that of its notes.
     ensures check { (paths : Paths) (journal : List ℕ) → IsCheck (map string_bytes words.now) paths journal → result ≡ Status.Done
@@ -98,8 +108,13 @@ pub fn mind<S: Store, K: Sink>(
         × (inputs : Checkable) × JudgesCheck (S.holds store.old) paths journal (Ok inputs) × (label : ℕ) × IsStuck inputs label
         × Appends (K.written sink.old) (K.written sink.new) (not_a_run_line label) }
 
-    // A check leaves no log.
-    ensures check_log { (paths : Paths) (journal : List ℕ) → IsCheck (map string_bytes words.now) paths journal → log.new.notes ≡ [] }
+    // A check leaves no log and no rack.
+    ensures check_leaves { (paths : Paths) (journal : List ℕ) → IsCheck (map string_bytes words.now) paths journal
+        → LeavesNothing (record { log = log.new.notes; end = end.new }) }
+
+    // A run stops only where a number of its rack, which is left, has its last value. Nothing is written then.
+    ensures spent { result ≡ Status.Spent → StopsRun (S.holds store.old) (map string_bytes words.now) (record { log = log.new.notes; end = end.new })
+        × (K.written sink.new ≡ K.written sink.old) }
 
     // Words of no form, and no others, call for the usage line, which takes no memory.
     ensures usage { result ≡ Status.Usage → IsNoForm (map string_bytes words.now) }
@@ -111,10 +126,11 @@ pub fn mind<S: Store, K: Sink>(
     ensures write_fault { result ≡ Status.WriteFault → Rises (K.faults sink.old) (K.faults sink.new) }
 
     // Where the store tells what it holds and no device of it fails, the files decide the status. It gives
-    // way to want of memory, and to a failed write where the files call for one.
+    // way to want of memory, in a run to a number at its last value, and to a failed write where the files call
+    // for one.
     ensures told { IfSome (S.holds store.old) (λ files. (form : Form) → IsForm (map string_bytes words.now) form
         → ¬ (Rises (S.faults store.old) (S.faults store.new))
-        → (result ≡ Status.NoMemory) ⊎ ((due : status) × CallFor files form due × IsAnswered (K.faults sink.old) (K.faults sink.new) due result)) }
+        → Decides files form (K.faults sink.old) (K.faults sink.new) result) }
 
     // What the store holds stays as it was, and no count of what failed or was missing falls.
     ensures keeps { S.holds store.new ≡ S.holds store.old }
@@ -122,5 +138,5 @@ pub fn mind<S: Store, K: Sink>(
     ensures missed { S.missed store.old ≤ S.missed store.new }
     ensures failed { K.faults sink.old ≤ K.faults sink.new }
 {
-    top(alloc, words, store, sink, log)
+    top(alloc, words, store, sink, log, end)
 }

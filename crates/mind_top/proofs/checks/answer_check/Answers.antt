@@ -1,8 +1,8 @@
-use Rattle.std.proofs.Common.{refl, []}
+use Rattle.std.proofs.Common.{refl}
 use Rattle.mind_inputs.specs.Words.{Paths}
 use Rattle.mind_inputs.specs.Journals.{Checkable}
 use Rattle.mind_top.specs.Words.{Check}
-use Rattle.mind_top.proofs.Ends.{stopped-call, check-ended}
+use Rattle.mind_top.proofs.Ends.{nothing, stopped-call, check-ended}
 use Rattle.mind_top.proofs.checks.answer_check.Goals as goal
 
 pub returns-in-Ok-clause-answers : goal.returns-in-Ok-clause-answers
@@ -14,4 +14,4 @@ returns-in-Ok-clause-answers g c words is =
 pub returns-in-Err-clause-answers : goal.returns-in-Err-clause-answers
 returns-in-Err-clause-answers g c words is =
     let p : Paths = record { rack = c.args.rack.now; schedule = c.args.schedule.now } in
-    stopped-call (g.S.Store.holds c.args.store.now) words (Check p c.args.journal.now) [] _ _ _ _ c.in-Err.stopped c.stop.result refl is c.in-Err.ensures.brings c.stop.ensures.stops
+    stopped-call (g.S.Store.holds c.args.store.now) words (Check p c.args.journal.now) nothing _ _ _ _ c.in-Err.stopped c.stop.result (refl, refl) is c.in-Err.ensures.brings c.stop.ensures.stops

@@ -1,0 +1,62 @@
+-- What stands at the end of a run.
+use Rattle.std.proofs.Common.{◌≡◌, ◌∙◌, ℕ, List, length, subst, Option, Some}
+use Rattle.mind_base.specs.declared.images.Image.{Image}
+use Rattle.mind_base.specs.declared.events.Event.{Event}
+use Rattle.mind_base.specs.declared.notes.Note.{Note}
+use Rattle.mind_base.specs.declared.plans.RackPlan.{RackPlan}
+use Rattle.mind_inputs.specs.Inputs.{Accepted}
+use Rattle.mind_steps.specs.Run.{setup_of, events, below, IsWholeRun, Stands}
+use Rattle.mind_steps.proofs.Fronts.{stands-whole}
+use Rattle.rack_core.specs.Calls.{HasSpentNumber}
+use Rattle.rack_core.specs.Rack.{RackView}
+use Rattle.rack_core.specs.Start.{IsStart}
+use Rattle.mind_top.specs.Headline.{setup_by, RunWrites, IsTextOf, IsStopped}
+use Rattle.mind_top.specs.Ran.{RanThrough, HasRun}
+use Rattle.mind_top.specs.declared.words.Output.{Output}
+use Rattle.mind_top.specs.declared.words.Output.TheVariants.{Report, Journal}
+use Rattle.mind_top.proofs.Rans.{whole-run}
+
+-- the rack at the end of all events of the accepted inputs
+pub ran-through : (accepted : Accepted) (images : List Image) (es : List Event) (first last : RackView) (log : List Note) → images ≡ accepted.images → es ≡ accepted.events
+    → IsStart accepted.plan first → HasRun images es first last log → RanThrough accepted log last
+ran-through accepted images es first last log same all start has =
+    let P : List Image → Type 0 = λ xs. HasRun xs accepted.events first last log in
+    let Q : List Event → Type 0 = λ xs. HasRun images xs first last log in
+    let run = subst P same (subst Q all has) in
+    record { plan = run.plan ∙ start.of_plan; first = first; start = start; ran = run.ran; stands = run.stands }
+
+pub all-events : (accepted : Accepted) (images : List Image) (es : List Event) (first last : RackView) (log : List Note) → es ≡ accepted.events
+    → HasRun images es first last log → events log ≡ below (length accepted.events)
+all-events accepted images es first last log all has =
+    let P : List Event → Type 0 = λ xs. events log ≡ below (length xs) in subst P all has.events
+
+pub through-whole : (accepted : Accepted) (log : List Note) (rack : RackView) → RanThrough accepted log rack → IsWholeRun (setup_by accepted) log
+through-whole accepted log rack ran = whole-run accepted.images accepted.plan rack log ran.plan ran.stands
+
+pub through-stands : (accepted : Accepted) (log : List Note) (rack : RackView) → RanThrough accepted log rack → Stands (setup_by accepted) log
+through-stands accepted log rack ran = stands-whole (setup_by accepted) log (through-whole accepted log rack ran)
+
+-- its log and the rack are left, and the text is what is asked for
+pub run-writes : (output : Output) (accepted : Accepted) (log : List Note) (end : Option RackView) (rack : RackView) (text : List ℕ) → end ≡ Some rack → RanThrough accepted log rack
+    → events log ≡ below (length accepted.events) → IsTextOf output accepted log text → RunWrites output accepted (record { log = log; end = end }) text
+run-writes Report accepted log end rack text left ran all (state, whole, report) = record {
+  state = state;
+  run = record { run = whole; events = all; rack = rack; end = left; ran = ran };
+  report = report;
+}
+run-writes Journal accepted log end rack text left ran all is =
+    let (state, whole) = through-whole accepted log rack ran in
+    record { state = state; run = record { run = whole; events = all; rack = rack; end = left; ran = ran }; journal = is }
+
+-- the labels of a run that stopped, by the plan and the images that were accepted
+pub stands-for : (accepted : Accepted) (plan : RackPlan) (images : List Image) (log : List Note) → plan ≡ accepted.plan → images ≡ accepted.images → Stands (setup_of plan images) log
+    → Stands (setup_by accepted) log
+stands-for accepted plan images log planned same stands =
+    let P : RackPlan → Type 0 = λ p. Stands (setup_of p accepted.images) log in
+    let Q : List Image → Type 0 = λ xs. Stands (setup_of plan xs) log in
+    subst P planned (subst Q same stands)
+
+pub is-stopped : (accepted : Accepted) (plan : RackPlan) (images : List Image) (log : List Note) (end : Option RackView) (rack : RackView) → plan ≡ accepted.plan → images ≡ accepted.images
+    → Stands (setup_of plan images) log → end ≡ Some rack → HasSpentNumber rack → IsStopped accepted (record { log = log; end = end })
+is-stopped accepted plan images log end rack planned same stands left spent =
+    record { stands = stands-for accepted plan images log planned same stands; rack = rack; end = left; spent = spent }

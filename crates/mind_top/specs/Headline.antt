@@ -1,0 +1,59 @@
+-- What a run of accepted inputs leaves, and what is written of it.
+use Rattle.std.specs.Prelude.{◌≡◌, ℕ, List, length, Some}
+use Rattle.mind_base.specs.declared.notes.Note.{Note}
+use Rattle.journal_text.specs.Journal.{journal_text_of}
+use Rattle.mind_inputs.specs.Inputs.{Accepted}
+use Rattle.tso_machine.specs.State.{Setup, State, start_state}
+use Rattle.tso_machine.specs.Replay.{labels, Whole, replay}
+use Rattle.report_text.specs.Report.{report_text}
+use Rattle.mind_steps.specs.Run.{setup_of, events, below, IsReportOf, Stands}
+use Rattle.rack_core.specs.Calls.{HasSpentNumber}
+use Rattle.rack_core.specs.Rack.{RackView}
+use Rattle.mind_top.specs.Left.{Left}
+use Rattle.mind_top.specs.Ran.{RanThrough}
+use Rattle.mind_top.specs.declared.words.Output.{Output}
+use Rattle.mind_top.specs.declared.words.Output.TheVariants.{Report, Journal}
+
+-- the machine of accepted inputs
+abbrev pub setup_by : Accepted → Setup
+setup_by accepted = setup_of accepted.plan accepted.images
+
+-- The log is that of a run of the machine: its labels replay whole from the machine's start, to this state, and its
+-- events are all events of the schedule, in order from 0. The rack at the end of the events is left, and with that
+-- log it ran through them.
+pub record IsRunOf (accepted : Accepted) (left : Left) (state : State) : Type 0 where
+  pub run : replay (setup_by accepted) (start_state (setup_by accepted)) (labels left.log) ≡ Whole state
+  pub events : events left.log ≡ below (length accepted.events)
+  pub rack : RackView
+  pub end : left.end ≡ Some rack
+  pub ran : RanThrough accepted left.log rack
+
+-- the report is that of a run of the machine: of the state at its end, and of its log
+pub record Headline (accepted : Accepted) (left : Left) (text : List ℕ) : Type 0 where
+  pub state : State
+  pub run : IsRunOf accepted left state
+  pub report : text ≡ report_text (setup_by accepted).commands state.threads state.taken left.log
+
+-- the journal is that of the log of a run of the machine
+pub record JournalHeadline (accepted : Accepted) (left : Left) (text : List ℕ) : Type 0 where
+  pub state : State
+  pub run : IsRunOf accepted left state
+  pub journal : text ≡ journal_text_of left.log
+
+-- a run leaves its log and its rack, and writes its report or the text of the log
+abbrev pub RunWrites : Output → Accepted → Left → List ℕ → Type 0
+RunWrites Report accepted left text = Headline accepted left text
+RunWrites Journal accepted left text = JournalHeadline accepted left text
+
+-- the text of a log that is asked for
+abbrev pub IsTextOf : Output → Accepted → List Note → List ℕ → Type 0
+IsTextOf Report accepted log text = IsReportOf (setup_by accepted) log text
+IsTextOf Journal accepted log text = text ≡ journal_text_of log
+
+-- A run stopped since a number of its rack has its last value. The labels of the events before the one that
+-- stopped replay whole.
+pub record IsStopped (accepted : Accepted) (left : Left) : Type 0 where
+  pub stands : Stands (setup_by accepted) left.log
+  pub rack : RackView
+  pub end : left.end ≡ Some rack
+  pub spent : HasSpentNumber rack
