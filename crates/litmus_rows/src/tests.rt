@@ -1,4 +1,4 @@
-//! Programs on the abstract machine, with the reports that are expected.
+//! Programs on racks, each message being delivered before the next access, with the reports that are expected.
 
 mod independent_reads;
 mod memory_rows;

@@ -2,6 +2,7 @@
 
 mod calls;
 mod checks;
+mod ends;
 mod faults;
 mod forms;
 mod journals;

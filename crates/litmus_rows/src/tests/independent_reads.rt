@@ -15,113 +15,113 @@ static INDEPENDENT_READS: [Row; 16] = [
     Row {
         rack: FOUR,
         programs: IRIW,
-        schedule: "step 0\nstep 0\nstep 1\nstep 1\nstep 2\nstep 2\nstep 3\nstep 3\nstep 0\nstep 1\nstep 2\nstep 2\nstep 3\nstep 3\ndrain 0\ndrain 1\nstep 0\nstep 0\nstep 0\nstep 1\nstep 1\nstep 1\nstep 2\nstep 2\nstep 2\nstep 2\nstep 2\nstep 2\nstep 2\nstep 2\nstep 3\nstep 3\nstep 3\nstep 3\nstep 3\nstep 3\nstep 3\nstep 3\n",
-        report: "mind 1\nthread 0 exit 0 out -\nthread 1 exit 0 out -\nthread 2 exit 0 out 0000\nthread 3 exit 0 out 0000\ncounts events 38 labels 38 takes 0 gives 0 downs 0 peak 0 splits 0 merges 0\n",
+        schedule: "step 0\nstep 0\nstep 1\nstep 1\nstep 2\nstep 2\nstep 3\nstep 3\nstep 0\ndeliver u0 0\ndeliver t0 0\ndeliver f0 0\ndeliver d0 0\nstep 1\ndeliver u1 0\ndeliver t0 0\ndeliver f0 0\ndeliver d1 0\nstep 2\ndeliver u2 0\ndeliver d0 0\ndeliver u0 0\ndeliver t0 0\ndeliver f0 0\ndeliver d2 0\nstep 2\ndeliver u2 0\ndeliver d1 0\ndeliver u1 0\ndeliver t0 0\ndeliver f0 0\ndeliver d2 0\nstep 3\ndeliver u3 0\ndeliver t0 0\ndeliver f0 0\ndeliver d3 0\nstep 3\ndeliver u3 0\ndeliver t0 0\ndeliver f0 0\ndeliver d3 0\ndrain 0\ndeliver u0 0\ndeliver d2 0\ndeliver u2 0\ndeliver d3 0\ndeliver u3 0\ndeliver t0 0\ndeliver f0 0\ndeliver d0 0\ndrain 1\ndeliver u1 0\ndeliver d2 0\ndeliver u2 0\ndeliver d3 0\ndeliver u3 0\ndeliver t0 0\ndeliver f0 0\ndeliver d1 0\nstep 0\nstep 0\nstep 0\nstep 1\nstep 1\nstep 1\nstep 2\nstep 2\nstep 2\nstep 2\nstep 2\nstep 2\nstep 2\nstep 2\nstep 3\nstep 3\nstep 3\nstep 3\nstep 3\nstep 3\nstep 3\nstep 3\n",
+        report: "mind 1\nthread 0 exit 0 out -\nthread 1 exit 0 out -\nthread 2 exit 0 out 0000\nthread 3 exit 0 out 0000\ncounts events 82 labels 38 takes 8 gives 4 downs 2 peak 2 splits 0 merges 0\n",
     },
     // IRIW, x_first.
     Row {
         rack: FOUR,
         programs: IRIW,
-        schedule: "step 0\nstep 0\nstep 1\nstep 1\nstep 2\nstep 2\nstep 3\nstep 3\nstep 0\nstep 1\nstep 3\ndrain 0\nstep 2\nstep 2\nstep 3\ndrain 1\nstep 0\nstep 0\nstep 0\nstep 1\nstep 1\nstep 1\nstep 2\nstep 2\nstep 2\nstep 2\nstep 2\nstep 2\nstep 2\nstep 2\nstep 3\nstep 3\nstep 3\nstep 3\nstep 3\nstep 3\nstep 3\nstep 3\n",
-        report: "mind 1\nthread 0 exit 0 out -\nthread 1 exit 0 out -\nthread 2 exit 0 out 0100\nthread 3 exit 0 out 0001\ncounts events 38 labels 38 takes 0 gives 0 downs 0 peak 0 splits 0 merges 0\n",
+        schedule: "step 0\nstep 0\nstep 1\nstep 1\nstep 2\nstep 2\nstep 3\nstep 3\nstep 0\ndeliver u0 0\ndeliver t0 0\ndeliver f0 0\ndeliver d0 0\nstep 1\ndeliver u1 0\ndeliver t0 0\ndeliver f0 0\ndeliver d1 0\nstep 3\ndeliver u3 0\ndeliver d1 0\ndeliver u1 0\ndeliver t0 0\ndeliver f0 0\ndeliver d3 0\ndrain 0\nstep 2\ndeliver u2 0\ndeliver d0 0\ndeliver u0 0\ndeliver u0 0\ndeliver t0 0\ndeliver t0 0\ndeliver f0 0\ndeliver d2 0\nstep 2\ndeliver u2 0\ndeliver t0 0\ndeliver f0 0\ndeliver d2 0\nstep 3\ndeliver u3 0\ndeliver t0 0\ndeliver f0 0\ndeliver d3 0\ndrain 1\ndeliver u1 0\ndeliver d2 0\ndeliver u2 0\ndeliver d3 0\ndeliver u3 0\ndeliver t0 0\ndeliver f0 0\ndeliver d1 0\nstep 0\nstep 0\nstep 0\nstep 1\nstep 1\nstep 1\nstep 2\nstep 2\nstep 2\nstep 2\nstep 2\nstep 2\nstep 2\nstep 2\nstep 3\nstep 3\nstep 3\nstep 3\nstep 3\nstep 3\nstep 3\nstep 3\n",
+        report: "mind 1\nthread 0 exit 0 out -\nthread 1 exit 0 out -\nthread 2 exit 0 out 0100\nthread 3 exit 0 out 0001\ncounts events 76 labels 38 takes 7 gives 2 downs 2 peak 2 splits 0 merges 0\n",
     },
     // IRIW, y_first.
     Row {
         rack: FOUR,
         programs: IRIW,
-        schedule: "step 0\nstep 0\nstep 1\nstep 1\nstep 2\nstep 2\nstep 3\nstep 3\nstep 0\nstep 1\nstep 2\ndrain 1\nstep 3\nstep 3\nstep 2\ndrain 0\nstep 0\nstep 0\nstep 0\nstep 1\nstep 1\nstep 1\nstep 2\nstep 2\nstep 2\nstep 2\nstep 2\nstep 2\nstep 2\nstep 2\nstep 3\nstep 3\nstep 3\nstep 3\nstep 3\nstep 3\nstep 3\nstep 3\n",
-        report: "mind 1\nthread 0 exit 0 out -\nthread 1 exit 0 out -\nthread 2 exit 0 out 0001\nthread 3 exit 0 out 0100\ncounts events 38 labels 38 takes 0 gives 0 downs 0 peak 0 splits 0 merges 0\n",
+        schedule: "step 0\nstep 0\nstep 1\nstep 1\nstep 2\nstep 2\nstep 3\nstep 3\nstep 0\ndeliver u0 0\ndeliver t0 0\ndeliver f0 0\ndeliver d0 0\nstep 1\ndeliver u1 0\ndeliver t0 0\ndeliver f0 0\ndeliver d1 0\nstep 2\ndeliver u2 0\ndeliver d0 0\ndeliver u0 0\ndeliver t0 0\ndeliver f0 0\ndeliver d2 0\ndrain 1\nstep 3\ndeliver u3 0\ndeliver d1 0\ndeliver u1 0\ndeliver u1 0\ndeliver t0 0\ndeliver t0 0\ndeliver f0 0\ndeliver d3 0\nstep 3\ndeliver u3 0\ndeliver t0 0\ndeliver f0 0\ndeliver d3 0\nstep 2\ndeliver u2 0\ndeliver t0 0\ndeliver f0 0\ndeliver d2 0\ndrain 0\ndeliver u0 0\ndeliver d2 0\ndeliver u2 0\ndeliver d3 0\ndeliver u3 0\ndeliver t0 0\ndeliver f0 0\ndeliver d0 0\nstep 0\nstep 0\nstep 0\nstep 1\nstep 1\nstep 1\nstep 2\nstep 2\nstep 2\nstep 2\nstep 2\nstep 2\nstep 2\nstep 2\nstep 3\nstep 3\nstep 3\nstep 3\nstep 3\nstep 3\nstep 3\nstep 3\n",
+        report: "mind 1\nthread 0 exit 0 out -\nthread 1 exit 0 out -\nthread 2 exit 0 out 0001\nthread 3 exit 0 out 0100\ncounts events 76 labels 38 takes 7 gives 2 downs 2 peak 2 splits 0 merges 0\n",
     },
     // IRIW, all_one.
     Row {
         rack: FOUR,
         programs: IRIW,
-        schedule: "step 0\nstep 0\nstep 1\nstep 1\nstep 2\nstep 2\nstep 3\nstep 3\nstep 0\nstep 1\ndrain 0\ndrain 1\nstep 2\nstep 2\nstep 3\nstep 3\nstep 0\nstep 0\nstep 0\nstep 1\nstep 1\nstep 1\nstep 2\nstep 2\nstep 2\nstep 2\nstep 2\nstep 2\nstep 2\nstep 2\nstep 3\nstep 3\nstep 3\nstep 3\nstep 3\nstep 3\nstep 3\nstep 3\n",
-        report: "mind 1\nthread 0 exit 0 out -\nthread 1 exit 0 out -\nthread 2 exit 0 out 0101\nthread 3 exit 0 out 0101\ncounts events 38 labels 38 takes 0 gives 0 downs 0 peak 0 splits 0 merges 0\n",
+        schedule: "step 0\nstep 0\nstep 1\nstep 1\nstep 2\nstep 2\nstep 3\nstep 3\nstep 0\ndeliver u0 0\ndeliver t0 0\ndeliver f0 0\ndeliver d0 0\nstep 1\ndeliver u1 0\ndeliver t0 0\ndeliver f0 0\ndeliver d1 0\ndrain 0\ndrain 1\nstep 2\ndeliver u2 0\ndeliver d0 0\ndeliver u0 0\ndeliver u0 0\ndeliver t0 0\ndeliver t0 0\ndeliver f0 0\ndeliver d2 0\nstep 2\ndeliver u2 0\ndeliver d1 0\ndeliver u1 0\ndeliver u1 0\ndeliver t0 0\ndeliver t0 0\ndeliver f0 0\ndeliver d2 0\nstep 3\ndeliver u3 0\ndeliver t0 0\ndeliver f0 0\ndeliver d3 0\nstep 3\ndeliver u3 0\ndeliver t0 0\ndeliver f0 0\ndeliver d3 0\nstep 0\nstep 0\nstep 0\nstep 1\nstep 1\nstep 1\nstep 2\nstep 2\nstep 2\nstep 2\nstep 2\nstep 2\nstep 2\nstep 2\nstep 3\nstep 3\nstep 3\nstep 3\nstep 3\nstep 3\nstep 3\nstep 3\n",
+        report: "mind 1\nthread 0 exit 0 out -\nthread 1 exit 0 out -\nthread 2 exit 0 out 0101\nthread 3 exit 0 out 0101\ncounts events 70 labels 38 takes 6 gives 0 downs 2 peak 2 splits 0 merges 0\n",
     },
     // IRIW, zero_zero_zero_one.
     Row {
         rack: FOUR,
         programs: IRIW,
-        schedule: "step 0\nstep 0\nstep 1\nstep 1\nstep 2\nstep 2\nstep 3\nstep 3\nstep 0\nstep 1\nstep 2\ndrain 0\nstep 2\nstep 3\ndrain 1\nstep 3\nstep 0\nstep 0\nstep 0\nstep 1\nstep 1\nstep 1\nstep 2\nstep 2\nstep 2\nstep 2\nstep 2\nstep 2\nstep 2\nstep 2\nstep 3\nstep 3\nstep 3\nstep 3\nstep 3\nstep 3\nstep 3\nstep 3\n",
-        report: "mind 1\nthread 0 exit 0 out -\nthread 1 exit 0 out -\nthread 2 exit 0 out 0000\nthread 3 exit 0 out 0001\ncounts events 38 labels 38 takes 0 gives 0 downs 0 peak 0 splits 0 merges 0\n",
+        schedule: "step 0\nstep 0\nstep 1\nstep 1\nstep 2\nstep 2\nstep 3\nstep 3\nstep 0\ndeliver u0 0\ndeliver t0 0\ndeliver f0 0\ndeliver d0 0\nstep 1\ndeliver u1 0\ndeliver t0 0\ndeliver f0 0\ndeliver d1 0\nstep 2\ndeliver u2 0\ndeliver d0 0\ndeliver u0 0\ndeliver t0 0\ndeliver f0 0\ndeliver d2 0\ndrain 0\ndeliver u0 0\ndeliver d2 0\ndeliver u2 0\ndeliver t0 0\ndeliver f0 0\ndeliver d0 0\nstep 2\ndeliver u2 0\ndeliver d1 0\ndeliver u1 0\ndeliver t0 0\ndeliver f0 0\ndeliver d2 0\nstep 3\ndeliver u3 0\ndeliver t0 0\ndeliver f0 0\ndeliver d3 0\ndrain 1\ndeliver u1 0\ndeliver d2 0\ndeliver u2 0\ndeliver d3 0\ndeliver u3 0\ndeliver t0 0\ndeliver f0 0\ndeliver d1 0\nstep 3\ndeliver u3 0\ndeliver d0 0\ndeliver u0 0\ndeliver u0 0\ndeliver t0 0\ndeliver t0 0\ndeliver f0 0\ndeliver d3 0\nstep 0\nstep 0\nstep 0\nstep 1\nstep 1\nstep 1\nstep 2\nstep 2\nstep 2\nstep 2\nstep 2\nstep 2\nstep 2\nstep 2\nstep 3\nstep 3\nstep 3\nstep 3\nstep 3\nstep 3\nstep 3\nstep 3\n",
+        report: "mind 1\nthread 0 exit 0 out -\nthread 1 exit 0 out -\nthread 2 exit 0 out 0000\nthread 3 exit 0 out 0001\ncounts events 84 labels 38 takes 8 gives 3 downs 3 peak 2 splits 0 merges 0\n",
     },
     // IRIW, zero_zero_one_zero.
     Row {
         rack: FOUR,
         programs: IRIW,
-        schedule: "step 0\nstep 0\nstep 1\nstep 1\nstep 2\nstep 2\nstep 3\nstep 3\nstep 0\nstep 1\nstep 2\nstep 2\ndrain 1\nstep 3\nstep 3\ndrain 0\nstep 0\nstep 0\nstep 0\nstep 1\nstep 1\nstep 1\nstep 2\nstep 2\nstep 2\nstep 2\nstep 2\nstep 2\nstep 2\nstep 2\nstep 3\nstep 3\nstep 3\nstep 3\nstep 3\nstep 3\nstep 3\nstep 3\n",
-        report: "mind 1\nthread 0 exit 0 out -\nthread 1 exit 0 out -\nthread 2 exit 0 out 0000\nthread 3 exit 0 out 0100\ncounts events 38 labels 38 takes 0 gives 0 downs 0 peak 0 splits 0 merges 0\n",
+        schedule: "step 0\nstep 0\nstep 1\nstep 1\nstep 2\nstep 2\nstep 3\nstep 3\nstep 0\ndeliver u0 0\ndeliver t0 0\ndeliver f0 0\ndeliver d0 0\nstep 1\ndeliver u1 0\ndeliver t0 0\ndeliver f0 0\ndeliver d1 0\nstep 2\ndeliver u2 0\ndeliver d0 0\ndeliver u0 0\ndeliver t0 0\ndeliver f0 0\ndeliver d2 0\nstep 2\ndeliver u2 0\ndeliver d1 0\ndeliver u1 0\ndeliver t0 0\ndeliver f0 0\ndeliver d2 0\ndrain 1\ndeliver u1 0\ndeliver d2 0\ndeliver u2 0\ndeliver t0 0\ndeliver f0 0\ndeliver d1 0\nstep 3\ndeliver u3 0\ndeliver d1 0\ndeliver u1 0\ndeliver u1 0\ndeliver t0 0\ndeliver t0 0\ndeliver f0 0\ndeliver d3 0\nstep 3\ndeliver u3 0\ndeliver t0 0\ndeliver f0 0\ndeliver d3 0\ndrain 0\ndeliver u0 0\ndeliver d2 0\ndeliver u2 0\ndeliver d3 0\ndeliver u3 0\ndeliver t0 0\ndeliver f0 0\ndeliver d0 0\nstep 0\nstep 0\nstep 0\nstep 1\nstep 1\nstep 1\nstep 2\nstep 2\nstep 2\nstep 2\nstep 2\nstep 2\nstep 2\nstep 2\nstep 3\nstep 3\nstep 3\nstep 3\nstep 3\nstep 3\nstep 3\nstep 3\n",
+        report: "mind 1\nthread 0 exit 0 out -\nthread 1 exit 0 out -\nthread 2 exit 0 out 0000\nthread 3 exit 0 out 0100\ncounts events 84 labels 38 takes 8 gives 3 downs 3 peak 2 splits 0 merges 0\n",
     },
     // IRIW, zero_zero_one_one.
     Row {
         rack: FOUR,
         programs: IRIW,
-        schedule: "step 0\nstep 0\nstep 1\nstep 1\nstep 2\nstep 2\nstep 3\nstep 3\nstep 0\nstep 1\nstep 2\ndrain 0\nstep 2\ndrain 1\nstep 3\nstep 3\nstep 0\nstep 0\nstep 0\nstep 1\nstep 1\nstep 1\nstep 2\nstep 2\nstep 2\nstep 2\nstep 2\nstep 2\nstep 2\nstep 2\nstep 3\nstep 3\nstep 3\nstep 3\nstep 3\nstep 3\nstep 3\nstep 3\n",
-        report: "mind 1\nthread 0 exit 0 out -\nthread 1 exit 0 out -\nthread 2 exit 0 out 0000\nthread 3 exit 0 out 0101\ncounts events 38 labels 38 takes 0 gives 0 downs 0 peak 0 splits 0 merges 0\n",
+        schedule: "step 0\nstep 0\nstep 1\nstep 1\nstep 2\nstep 2\nstep 3\nstep 3\nstep 0\ndeliver u0 0\ndeliver t0 0\ndeliver f0 0\ndeliver d0 0\nstep 1\ndeliver u1 0\ndeliver t0 0\ndeliver f0 0\ndeliver d1 0\nstep 2\ndeliver u2 0\ndeliver d0 0\ndeliver u0 0\ndeliver t0 0\ndeliver f0 0\ndeliver d2 0\ndrain 0\ndeliver u0 0\ndeliver d2 0\ndeliver u2 0\ndeliver t0 0\ndeliver f0 0\ndeliver d0 0\nstep 2\ndeliver u2 0\ndeliver d1 0\ndeliver u1 0\ndeliver t0 0\ndeliver f0 0\ndeliver d2 0\ndrain 1\ndeliver u1 0\ndeliver d2 0\ndeliver u2 0\ndeliver t0 0\ndeliver f0 0\ndeliver d1 0\nstep 3\ndeliver u3 0\ndeliver d1 0\ndeliver u1 0\ndeliver u1 0\ndeliver t0 0\ndeliver t0 0\ndeliver f0 0\ndeliver d3 0\nstep 3\ndeliver u3 0\ndeliver d0 0\ndeliver u0 0\ndeliver u0 0\ndeliver t0 0\ndeliver t0 0\ndeliver f0 0\ndeliver d3 0\nstep 0\nstep 0\nstep 0\nstep 1\nstep 1\nstep 1\nstep 2\nstep 2\nstep 2\nstep 2\nstep 2\nstep 2\nstep 2\nstep 2\nstep 3\nstep 3\nstep 3\nstep 3\nstep 3\nstep 3\nstep 3\nstep 3\n",
+        report: "mind 1\nthread 0 exit 0 out -\nthread 1 exit 0 out -\nthread 2 exit 0 out 0000\nthread 3 exit 0 out 0101\ncounts events 86 labels 38 takes 8 gives 2 downs 4 peak 2 splits 0 merges 0\n",
     },
     // IRIW, zero_one_zero_zero.
     Row {
         rack: FOUR,
         programs: IRIW,
-        schedule: "step 0\nstep 0\nstep 1\nstep 1\nstep 2\nstep 2\nstep 3\nstep 3\nstep 0\nstep 1\nstep 2\nstep 3\ndrain 1\nstep 2\nstep 3\ndrain 0\nstep 0\nstep 0\nstep 0\nstep 1\nstep 1\nstep 1\nstep 2\nstep 2\nstep 2\nstep 2\nstep 2\nstep 2\nstep 2\nstep 2\nstep 3\nstep 3\nstep 3\nstep 3\nstep 3\nstep 3\nstep 3\nstep 3\n",
-        report: "mind 1\nthread 0 exit 0 out -\nthread 1 exit 0 out -\nthread 2 exit 0 out 0001\nthread 3 exit 0 out 0000\ncounts events 38 labels 38 takes 0 gives 0 downs 0 peak 0 splits 0 merges 0\n",
+        schedule: "step 0\nstep 0\nstep 1\nstep 1\nstep 2\nstep 2\nstep 3\nstep 3\nstep 0\ndeliver u0 0\ndeliver t0 0\ndeliver f0 0\ndeliver d0 0\nstep 1\ndeliver u1 0\ndeliver t0 0\ndeliver f0 0\ndeliver d1 0\nstep 2\ndeliver u2 0\ndeliver d0 0\ndeliver u0 0\ndeliver t0 0\ndeliver f0 0\ndeliver d2 0\nstep 3\ndeliver u3 0\ndeliver d1 0\ndeliver u1 0\ndeliver t0 0\ndeliver f0 0\ndeliver d3 0\ndrain 1\ndeliver u1 0\ndeliver d3 0\ndeliver u3 0\ndeliver t0 0\ndeliver f0 0\ndeliver d1 0\nstep 2\ndeliver u2 0\ndeliver d1 0\ndeliver u1 0\ndeliver u1 0\ndeliver t0 0\ndeliver t0 0\ndeliver f0 0\ndeliver d2 0\nstep 3\ndeliver u3 0\ndeliver t0 0\ndeliver f0 0\ndeliver d3 0\ndrain 0\ndeliver u0 0\ndeliver d2 0\ndeliver u2 0\ndeliver d3 0\ndeliver u3 0\ndeliver t0 0\ndeliver f0 0\ndeliver d0 0\nstep 0\nstep 0\nstep 0\nstep 1\nstep 1\nstep 1\nstep 2\nstep 2\nstep 2\nstep 2\nstep 2\nstep 2\nstep 2\nstep 2\nstep 3\nstep 3\nstep 3\nstep 3\nstep 3\nstep 3\nstep 3\nstep 3\n",
+        report: "mind 1\nthread 0 exit 0 out -\nthread 1 exit 0 out -\nthread 2 exit 0 out 0001\nthread 3 exit 0 out 0000\ncounts events 84 labels 38 takes 8 gives 3 downs 3 peak 2 splits 0 merges 0\n",
     },
     // IRIW, zero_one_zero_one.
     Row {
         rack: FOUR,
         programs: IRIW,
-        schedule: "step 0\nstep 0\nstep 1\nstep 1\nstep 2\nstep 2\nstep 3\nstep 3\nstep 0\nstep 1\nstep 2\ndrain 0\nstep 3\ndrain 1\nstep 2\nstep 3\nstep 0\nstep 0\nstep 0\nstep 1\nstep 1\nstep 1\nstep 2\nstep 2\nstep 2\nstep 2\nstep 2\nstep 2\nstep 2\nstep 2\nstep 3\nstep 3\nstep 3\nstep 3\nstep 3\nstep 3\nstep 3\nstep 3\n",
-        report: "mind 1\nthread 0 exit 0 out -\nthread 1 exit 0 out -\nthread 2 exit 0 out 0001\nthread 3 exit 0 out 0001\ncounts events 38 labels 38 takes 0 gives 0 downs 0 peak 0 splits 0 merges 0\n",
+        schedule: "step 0\nstep 0\nstep 1\nstep 1\nstep 2\nstep 2\nstep 3\nstep 3\nstep 0\ndeliver u0 0\ndeliver t0 0\ndeliver f0 0\ndeliver d0 0\nstep 1\ndeliver u1 0\ndeliver t0 0\ndeliver f0 0\ndeliver d1 0\nstep 2\ndeliver u2 0\ndeliver d0 0\ndeliver u0 0\ndeliver t0 0\ndeliver f0 0\ndeliver d2 0\ndrain 0\ndeliver u0 0\ndeliver d2 0\ndeliver u2 0\ndeliver t0 0\ndeliver f0 0\ndeliver d0 0\nstep 3\ndeliver u3 0\ndeliver d1 0\ndeliver u1 0\ndeliver t0 0\ndeliver f0 0\ndeliver d3 0\ndrain 1\ndeliver u1 0\ndeliver d3 0\ndeliver u3 0\ndeliver t0 0\ndeliver f0 0\ndeliver d1 0\nstep 2\ndeliver u2 0\ndeliver d1 0\ndeliver u1 0\ndeliver u1 0\ndeliver t0 0\ndeliver t0 0\ndeliver f0 0\ndeliver d2 0\nstep 3\ndeliver u3 0\ndeliver d0 0\ndeliver u0 0\ndeliver u0 0\ndeliver t0 0\ndeliver t0 0\ndeliver f0 0\ndeliver d3 0\nstep 0\nstep 0\nstep 0\nstep 1\nstep 1\nstep 1\nstep 2\nstep 2\nstep 2\nstep 2\nstep 2\nstep 2\nstep 2\nstep 2\nstep 3\nstep 3\nstep 3\nstep 3\nstep 3\nstep 3\nstep 3\nstep 3\n",
+        report: "mind 1\nthread 0 exit 0 out -\nthread 1 exit 0 out -\nthread 2 exit 0 out 0001\nthread 3 exit 0 out 0001\ncounts events 86 labels 38 takes 8 gives 2 downs 4 peak 2 splits 0 merges 0\n",
     },
     // IRIW, zero_one_one_one.
     Row {
         rack: FOUR,
         programs: IRIW,
-        schedule: "step 0\nstep 0\nstep 1\nstep 1\nstep 2\nstep 2\nstep 3\nstep 3\nstep 0\nstep 1\ndrain 1\nstep 2\ndrain 0\nstep 2\nstep 3\nstep 3\nstep 0\nstep 0\nstep 0\nstep 1\nstep 1\nstep 1\nstep 2\nstep 2\nstep 2\nstep 2\nstep 2\nstep 2\nstep 2\nstep 2\nstep 3\nstep 3\nstep 3\nstep 3\nstep 3\nstep 3\nstep 3\nstep 3\n",
-        report: "mind 1\nthread 0 exit 0 out -\nthread 1 exit 0 out -\nthread 2 exit 0 out 0001\nthread 3 exit 0 out 0101\ncounts events 38 labels 38 takes 0 gives 0 downs 0 peak 0 splits 0 merges 0\n",
+        schedule: "step 0\nstep 0\nstep 1\nstep 1\nstep 2\nstep 2\nstep 3\nstep 3\nstep 0\ndeliver u0 0\ndeliver t0 0\ndeliver f0 0\ndeliver d0 0\nstep 1\ndeliver u1 0\ndeliver t0 0\ndeliver f0 0\ndeliver d1 0\ndrain 1\nstep 2\ndeliver u2 0\ndeliver d0 0\ndeliver u0 0\ndeliver t0 0\ndeliver f0 0\ndeliver d2 0\ndrain 0\ndeliver u0 0\ndeliver d2 0\ndeliver u2 0\ndeliver t0 0\ndeliver f0 0\ndeliver d0 0\nstep 2\ndeliver u2 0\ndeliver d1 0\ndeliver u1 0\ndeliver u1 0\ndeliver t0 0\ndeliver t0 0\ndeliver f0 0\ndeliver d2 0\nstep 3\ndeliver u3 0\ndeliver t0 0\ndeliver f0 0\ndeliver d3 0\nstep 3\ndeliver u3 0\ndeliver d0 0\ndeliver u0 0\ndeliver u0 0\ndeliver t0 0\ndeliver t0 0\ndeliver f0 0\ndeliver d3 0\nstep 0\nstep 0\nstep 0\nstep 1\nstep 1\nstep 1\nstep 2\nstep 2\nstep 2\nstep 2\nstep 2\nstep 2\nstep 2\nstep 2\nstep 3\nstep 3\nstep 3\nstep 3\nstep 3\nstep 3\nstep 3\nstep 3\n",
+        report: "mind 1\nthread 0 exit 0 out -\nthread 1 exit 0 out -\nthread 2 exit 0 out 0001\nthread 3 exit 0 out 0101\ncounts events 78 labels 38 takes 7 gives 1 downs 3 peak 2 splits 0 merges 0\n",
     },
     // IRIW, one_zero_zero_zero.
     Row {
         rack: FOUR,
         programs: IRIW,
-        schedule: "step 0\nstep 0\nstep 1\nstep 1\nstep 2\nstep 2\nstep 3\nstep 3\nstep 0\nstep 1\nstep 3\nstep 3\ndrain 0\nstep 2\nstep 2\ndrain 1\nstep 0\nstep 0\nstep 0\nstep 1\nstep 1\nstep 1\nstep 2\nstep 2\nstep 2\nstep 2\nstep 2\nstep 2\nstep 2\nstep 2\nstep 3\nstep 3\nstep 3\nstep 3\nstep 3\nstep 3\nstep 3\nstep 3\n",
-        report: "mind 1\nthread 0 exit 0 out -\nthread 1 exit 0 out -\nthread 2 exit 0 out 0100\nthread 3 exit 0 out 0000\ncounts events 38 labels 38 takes 0 gives 0 downs 0 peak 0 splits 0 merges 0\n",
+        schedule: "step 0\nstep 0\nstep 1\nstep 1\nstep 2\nstep 2\nstep 3\nstep 3\nstep 0\ndeliver u0 0\ndeliver t0 0\ndeliver f0 0\ndeliver d0 0\nstep 1\ndeliver u1 0\ndeliver t0 0\ndeliver f0 0\ndeliver d1 0\nstep 3\ndeliver u3 0\ndeliver d1 0\ndeliver u1 0\ndeliver t0 0\ndeliver f0 0\ndeliver d3 0\nstep 3\ndeliver u3 0\ndeliver d0 0\ndeliver u0 0\ndeliver t0 0\ndeliver f0 0\ndeliver d3 0\ndrain 0\ndeliver u0 0\ndeliver d3 0\ndeliver u3 0\ndeliver t0 0\ndeliver f0 0\ndeliver d0 0\nstep 2\ndeliver u2 0\ndeliver d0 0\ndeliver u0 0\ndeliver u0 0\ndeliver t0 0\ndeliver t0 0\ndeliver f0 0\ndeliver d2 0\nstep 2\ndeliver u2 0\ndeliver t0 0\ndeliver f0 0\ndeliver d2 0\ndrain 1\ndeliver u1 0\ndeliver d2 0\ndeliver u2 0\ndeliver d3 0\ndeliver u3 0\ndeliver t0 0\ndeliver f0 0\ndeliver d1 0\nstep 0\nstep 0\nstep 0\nstep 1\nstep 1\nstep 1\nstep 2\nstep 2\nstep 2\nstep 2\nstep 2\nstep 2\nstep 2\nstep 2\nstep 3\nstep 3\nstep 3\nstep 3\nstep 3\nstep 3\nstep 3\nstep 3\n",
+        report: "mind 1\nthread 0 exit 0 out -\nthread 1 exit 0 out -\nthread 2 exit 0 out 0100\nthread 3 exit 0 out 0000\ncounts events 84 labels 38 takes 8 gives 3 downs 3 peak 2 splits 0 merges 0\n",
     },
     // IRIW, one_zero_one_one.
     Row {
         rack: FOUR,
         programs: IRIW,
-        schedule: "step 0\nstep 0\nstep 1\nstep 1\nstep 2\nstep 2\nstep 3\nstep 3\nstep 0\nstep 1\ndrain 0\nstep 2\nstep 2\ndrain 1\nstep 3\nstep 3\nstep 0\nstep 0\nstep 0\nstep 1\nstep 1\nstep 1\nstep 2\nstep 2\nstep 2\nstep 2\nstep 2\nstep 2\nstep 2\nstep 2\nstep 3\nstep 3\nstep 3\nstep 3\nstep 3\nstep 3\nstep 3\nstep 3\n",
-        report: "mind 1\nthread 0 exit 0 out -\nthread 1 exit 0 out -\nthread 2 exit 0 out 0100\nthread 3 exit 0 out 0101\ncounts events 38 labels 38 takes 0 gives 0 downs 0 peak 0 splits 0 merges 0\n",
+        schedule: "step 0\nstep 0\nstep 1\nstep 1\nstep 2\nstep 2\nstep 3\nstep 3\nstep 0\ndeliver u0 0\ndeliver t0 0\ndeliver f0 0\ndeliver d0 0\nstep 1\ndeliver u1 0\ndeliver t0 0\ndeliver f0 0\ndeliver d1 0\ndrain 0\nstep 2\ndeliver u2 0\ndeliver d0 0\ndeliver u0 0\ndeliver u0 0\ndeliver t0 0\ndeliver t0 0\ndeliver f0 0\ndeliver d2 0\nstep 2\ndeliver u2 0\ndeliver d1 0\ndeliver u1 0\ndeliver t0 0\ndeliver f0 0\ndeliver d2 0\ndrain 1\ndeliver u1 0\ndeliver d2 0\ndeliver u2 0\ndeliver t0 0\ndeliver f0 0\ndeliver d1 0\nstep 3\ndeliver u3 0\ndeliver d1 0\ndeliver u1 0\ndeliver u1 0\ndeliver t0 0\ndeliver t0 0\ndeliver f0 0\ndeliver d3 0\nstep 3\ndeliver u3 0\ndeliver t0 0\ndeliver f0 0\ndeliver d3 0\nstep 0\nstep 0\nstep 0\nstep 1\nstep 1\nstep 1\nstep 2\nstep 2\nstep 2\nstep 2\nstep 2\nstep 2\nstep 2\nstep 2\nstep 3\nstep 3\nstep 3\nstep 3\nstep 3\nstep 3\nstep 3\nstep 3\n",
+        report: "mind 1\nthread 0 exit 0 out -\nthread 1 exit 0 out -\nthread 2 exit 0 out 0100\nthread 3 exit 0 out 0101\ncounts events 78 labels 38 takes 7 gives 1 downs 3 peak 2 splits 0 merges 0\n",
     },
     // IRIW, one_one_zero_zero.
     Row {
         rack: FOUR,
         programs: IRIW,
-        schedule: "step 0\nstep 0\nstep 1\nstep 1\nstep 2\nstep 2\nstep 3\nstep 3\nstep 0\nstep 1\nstep 3\ndrain 1\nstep 3\ndrain 0\nstep 2\nstep 2\nstep 0\nstep 0\nstep 0\nstep 1\nstep 1\nstep 1\nstep 2\nstep 2\nstep 2\nstep 2\nstep 2\nstep 2\nstep 2\nstep 2\nstep 3\nstep 3\nstep 3\nstep 3\nstep 3\nstep 3\nstep 3\nstep 3\n",
-        report: "mind 1\nthread 0 exit 0 out -\nthread 1 exit 0 out -\nthread 2 exit 0 out 0101\nthread 3 exit 0 out 0000\ncounts events 38 labels 38 takes 0 gives 0 downs 0 peak 0 splits 0 merges 0\n",
+        schedule: "step 0\nstep 0\nstep 1\nstep 1\nstep 2\nstep 2\nstep 3\nstep 3\nstep 0\ndeliver u0 0\ndeliver t0 0\ndeliver f0 0\ndeliver d0 0\nstep 1\ndeliver u1 0\ndeliver t0 0\ndeliver f0 0\ndeliver d1 0\nstep 3\ndeliver u3 0\ndeliver d1 0\ndeliver u1 0\ndeliver t0 0\ndeliver f0 0\ndeliver d3 0\ndrain 1\ndeliver u1 0\ndeliver d3 0\ndeliver u3 0\ndeliver t0 0\ndeliver f0 0\ndeliver d1 0\nstep 3\ndeliver u3 0\ndeliver d0 0\ndeliver u0 0\ndeliver t0 0\ndeliver f0 0\ndeliver d3 0\ndrain 0\ndeliver u0 0\ndeliver d3 0\ndeliver u3 0\ndeliver t0 0\ndeliver f0 0\ndeliver d0 0\nstep 2\ndeliver u2 0\ndeliver d0 0\ndeliver u0 0\ndeliver u0 0\ndeliver t0 0\ndeliver t0 0\ndeliver f0 0\ndeliver d2 0\nstep 2\ndeliver u2 0\ndeliver d1 0\ndeliver u1 0\ndeliver u1 0\ndeliver t0 0\ndeliver t0 0\ndeliver f0 0\ndeliver d2 0\nstep 0\nstep 0\nstep 0\nstep 1\nstep 1\nstep 1\nstep 2\nstep 2\nstep 2\nstep 2\nstep 2\nstep 2\nstep 2\nstep 2\nstep 3\nstep 3\nstep 3\nstep 3\nstep 3\nstep 3\nstep 3\nstep 3\n",
+        report: "mind 1\nthread 0 exit 0 out -\nthread 1 exit 0 out -\nthread 2 exit 0 out 0101\nthread 3 exit 0 out 0000\ncounts events 86 labels 38 takes 8 gives 2 downs 4 peak 2 splits 0 merges 0\n",
     },
     // IRIW, one_one_zero_one.
     Row {
         rack: FOUR,
         programs: IRIW,
-        schedule: "step 0\nstep 0\nstep 1\nstep 1\nstep 2\nstep 2\nstep 3\nstep 3\nstep 0\nstep 1\ndrain 0\nstep 2\nstep 3\ndrain 1\nstep 2\nstep 3\nstep 0\nstep 0\nstep 0\nstep 1\nstep 1\nstep 1\nstep 2\nstep 2\nstep 2\nstep 2\nstep 2\nstep 2\nstep 2\nstep 2\nstep 3\nstep 3\nstep 3\nstep 3\nstep 3\nstep 3\nstep 3\nstep 3\n",
-        report: "mind 1\nthread 0 exit 0 out -\nthread 1 exit 0 out -\nthread 2 exit 0 out 0101\nthread 3 exit 0 out 0001\ncounts events 38 labels 38 takes 0 gives 0 downs 0 peak 0 splits 0 merges 0\n",
+        schedule: "step 0\nstep 0\nstep 1\nstep 1\nstep 2\nstep 2\nstep 3\nstep 3\nstep 0\ndeliver u0 0\ndeliver t0 0\ndeliver f0 0\ndeliver d0 0\nstep 1\ndeliver u1 0\ndeliver t0 0\ndeliver f0 0\ndeliver d1 0\ndrain 0\nstep 2\ndeliver u2 0\ndeliver d0 0\ndeliver u0 0\ndeliver u0 0\ndeliver t0 0\ndeliver t0 0\ndeliver f0 0\ndeliver d2 0\nstep 3\ndeliver u3 0\ndeliver d1 0\ndeliver u1 0\ndeliver t0 0\ndeliver f0 0\ndeliver d3 0\ndrain 1\ndeliver u1 0\ndeliver d3 0\ndeliver u3 0\ndeliver t0 0\ndeliver f0 0\ndeliver d1 0\nstep 2\ndeliver u2 0\ndeliver d1 0\ndeliver u1 0\ndeliver u1 0\ndeliver t0 0\ndeliver t0 0\ndeliver f0 0\ndeliver d2 0\nstep 3\ndeliver u3 0\ndeliver t0 0\ndeliver f0 0\ndeliver d3 0\nstep 0\nstep 0\nstep 0\nstep 1\nstep 1\nstep 1\nstep 2\nstep 2\nstep 2\nstep 2\nstep 2\nstep 2\nstep 2\nstep 2\nstep 3\nstep 3\nstep 3\nstep 3\nstep 3\nstep 3\nstep 3\nstep 3\n",
+        report: "mind 1\nthread 0 exit 0 out -\nthread 1 exit 0 out -\nthread 2 exit 0 out 0101\nthread 3 exit 0 out 0001\ncounts events 78 labels 38 takes 7 gives 1 downs 3 peak 2 splits 0 merges 0\n",
     },
     // IRIW, one_one_one_zero.
     Row {
         rack: FOUR,
         programs: IRIW,
-        schedule: "step 0\nstep 0\nstep 1\nstep 1\nstep 2\nstep 2\nstep 3\nstep 3\nstep 0\nstep 1\ndrain 1\nstep 3\nstep 3\ndrain 0\nstep 2\nstep 2\nstep 0\nstep 0\nstep 0\nstep 1\nstep 1\nstep 1\nstep 2\nstep 2\nstep 2\nstep 2\nstep 2\nstep 2\nstep 2\nstep 2\nstep 3\nstep 3\nstep 3\nstep 3\nstep 3\nstep 3\nstep 3\nstep 3\n",
-        report: "mind 1\nthread 0 exit 0 out -\nthread 1 exit 0 out -\nthread 2 exit 0 out 0101\nthread 3 exit 0 out 0100\ncounts events 38 labels 38 takes 0 gives 0 downs 0 peak 0 splits 0 merges 0\n",
+        schedule: "step 0\nstep 0\nstep 1\nstep 1\nstep 2\nstep 2\nstep 3\nstep 3\nstep 0\ndeliver u0 0\ndeliver t0 0\ndeliver f0 0\ndeliver d0 0\nstep 1\ndeliver u1 0\ndeliver t0 0\ndeliver f0 0\ndeliver d1 0\ndrain 1\nstep 3\ndeliver u3 0\ndeliver d1 0\ndeliver u1 0\ndeliver u1 0\ndeliver t0 0\ndeliver t0 0\ndeliver f0 0\ndeliver d3 0\nstep 3\ndeliver u3 0\ndeliver d0 0\ndeliver u0 0\ndeliver t0 0\ndeliver f0 0\ndeliver d3 0\ndrain 0\ndeliver u0 0\ndeliver d3 0\ndeliver u3 0\ndeliver t0 0\ndeliver f0 0\ndeliver d0 0\nstep 2\ndeliver u2 0\ndeliver d0 0\ndeliver u0 0\ndeliver u0 0\ndeliver t0 0\ndeliver t0 0\ndeliver f0 0\ndeliver d2 0\nstep 2\ndeliver u2 0\ndeliver t0 0\ndeliver f0 0\ndeliver d2 0\nstep 0\nstep 0\nstep 0\nstep 1\nstep 1\nstep 1\nstep 2\nstep 2\nstep 2\nstep 2\nstep 2\nstep 2\nstep 2\nstep 2\nstep 3\nstep 3\nstep 3\nstep 3\nstep 3\nstep 3\nstep 3\nstep 3\n",
+        report: "mind 1\nthread 0 exit 0 out -\nthread 1 exit 0 out -\nthread 2 exit 0 out 0101\nthread 3 exit 0 out 0100\ncounts events 78 labels 38 takes 7 gives 1 downs 3 peak 2 splits 0 merges 0\n",
     },
     // IRIW, tries_one_zero_one_zero.
     Row {
         rack: FOUR,
         programs: IRIW,
-        schedule: "step 0\nstep 0\nstep 1\nstep 1\nstep 2\nstep 2\nstep 3\nstep 3\nstep 0\nstep 1\ndrain 0\nstep 2\nstep 2\ndrain 1\nstep 3\nstep 3\nstep 0\nstep 0\nstep 0\nstep 1\nstep 1\nstep 1\nstep 2\nstep 2\nstep 2\nstep 2\nstep 2\nstep 2\nstep 2\nstep 2\nstep 3\nstep 3\nstep 3\nstep 3\nstep 3\nstep 3\nstep 3\nstep 3\n",
-        report: "mind 1\nthread 0 exit 0 out -\nthread 1 exit 0 out -\nthread 2 exit 0 out 0100\nthread 3 exit 0 out 0101\ncounts events 38 labels 38 takes 0 gives 0 downs 0 peak 0 splits 0 merges 0\n",
+        schedule: "step 0\nstep 0\nstep 1\nstep 1\nstep 2\nstep 2\nstep 3\nstep 3\nstep 0\ndeliver u0 0\ndeliver t0 0\ndeliver f0 0\ndeliver d0 0\nstep 1\ndeliver u1 0\ndeliver t0 0\ndeliver f0 0\ndeliver d1 0\ndrain 0\nstep 2\ndeliver u2 0\ndeliver d0 0\ndeliver u0 0\ndeliver u0 0\ndeliver t0 0\ndeliver t0 0\ndeliver f0 0\ndeliver d2 0\nstep 2\ndeliver u2 0\ndeliver d1 0\ndeliver u1 0\ndeliver t0 0\ndeliver f0 0\ndeliver d2 0\ndrain 1\ndeliver u1 0\ndeliver d2 0\ndeliver u2 0\ndeliver t0 0\ndeliver f0 0\ndeliver d1 0\nstep 3\ndeliver u3 0\ndeliver d1 0\ndeliver u1 0\ndeliver u1 0\ndeliver t0 0\ndeliver t0 0\ndeliver f0 0\ndeliver d3 0\nstep 3\ndeliver u3 0\ndeliver t0 0\ndeliver f0 0\ndeliver d3 0\nstep 0\nstep 0\nstep 0\nstep 1\nstep 1\nstep 1\nstep 2\nstep 2\nstep 2\nstep 2\nstep 2\nstep 2\nstep 2\nstep 2\nstep 3\nstep 3\nstep 3\nstep 3\nstep 3\nstep 3\nstep 3\nstep 3\n",
+        report: "mind 1\nthread 0 exit 0 out -\nthread 1 exit 0 out -\nthread 2 exit 0 out 0100\nthread 3 exit 0 out 0101\ncounts events 78 labels 38 takes 7 gives 1 downs 3 peak 2 splits 0 merges 0\n",
     },
 ];
 

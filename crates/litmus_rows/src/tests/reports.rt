@@ -1,6 +1,7 @@
 //! A run of the program over the files of a row, and its report.
 use mind_base::{Log, MemSink, MemStore, Name};
 use mind_top::{Status, mind};
+use rack_core::Rack;
 use std::process::Abort;
 use std::test::Fail;
 
@@ -70,7 +71,15 @@ fn reports<R: Abort + AllocGlobal>(rt: &R, row: &Row) -> Result<(), Fail> {
     let mut store = MemStore::new(files_of(rt, row)?, Vec::new(alloc));
     let mut sink = MemSink::new(alloc, 4096)?;
     let mut log = Log::new(alloc);
-    let status = mind(alloc, words.as_slice(), &mut store, &mut sink, &mut log);
+    let mut end: Option<Rack> = None;
+    let status = mind(
+        alloc,
+        words.as_slice(),
+        &mut store,
+        &mut sink,
+        &mut log,
+        &mut end,
+    );
     assert!(rt; status == Status::Done);
     assert!(rt; sink.written() == row.report.as_bytes(), "{}", row.schedule);
     Ok(())

@@ -1,6 +1,7 @@
 //! The program over files in memory: the files, the words, and how a call ends.
 use mind_base::{Log, MemSink, MemStore, Name};
 use mind_top::{Status, mind};
+use rack_core::Rack;
 use std::process::Abort;
 use std::test::Fail;
 
@@ -81,7 +82,15 @@ pub fn expect<R: Abort + AllocGlobal>(
     let words = words_of(rt, words)?;
     let mut sink = MemSink::new(alloc, room)?;
     let mut log = Log::new(alloc);
-    let ended = mind(alloc, words.as_slice(), store, &mut sink, &mut log);
+    let mut end: Option<Rack> = None;
+    let ended = mind(
+        alloc,
+        words.as_slice(),
+        store,
+        &mut sink,
+        &mut log,
+        &mut end,
+    );
     assert!(rt; ended == status);
     assert!(rt; sink.written() == text.as_bytes(), "{text}");
     Ok(log)

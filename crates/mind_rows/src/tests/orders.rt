@@ -3,6 +3,7 @@ use crate::tests::calls::{CHECK, JOURNAL, PUTS_A, RUN, put, words_of};
 use crate::tests::recorders::{AskedStore, PieceSink};
 use mind_base::{Log, MemSink, MemStore, Name};
 use mind_top::mind;
+use rack_core::Rack;
 use std::process::Abort;
 use std::test::Fail;
 
@@ -192,7 +193,15 @@ fn asks<R: Abort + AllocGlobal>(rt: &R, row: &Row) -> Result<(), Fail> {
         pieces: 0,
     };
     let mut log = Log::new(alloc);
-    let _status = mind(alloc, words.as_slice(), &mut store, &mut sink, &mut log);
+    let mut end: Option<Rack> = None;
+    let _status = mind(
+        alloc,
+        words.as_slice(),
+        &mut store,
+        &mut sink,
+        &mut log,
+        &mut end,
+    );
     assert!(rt;
         store.asked.as_slice() == row.asked.as_bytes(),
         "{}",

@@ -58,7 +58,7 @@ static RUNS: [Row; 7] = [
         status: Status::Done,
         text: "mind 1\nthread 0 fault fetch 00000004 at 00000004 out -\ncounts events 2 labels 2 takes 0 gives 0 downs 0 peak 0 splits 0 merges 0\n",
     },
-    // ebreak, among events that change nothing yet.
+    // ebreak, among events that find nothing to change.
     Row {
         rack: RACK,
         image: b"\x73\x00\x10\x00",
