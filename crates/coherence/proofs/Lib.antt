@@ -24,3 +24,6 @@ pub mod SwitchBegin
 pub mod SwitchAck
 pub mod SwitchReshape
 pub mod Whole
+pub mod Telling
+pub mod TellingNotes
+pub mod TellingEnds

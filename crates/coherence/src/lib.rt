@@ -3,5 +3,7 @@
 #![tactic(auto)]
 
 mod laws;
+mod laws_of_notes;
 
 pub use laws::{every_move_keeps_coherence, one_writer, regions_change_size};
+pub use laws_of_notes::{each_note_tells, lawful_at_every_point, notes_tell_what_is_there};
