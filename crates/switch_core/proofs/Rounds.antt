@@ -7,6 +7,7 @@ use Rattle.mind_base.specs.declared.notes.Note.{Note}
 use Rattle.mind_base.specs.declared.plans.RackPlan.{RackPlan}
 use Rattle.request_list.specs.declared.requests.Request.{Request}
 use Rattle.wire_msg.specs.declared.msgs.Msg.{Msg}
+use Rattle.switch_core.specs.Invariant.{IsSwitch}
 use Rattle.switch_core.specs.Sending.{IsSendable, Start, Comes, start_at}
 use Rattle.switch_core.specs.Serving.{treated_if, treated_next, over, first_pass, one_pass, passes, IsServed, Serves}
 use Rattle.switch_core.specs.Standing.{left_to_do, Tells, InPass}
@@ -95,6 +96,11 @@ unchanged-is s s' o o' n n' h e = h.after ∙ ap (λ (x : Effect). x.switch) e
 ends-after : (changed : Bool) (s s' : SwitchView) (o o' : List (LinkName × Msg)) (n n' : List Note) → Comes (start_at s o n) (one_pass s) s' o' n' → Tells changed s (one_pass s) → Ends changed s'
 ends-after true s s' o o' n n' h t = tt
 ends-after false s s' o o' n n' h t = subst (λ (x : SwitchView). IsServed x) (sym (unchanged-is s s' o o' n n' h t)) t
+
+-- so what was true of it is true still
+pub switch-after : (changed : Bool) (s s' : SwitchView) (o o' : List (LinkName × Msg)) (n n' : List Note) → Comes (start_at s o n) (one_pass s) s' o' n' → Tells changed s (one_pass s) → IsSwitch s → changed ≡ false → IsSwitch s'
+switch-after true s s' o o' n n' h t is e = let never : ⊥ = cc in absurd never
+switch-after false s s' o o' n n' h t is e = subst IsSwitch (sym (unchanged-is s s' o o' n n' h t)) is
 
 pub served-more : (start : Start) (first : Effect) (was changed : Bool) (s s' : SwitchView) (o o' : List (LinkName × Msg)) (n n' : List Note) → HasServed start first was s o n → Comes (start_at s o n) (one_pass s) s' o' n' → Tells changed s (one_pass s) → HasServed start first changed s' o' n'
 served-more start first was changed s s' o o' n n' h k t = record {

@@ -1,10 +1,10 @@
-ghost use Rattle.std.specs.Prelude.{◌≡◌, ◌↔◌, ◌+◌, ◌≤◌, [], length, IfOk, IsTrue, Err, OnErr};
+ghost use Rattle.std.specs.Prelude.{◌≡◌, ◌↔◌, ◌+◌, ◌≤◌, [], length, IfOk, IsTrue, Err, OnErr, OnOk};
 ghost use Rattle.mind_base.specs.Fit.{IsFit};
 ghost use Rattle.mind_base.specs.Permission.{permission_of};
 ghost use Rattle.mind_base.specs.declared.failures.Stop.TheVariants.{Spent};
 ghost use Rattle.protect_table.specs.Protect.{permission_at};
 ghost use Rattle.switch_core.specs.Handling.{IsQuiet, MayCome, Received};
-ghost use Rattle.switch_core.specs.Invariant.{IsSpent};
+ghost use Rattle.switch_core.specs.Invariant.{IsSpent, IsSwitch};
 ghost use Rattle.switch_core.specs.Sending.{Remains, start_at};
 ghost use Rattle.wire_msg.specs.WellFormed.{FieldsAgree};
 
@@ -65,6 +65,7 @@ impl SwitchCore {
         ensures directory { IfOk result (λ switch. switch.directory ≡ record { slots = plan.now.slots; most = plan.now.most; entries = [] }) }
         ensures requests { IfOk result (λ switch. switch.requests ≡ []) }
         ensures last { IfOk result (λ switch. switch.last ≡ 0) }
+        ensures switch { IfOk result IsSwitch }
     {
         let table = Table::new(alloc, plan.memories.as_slice(), plan.outliers)?;
         let protect = Protect::of(alloc, plan.protect, plan.maps.as_slice())?;
@@ -94,6 +95,7 @@ impl SwitchCore {
         requires fields { FieldsAgree msg }
         ensures received { Received result from msg (start_at self.old out.old.items log.old.notes) self.new out.new.items log.new.notes }
         ensures remains { Remains self.old self.new }
+        ensures switch { OnOk result (IsSwitch self.new) }
         ensures spent { result ≡ Err Spent
             → (self.new.last ≡ 4294967295) × (4294967295 ≤ self.old.last + self.old.directory.slots) }
     {

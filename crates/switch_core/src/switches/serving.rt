@@ -1,6 +1,6 @@
 ghost use Rattle.std.specs.Prelude.{◌≡◌, ◌<◌, Err, Some, slice_get, IfOk, OnOk};
 ghost use Rattle.mind_base.specs.declared.failures.Stop.TheVariants.{Spent};
-ghost use Rattle.switch_core.specs.Invariant.{IsSpent};
+ghost use Rattle.switch_core.specs.Invariant.{IsSpent, IsSwitch};
 ghost use Rattle.switch_core.specs.Sending.{Start, Comes, Keeps, start_at};
 ghost use Rattle.switch_core.specs.Serving.{Serves, one_pass, treated_next};
 ghost use Rattle.switch_core.specs.Standing.{GoesOn, Tells};
@@ -35,6 +35,7 @@ impl SwitchCore {
     fn pass(&mut self, out: &mut Vec<(LinkName, Msg)>, log: &mut Log) -> Result<bool, Stop>
         ensures comes { IfOk result (λ changed. Comes (start_at self.old out.old.items log.old.notes) (one_pass self.old) self.new out.new.items log.new.notes) }
         ensures tells { IfOk result (λ changed. Tells changed self.old (one_pass self.old)) }
+        ensures was { OnOk result (IsSwitch self.old) }
         ensures keeps { Keeps (start_at self.old out.old.items log.old.notes) self.new out.new.items log.new.notes }
         ensures spent { result ≡ Err Spent → IsSpent self.new }
     {
@@ -59,6 +60,7 @@ impl SwitchCore {
     ) -> Result<(), Stop>
         ensures serves { OnOk result ((start : Start) → (first : Effect) → Comes start first self.old out.old.items log.old.notes
             → (last : Effect) × Serves first last × Comes start last self.new out.new.items log.new.notes) }
+        ensures switch { OnOk result (IsSwitch self.new) }
         ensures keeps { Keeps (start_at self.old out.old.items log.old.notes) self.new out.new.items log.new.notes }
         ensures spent { result ≡ Err Spent → IsSpent self.new }
     {
