@@ -34,7 +34,7 @@ use Rattle.rack_core.specs.Seen.{frame_at, asked_at}
 use Rattle.rack_core.specs.StandRuns.{GoesWith}
 use Rattle.rack_core.specs.Stands.{machine_thread}
 use Rattle.rack_core.specs.Waits.{IsNeeded, AreNeeded}
-use Rattle.rack_core.proofs.AtOnceSteps.{NotesOne, step-notes, drain-notes, executes, IsFreeToDrain, drains, step_drains}
+use Rattle.rack_core.proofs.AtOnceSteps.{NotesOne, NotesDrain, drain-alone, step-notes, drain-notes, executes, IsFreeToDrain, drains, step_drains}
 use Rattle.rack_core.proofs.BladeHanded.{did}
 use Rattle.rack_core.proofs.BladeSteps.{OfHart, for_hart-some}
 
@@ -53,7 +53,7 @@ one_of h act (Some thread) old new noted each does =
     let d = did thread.blade act old new noted does in
     label-one h noted (subst (NotesOne h) (sym d.acts.notes) (each d.blade d.effect d.does))
 
-step-one : (images : List Image) (h : ℕ) (blade : BladeView) (e : Effect) → after_step images h blade ≡ Some e → NotesOne h e.noted
+pub step-one : (images : List Image) (h : ℕ) (blade : BladeView) (e : Effect) → after_step images h blade ≡ Some e → NotesOne h e.noted
 step-one images h blade e given =
     let o = for_hart-some blade h (λ plan hart. option_map (λ image. step_at hart.end h plan image blade hart) (slice_get images plan.image)) e given in
     by o (slice_get images o.plan.image) o.does
@@ -63,16 +63,17 @@ step-one images h blade e given =
     by o None d = let never : ⊥ = cc in absurd never
     by o (Some image) d = subst (λ (x : Effect). NotesOne h x.noted) (same_Some _ _ d) (step-notes o.hart.end h o.plan image blade o.hart)
 
-drain-one : (h : ℕ) (blade : BladeView) (e : Effect) → after_drain h blade ≡ Some e → NotesOne h e.noted
+pub drain-one : (h : ℕ) (blade : BladeView) (e : Effect) → after_drain h blade ≡ Some e → NotesDrain h e.noted
 drain-one h blade e given =
     let o = for_hart-some blade h (λ plan hart. Some (drain_of h plan blade hart)) e given in
-    subst (λ (x : Effect). NotesOne h x.noted) (same_Some _ _ o.does) (drain-notes h o.plan blade o.hart)
+    subst (λ (x : Effect). NotesDrain h x.noted) (same_Some _ _ o.does) (drain-notes h o.plan blade o.hart)
 
 pub one_of_step : (images : List Image) (h : ℕ) (old new : RackView) (noted : List Note) → Leads images (Step h) old new noted → IsAtMostOne h (labels noted)
 one_of_step images h old new noted given = one_of h (after_step images h) (slice_get old.plan.threads h) old new noted (step-one images h) given
 
 pub one_of_drain : (images : List Image) (h : ℕ) (old new : RackView) (noted : List Note) → Leads images (Drain h) old new noted → IsAtMostOne h (labels noted)
-one_of_drain images h old new noted given = one_of h (after_drain h) (slice_get old.plan.threads h) old new noted (drain-one h) given
+one_of_drain images h old new noted given = one_of h (after_drain h) (slice_get old.plan.threads h) old new noted
+    (λ blade e does. drain-alone h e.noted (drain-one h blade e does)) given
 
 -- ---- the hart of an event
 

@@ -59,17 +59,25 @@ asking-notes h waits need blade hart = by (is_asked need.page blade.requests) wh
   by true = refl
   by false = refl
 
-draining-notes : (h : ℕ) (plan : ThreadPlan) (stores : List PendingView) (blade : BladeView) (hart : HartView) → NotesOne h (draining_by h plan stores blade hart).noted
+-- a drain notes nothing, or that it took effect
+abbrev pub NotesDrain : ℕ → List Note → Type 0
+NotesDrain h noted = (noted ≡ []) ⊎ (noted ≡ note.Drain h ∷ [])
+
+pub drain-alone : (h : ℕ) (noted : List Note) → NotesDrain h noted → NotesOne h noted
+drain-alone h noted (inl e) = inl e
+drain-alone h noted (inr e) = inr (inr e)
+
+draining-notes : (h : ℕ) (plan : ThreadPlan) (stores : List PendingView) (blade : BladeView) (hart : HartView) → NotesDrain h (draining_by h plan stores blade hart).noted
 draining-notes h plan [] blade hart = inl refl
 draining-notes h plan (oldest ∷ newer) blade hart = by (steps.is_writable (frame_of (page_at (place_of plan.domain oldest.address)) blade.cache.entries)) where
-  by : (b : Bool) → NotesOne h (if b then drained h plan oldest newer blade hart
+  by : (b : Bool) → NotesDrain h (if b then drained h plan oldest newer blade hart
       else asking h Drain (record { page = page_at (place_of plan.domain oldest.address); write = true }) blade hart).noted
-  by true = inr (inr refl)
+  by true = inr refl
   by false = inl (asking-notes h Drain (record { page = page_at (place_of plan.domain oldest.address); write = true }) blade hart)
 
-pub drain-notes : (h : ℕ) (plan : ThreadPlan) (blade : BladeView) (hart : HartView) → NotesOne h (drain_of h plan blade hart).noted
+pub drain-notes : (h : ℕ) (plan : ThreadPlan) (blade : BladeView) (hart : HartView) → NotesDrain h (drain_of h plan blade hart).noted
 drain-notes h plan blade hart = by hart.draining where
-  by : (b : Bool) → NotesOne h (if b then only blade else draining_by h plan hart.queue.stores blade hart).noted
+  by : (b : Bool) → NotesDrain h (if b then only blade else draining_by h plan hart.queue.stores blade hart).noted
   by true = inl refl
   by false = draining-notes h plan hart.queue.stores blade hart
 
@@ -87,7 +95,7 @@ step-notes (Running pc) h plan image blade hart = by hart.stepping (drains_first
   by : (b c : Bool) → NotesOne h (if b then only blade else (if c then drain_of h plan blade hart
       else stepping_at (need_in (found image hart.regs pc) plan.domain) h plan (found image hart.regs pc) pc blade hart)).noted
   by true c = inl refl
-  by false true = drain-notes h plan blade hart
+  by false true = drain-alone h (drain_of h plan blade hart).noted (drain-notes h plan blade hart)
   by false false = stepping-notes (need_in (found image hart.regs pc) plan.domain) h plan (found image hart.regs pc) pc blade hart
 
 -- ---- a hart that waits

@@ -52,7 +52,7 @@ changes_more on blade page pages first next one more = record {
   by false true x = refl
   by false false x = refl
 
-each : (on : Option Frame → Bool) (change : PageView → BladeView → Effect)
+pub each : (on : Option Frame → Bool) (change : PageView → BladeView → Effect)
     → ((page : PageView) (blade : BladeView) → IsPageCache blade.cache → ChangesPages on blade (page ∷ []) (change page blade))
     → (pages : List PageView) (blade : BladeView) → IsPageCache blade.cache → ChangesPages on blade pages (each_in change pages blade)
 each on change one [] blade is = changes_none on blade is
@@ -161,7 +161,7 @@ acknowledges w c blade on change pages behind answer h sound changes answers =
     }
 
 -- none of a block is held when those that were are given up
-block_gone : (on : Option Frame → Bool) (test : PageView × Frame → Bool) (page : PageView) (entries new : Entries)
+pub block_gone : (on : Option Frame → Bool) (test : PageView × Frame → Bool) (page : PageView) (entries new : Entries)
     → ((frame : Frame) → on (Some frame) ≡ true → test (page, frame) ≡ true) → on None ≡ false
     → on (frame_of page new) ≡ (if list_any (same_page page) (oldest_first test entries) then false else on (frame_of page entries))
     → on (frame_of page new) ≡ false

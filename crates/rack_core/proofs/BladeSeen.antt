@@ -37,7 +37,7 @@ sent-on_away kind number other n (message ∷ messages) e =
     ∙ sent-on_away kind number other n messages e
 
 -- the links when a blade has sent
-pending-here : (c : ℕ) (messages : List Msg) (old new : NetView) → SendsAll (on Up c messages) old new → pending_on new Up c ≡ pending_on old Up c ++ messages
+pub pending-here : (c : ℕ) (messages : List Msg) (old new : NetView) → SendsAll (on Up c messages) old new → pending_on new Up c ≡ pending_on old Up c ++ messages
 pending-here c messages old new h = sends_all Up c (on Up c messages) old new h
     ∙ ap (λ q. pending_on old Up c ++ q) (sent-on_here Up c messages)
 

@@ -15,7 +15,7 @@ use Rattle.wire_msg.specs.declared.msgs.Msg.{Msg}
 use Rattle.compute_blade.specs.Actions.{IsActions}
 use Rattle.compute_blade.specs.Blade.{BladeView, Effect, Did, DidSome, Keeps, HasSpent, hart_of}
 use Rattle.compute_blade.specs.declared.kept.Asked.{Asked}
-use Rattle.rack_net.specs.Net.{NetView}
+use Rattle.rack_net.specs.Net.{IsNet, NetView}
 use Rattle.rack_core.specs.Calls.{HasSpentHart, Notes}
 use Rattle.rack_core.specs.Events.{BladeDoes, Acts, ActsWith, HartDoes, SendsAll, on}
 use Rattle.rack_core.specs.Rack.{RackView, with_blade, with_net}
@@ -121,8 +121,8 @@ both-ok (Err e) f p q = tt
 -- ---- the shape stays
 
 -- the rack has the same plan, as many links, and its blades and memory blades are those of the plan
-pub shape-went : (c : ℕ) (blade after : BladeView) (sent : List Msg) (old new : RackView) → Went c blade after sent old new → Keeps blade after → IsShaped old → IsShaped new
-shape-went c blade after sent old new went keeps shape =
+pub shape-went : (c : ℕ) (blade after : BladeView) (sent : List Msg) (old new : RackView) → Went c blade after sent old new → Keeps blade after → IsNet new.net → IsShaped old → IsShaped new
+shape-went c blade after sent old new went keeps net shape =
     let many = as-many (on Up c sent) old.net went.net went.sends in
     subst IsShaped (sym went.became) (record {
       fit = shape.fit;
@@ -131,6 +131,9 @@ shape-went c blade after sent old new went keeps shape =
       switch = shape.switch;
       memories = shape.memories;
       links = (many.0 ∙ shape.links.0, many.1 ∙ shape.links.1);
+      net = subst (λ (r : RackView). IsNet r.net) went.became net;
+      core = shape.core;
+      slots = shape.slots;
     })
   where
     was : IsBladeOf old.plan c blade

@@ -16,6 +16,7 @@ use Rattle.rack_core.specs.Events.{Leads}
 use Rattle.rack_core.specs.Rack.{RackView}
 use Rattle.rack_core.specs.Safe.{IsOfRack}
 use Rattle.rack_core.specs.Shape.{IsShaped}
+use Rattle.rack_core.proofs.Served.{event-served}
 use Rattle.rack_core.proofs.Whole.{event_keeps}
 
 -- there are at most 8 links of each kind
@@ -42,6 +43,7 @@ pub kept-after : (images : List Image) (event : Event) (old new : RackView) (not
 kept-after images event old new notes notes' kept fits shape done = record {
   shape = shape;
   safe = event_keeps images event old new done.0 (of-rack old.plan event kept.shape.fit fits) kept.safe done.1;
+  served = event-served images event old new done.0 kept.served done.1;
 }
 
 -- an event without a note

@@ -8,6 +8,9 @@ use Rattle.mind_base.specs.declared.plans.MemoryPlan.{MemoryPlan}
 use Rattle.mind_base.specs.declared.plans.RackPlan.{RackPlan}
 use Rattle.compute_blade.specs.Blade.{BladeView, IsBlade}
 use Rattle.compute_blade.specs.Start.{first_blade}
+use Rattle.rack_net.specs.Net.{IsNet}
+use Rattle.region_directory.specs.Directory.{DirectoryView}
+use Rattle.switch_core.specs.Invariant.{IsSwitch}
 use Rattle.rack_core.specs.Rack.{RackView}
 use Rattle.rack_core.specs.Shape.{IsShaped, IsBladeOf}
 use Rattle.rack_core.specs.Start.{IsStart, first_memory}
@@ -19,14 +22,17 @@ memories-many [] = refl
 memories-many (m ∷ memories) = ap suc (memories-many memories)
 
 pub first-shape : (plan : RackPlan) (rack : RackView) → IsFit plan → IsStart plan rack → All IsBlade rack.blades
-    → rack.net.blades ≡ length plan.frames → rack.net.memories ≡ length plan.memories → IsShaped rack
-first-shape plan rack fit start all blades memories = record {
+    → rack.net.blades ≡ length plan.frames → rack.net.memories ≡ length plan.memories → IsNet rack.net → IsSwitch rack.switch → IsShaped rack
+first-shape plan rack fit start all blades memories net switch = record {
   fit = subst IsFit (sym start.of_plan) fit;
   blades = ap length start.blades ∙ length-map-range_with_len (first_blade plan) 0 (length plan.frames) ∙ same_frames;
   each = each;
   switch = start.switch.of_plan ∙ sym start.of_plan;
   memories = ap length start.memories ∙ memories-many plan.memories ∙ ap (λ (p : RackPlan). length p.memories) (sym start.of_plan);
   links = (blades ∙ same_frames, memories ∙ ap (λ (p : RackPlan). length p.memories) (sym start.of_plan));
+  net = net;
+  core = switch;
+  slots = ap (λ (d : DirectoryView). d.slots) start.switch.directory ∙ ap (λ (p : RackPlan). p.slots) (sym start.of_plan);
 } where
   same_frames : length plan.frames ≡ length rack.plan.frames
   same_frames = ap (λ (p : RackPlan). length p.frames) (sym start.of_plan)

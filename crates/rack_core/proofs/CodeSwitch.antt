@@ -12,9 +12,10 @@ use Rattle.memory_blade.specs.MemoryBlade as memory
 use Rattle.wire_msg.specs.WellFormed.{FieldsAgree}
 use Rattle.wire_msg.specs.declared.msgs.Msg.{Msg}
 use Rattle.switch_core.specs.Handling.{Receives}
-use Rattle.switch_core.specs.Sending.{IsSendable, LeadsOut, start_at, Comes}
+use Rattle.switch_core.specs.Invariant.{IsSwitch}
+use Rattle.switch_core.specs.Sending.{IsSendable, LeadsOut, Remains, start_at, Comes}
 use Rattle.switch_core.specs.Switch.{SwitchView, Effect}
-use Rattle.rack_net.specs.Net.{NetView, IsLinkOf, links_of_kind}
+use Rattle.rack_net.specs.Net.{NetView, IsLinkOf, IsNet, links_of_kind}
 use Rattle.rack_core.specs.Calls.{Notes}
 use Rattle.rack_core.specs.Events.{SendsOn, SendsAll, SwitchHears, MemoryHears, answers}
 use Rattle.rack_core.specs.Rack.{RackView, with_net, with_switch, with_memory}
@@ -54,16 +55,19 @@ switch-heard link message effect old new switch net sent notes notes' hears come
 )
 
 pub switch-shape : (old new : RackView) (switch : SwitchView) (net : NetView) (sent : List (LinkName × Msg)) → SendsAll sent old.net net
-    → new ≡ with_net net (with_switch switch old) → switch.plan ≡ old.switch.plan → IsShaped old → IsShaped new
-switch-shape old new switch net sent sends became plan shape =
+    → new ≡ with_net net (with_switch switch old) → Remains old.switch switch → IsSwitch switch → (IsNet old.net → IsNet net) → IsShaped old → IsShaped new
+switch-shape old new switch net sent sends became remains is sound shape =
     let many = as-many sent old.net net sends in
     subst IsShaped (sym became) (record {
       fit = shape.fit;
       blades = shape.blades;
       each = shape.each;
-      switch = plan ∙ shape.switch;
+      switch = remains.plan ∙ shape.switch;
       memories = shape.memories;
       links = (many.0 ∙ shape.links.0, many.1 ∙ shape.links.1);
+      net = sound shape.net;
+      core = is;
+      slots = remains.slots ∙ shape.slots;
     })
 
 -- ---- a memory blade
@@ -102,8 +106,8 @@ memory-heard number message images answer later old new net there is after sends
 }
 
 pub memory-shape : (number : ℕ) (answer : Option Msg) (later : List PageImageView) (old new : RackView) (net : NetView) → SendsAll (answers number answer) old.net net
-    → new ≡ with_net net (with_memory number later old) → IsShaped old → IsShaped new
-memory-shape number answer later old new net sends became shape =
+    → new ≡ with_net net (with_memory number later old) → IsNet net → IsShaped old → IsShaped new
+memory-shape number answer later old new net sends became sound shape =
     let many = as-many (answers number answer) old.net net sends in
     subst IsShaped (sym became) (record {
       fit = shape.fit;
@@ -112,4 +116,7 @@ memory-shape number answer later old new net sends became shape =
       switch = shape.switch;
       memories = length-set old.memories number later ∙ shape.memories;
       links = (many.0 ∙ shape.links.0, many.1 ∙ shape.links.1);
+      net = sound;
+      core = shape.core;
+      slots = shape.slots;
     })

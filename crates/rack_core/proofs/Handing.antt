@@ -105,9 +105,9 @@ put-at : {X : Type 0} (k : ℕ) (x : X) (f : ℕ → X) → put k x f k ≡ x
 put-at k x f = ap (λ b. if b then x else f k) (eq-eqb k k refl)
 
 -- what the switch does leaves blades and memory blades
-switch_sound : (first last : World) (old new : RackView) → IsSound old → Handed first last new
+switch_sound : (first last : World) (old new : RackView) (noted : List Note) → IsSound old → Handed first last old.switch new noted
     → new.blades ≡ old.blades → new.memories ≡ old.memories → first.perms ≡ permission_at old.switch.protect → first.places ≡ place_in old.switch → IsSound new
-switch_sound first last old new sound handed blades memories perms places = record {
+switch_sound first last old new noted sound handed blades memories perms places = record {
   blades = λ c blade e. subst (λ f. IsSoundBlade f blade) (sym perms ∙ handed.places.perms) (sound.blades c blade (ap (λ bs. slice_get bs c) (sym blades) ∙ e));
   switch = handed.sound;
   asked = handed.asked;
@@ -124,7 +124,7 @@ handed_up images number message rest old new flat noted safe sound lt hands =
     record {
       flat = flat;
       coherent = run_keeps _ _ handed.moves.0 safe handed.moves.1;
-      sound = switch_sound w (with_front Up number rest (seen new flat)) old new sound handed
+      sound = switch_sound w (with_front Up number rest (seen new flat)) old new noted sound handed
           (ap (λ (r : RackView). r.blades) hands.after) (ap (λ (r : RackView). r.memories) hands.after) refl refl;
       places = sym handed.places.places;
     }
@@ -138,7 +138,7 @@ handed_from images number message rest old new flat noted safe sound lt hands =
     record {
       flat = flat;
       coherent = run_keeps _ _ handed.moves.0 safe handed.moves.1;
-      sound = switch_sound w (with_front From number rest (seen new flat)) old new sound handed
+      sound = switch_sound w (with_front From number rest (seen new flat)) old new noted sound handed
           (ap (λ (r : RackView). r.blades) hands.after) (ap (λ (r : RackView). r.memories) hands.after) refl refl;
       places = sym handed.places.places;
     }

@@ -41,7 +41,7 @@ images-set memories number images lt = fun_ext (λ n. by n (n == number) ∙ ap 
   by n false = refl
 
 -- an answer goes onto no other kind of link
-answers-quiet : (number : ℕ) (answer : Option Msg) (n : ℕ) → (sent_on Up n (answers number answer) ≡ []) × (sent_on Down n (answers number answer) ≡ []) × (sent_on To n (answers number answer) ≡ [])
+pub answers-quiet : (number : ℕ) (answer : Option Msg) (n : ℕ) → (sent_on Up n (answers number answer) ≡ []) × (sent_on Down n (answers number answer) ≡ []) × (sent_on To n (answers number answer) ≡ [])
 answers-quiet number None n = (refl, refl, refl)
 answers-quiet number (Some message) n = (refl, refl, refl)
 

@@ -35,22 +35,36 @@ Resumes answer images setup old flat m entries asked = (mid : RackView) → perm
     → (hart : HartView) (at : IsHartAt mid asked.hart hart) → at.blade.cache.entries ≡ entries
     → Runs images setup mid flat m at.plan.blade (resumed_by asked.waits answer (need_asked asked) images asked.hart at.plan at.blade hart)
 
--- The request for a page ends when the blade has these pages, and what waited for it leads the machine on.
-pub answers-run : (answer : Answer) (images : List Image) (setup : Setup) (old : RackView) (flat : PageView → PageImageView) (m : State) → GoesWith images setup old flat m → AreHartsPlaced old
+-- Between the end of the request and what waited for it: the rack in which the blade has these pages and its hart waits no longer.
+pub record Between (answer : Answer) (images : List Image) (setup : Setup) (old : RackView) (flat : PageView → PageImageView) (m : State) (c : ℕ) (blade : BladeView) (entries : Entries) (page : PageView)
+    (asked : Asked) : Type 0 where
+  pub mid : RackView
+  pub perms : permission_at mid.switch.protect ≡ permission_at old.switch.protect
+  pub frames : AreFrames (seen mid flat)
+  pub goes : GoesWith images setup mid flat m
+  pub hart : HartView
+  pub at : IsHartAt mid asked.hart hart
+  pub holds : at.blade.cache.entries ≡ entries
+  pub here : at.plan.blade ≡ c
+  pub became : BladeBecame c at.blade old mid
+  pub goes_on : resumed_for answer images (request_for page blade.requests) (with_entries blade entries)
+      ≡ resumed_by asked.waits answer (need_asked asked) images asked.hart at.plan at.blade hart
+
+pub between : (answer : Answer) (images : List Image) (setup : Setup) (old : RackView) (flat : PageView → PageImageView) (m : State) → GoesWith images setup old flat m → AreHartsPlaced old
     → (c : ℕ) (blade : BladeView) → slice_get old.blades c ≡ Some blade → (entries : Entries) (page : PageView) (asked : Asked) → request_for page blade.requests ≡ Some asked → IsPageCache (with_entries blade entries).cache
-    → AreFrames (with_seen_blade c (record (with_entries blade entries) { requests = answered page blade.requests }) [] flat (seen old flat)) → Resumes answer images setup old flat m entries asked
-    → Runs images setup old flat m c (resumed_for answer images (request_for page blade.requests) (with_entries blade entries))
+    → AreFrames (with_seen_blade c (record (with_entries blade entries) { requests = answered page blade.requests }) [] flat (seen old flat))
+    → Between answer images setup old flat m c blade entries page asked
 unfolding awaking
-answers-run answer images setup old flat m goes placed c blade there entries page asked out cache frames resumes new newer whole counted newest =
+between answer images setup old flat m goes placed c blade there entries page asked out cache frames =
     let sound = goes.sound c blade there in
     let after = with_entries blade entries in
     let found_it = of_found (IsRequest blade.plan.threads blade.harts) page blade.requests asked sound.requests out in
     let ends = ends-by blade asked asked.waits found_it.0 in
     let hart = ends.1 in
     let h = asked.hart in
-    let between = awaking asked hart after in
-    let mid = with_blade c between old in
-    let act : Effect = record { blade = between; sent = []; noted = [] } in
+    let next = awaking asked hart after in
+    let mid = with_blade c next old in
+    let act : Effect = record { blade = next; sent = []; noted = [] } in
     let acts : BladeActs c act old mid [] = record { net = old.net; sent = refl; after = refl; notes = refl } in
     let frames_mid : AreFrames (seen mid flat) = subst AreFrames (sym (seen-acted c blade act old mid [] flat flat there acts))
     (subst (λ q. AreFrames (with_seen_blade c (record after { requests = answered q blade.requests }) [] flat (seen old flat))) (sym found_it.1) frames) in
@@ -63,16 +77,35 @@ answers-run answer images setup old flat m goes placed c blade there entries pag
     let at : IsHartAt old h hart = record { plan = ends.0; blade = blade; thread = planned; there = ap (slice_get old.blades) here ∙ there; own = ends.3 } in
     let at_mid : IsHartAt mid h (awake asked.waits hart) = record {
       plan = ends.0;
-      blade = between;
+      blade = next;
       thread = planned;
-      there = ap (slice_get (slice_set old.blades c between)) here ∙ slice_get-set old.blades c blade between there;
+      there = ap (slice_get (slice_set old.blades c next)) here ∙ slice_get-set old.blades c blade next there;
       own = hart_in-set blade.harts h hart (awake asked.waits hart) ends.3;
     } in
     let went = became c act old mid [] acts in
-    let on = mid-goes images setup old mid flat m goes h hart at asked.waits between (subst (λ k. BladeBecame k between old mid) (sym here) went) refl refl frames_mid sounds in
-    let runs = resumes mid refl frames_mid on (awake asked.waits hart) at_mid refl in
-    let same : resumed_for answer images (request_for page blade.requests) after ≡ resumed_by asked.waits answer (need_asked asked) images h ends.0 between (awake asked.waits hart) =
-    ap (λ a. resumed_for answer images a after) out ∙ resumed-is answer images asked after ends.0 hart (record { thread = ends.2; own = ends.3; request = found_it.0 }) in
-    let does : Runs images setup mid flat m c (resumed_for answer images (request_for page blade.requests) after) =
-    subst (Runs images setup mid flat m c) (sym same) (subst (λ k. Runs images setup mid flat m k (resumed_by asked.waits answer (need_asked asked) images h ends.0 between (awake asked.waits hart))) here runs) in
-    does new newer (mid-became c between (resumed_for answer images (request_for page blade.requests) after).blade old mid new went whole) counted newest
+    let on = mid-goes images setup old mid flat m goes h hart at asked.waits next (subst (λ k. BladeBecame k next old mid) (sym here) went) refl refl frames_mid sounds in
+    record {
+      mid = mid;
+      perms = refl;
+      frames = frames_mid;
+      goes = on;
+      hart = awake asked.waits hart;
+      at = at_mid;
+      holds = refl;
+      here = here;
+      became = went;
+      goes_on = ap (λ a. resumed_for answer images a after) out ∙ resumed-is answer images asked after ends.0 hart (record { thread = ends.2; own = ends.3; request = found_it.0 });
+    }
+
+-- The request for a page ends when the blade has these pages, and what waited for it leads the machine on.
+pub answers-run : (answer : Answer) (images : List Image) (setup : Setup) (old : RackView) (flat : PageView → PageImageView) (m : State) → GoesWith images setup old flat m → AreHartsPlaced old
+    → (c : ℕ) (blade : BladeView) → slice_get old.blades c ≡ Some blade → (entries : Entries) (page : PageView) (asked : Asked) → request_for page blade.requests ≡ Some asked → IsPageCache (with_entries blade entries).cache
+    → AreFrames (with_seen_blade c (record (with_entries blade entries) { requests = answered page blade.requests }) [] flat (seen old flat)) → Resumes answer images setup old flat m entries asked
+    → Runs images setup old flat m c (resumed_for answer images (request_for page blade.requests) (with_entries blade entries))
+answers-run answer images setup old flat m goes placed c blade there entries page asked out cache frames resumes new newer whole counted newest =
+    let b = between answer images setup old flat m goes placed c blade there entries page asked out cache frames in
+    let e : Effect = resumed_for answer images (request_for page blade.requests) (with_entries blade entries) in
+    let runs = resumes b.mid b.perms b.frames b.goes b.hart b.at b.holds in
+    let does : Runs images setup b.mid flat m c e = subst (Runs images setup b.mid flat m c) (sym b.goes_on)
+    (subst (λ k. Runs images setup b.mid flat m k (resumed_by asked.waits answer (need_asked asked) images asked.hart b.at.plan b.at.blade b.hart)) b.here runs) in
+    does new newer (mid-became c b.at.blade e.blade old b.mid new b.became whole) counted newest

@@ -32,23 +32,25 @@ pub record StaysAt (blade : BladeView) (h : ℕ) (was : HartView) : Type 0 where
   pub own : hart_of blade h ≡ Some now
   pub more : was.stores ≤ now.stores
 
--- the blade has the plan and the harts that it had, and no count is less
+-- the blade has the plan, the number and the harts that it had, and no count is less
 pub record HartsStay (old new : BladeView) : Type 0 where
   pub plan : new.plan ≡ old.plan
+  pub number : new.number ≡ old.number
   pub forth : (h : ℕ) (was : HartView) → hart_of old h ≡ Some was → StaysAt new h was
   pub back : (h : ℕ) (now : HartView) → hart_of new h ≡ Some now → (was : HartView) × (hart_of old h ≡ Some was)
 
 -- no hart changed
-stay-same : (old new : BladeView) → new.plan ≡ old.plan → new.harts ≡ old.harts → HartsStay old new
-stay-same old new plan harts = record {
+stay-same : (old new : BladeView) → new.plan ≡ old.plan → new.number ≡ old.number → new.harts ≡ old.harts → HartsStay old new
+stay-same old new plan number harts = record {
   plan = plan;
+  number = number;
   forth = λ h was own. record { now = was; own = ap (λ all. hart_of (record old { harts = all }) h) harts ∙ own; more = omega arith };
   back = λ h now own. (now, ap (λ all. hart_of (record old { harts = all }) h) (sym harts) ∙ own);
 }
 
 -- one hart changed
-stay-one : (old new : BladeView) (h : ℕ) (was now : HartView) → new.plan ≡ old.plan → new.harts ≡ slice_set old.harts h (Some now) → hart_of old h ≡ Some was → was.stores ≤ now.stores → HartsStay old new
-stay-one old new h was now plan harts own more = record { plan = plan; forth = forth; back = back } where
+stay-one : (old new : BladeView) (h : ℕ) (was now : HartView) → new.plan ≡ old.plan → new.number ≡ old.number → new.harts ≡ slice_set old.harts h (Some now) → hart_of old h ≡ Some was → was.stores ≤ now.stores → HartsStay old new
+stay-one old new h was now plan number harts own more = record { plan = plan; number = number; forth = forth; back = back } where
   here : (n : ℕ) → (n == h) ≡ true → hart_of new n ≡ Some now
   here n e = ap (λ all. hart_of (record old { harts = all }) n) harts ∙ ap (hart_of (record old { harts = slice_set old.harts h (Some now) })) (eqb-true n h e) ∙ hart_in-set old.harts h was now own
 
@@ -73,6 +75,7 @@ stay-one old new h was now plan harts own more = record { plan = plan; forth = f
 stay-then : (a b c : BladeView) → HartsStay a b → HartsStay b c → HartsStay a c
 stay-then a b c one two = record {
   plan = two.plan ∙ one.plan;
+  number = two.number ∙ one.number;
   forth = λ h was own.
       let first = one.forth h was own in
       let later = two.forth h first.now first.own in
@@ -96,25 +99,25 @@ deed-stores : (domain : ℕ) (found : Found) (entries : List (PageView × Frame)
 deed-stores domain found entries hart (Alone thread) = omega arith
 deed-stores domain found entries hart (Storing thread store) = omega arith
 
-action-stays : (action : Action) (blade : BladeView) → MayAct action blade → HartsStay blade (after_action action blade).blade
-action-stays (GivesUp page frame) blade may = stay-same blade (after_action (GivesUp page frame) blade).blade refl refl
-action-stays (Lowers page frame) blade may = stay-same blade (after_action (Lowers page frame) blade).blade refl refl
-action-stays (Takes page frame) blade may = stay-same blade (after_action (Takes page frame) blade).blade refl refl
+pub action-stays : (action : Action) (blade : BladeView) → MayAct action blade → HartsStay blade (after_action action blade).blade
+action-stays (GivesUp page frame) blade may = stay-same blade (after_action (GivesUp page frame) blade).blade refl refl refl
+action-stays (Lowers page frame) blade may = stay-same blade (after_action (Lowers page frame) blade).blade refl refl refl
+action-stays (Takes page frame) blade may = stay-same blade (after_action (Takes page frame) blade).blade refl refl refl
 action-stays (Asks h hart waits need) blade may =
-    stay-one blade (after_action (Asks h hart waits need) blade).blade h hart (waiting waits hart) refl refl may.0 (waits-stores waits hart)
+    stay-one blade (after_action (Asks h hart waits need) blade).blade h hart (waiting waits hart) refl refl refl may.0 (waits-stores waits hart)
 action-stays (Wakes hart asked) blade may =
-    stay-one blade (after_action (Wakes hart asked) blade).blade asked.hart hart (awake asked.waits hart) refl refl may.0 (wakes-stores asked.waits hart)
+    stay-one blade (after_action (Wakes hart asked) blade).blade asked.hart hart (awake asked.waits hart) refl refl refl may.0 (wakes-stores asked.waits hart)
 action-stays (Performs h hart plan found pc deed) blade may =
-    stay-one blade (after_action (Performs h hart plan found pc deed) blade).blade h hart (hart_after plan.domain found blade.cache.entries hart deed) refl refl may.at.own
+    stay-one blade (after_action (Performs h hart plan found pc deed) blade).blade h hart (hart_after plan.domain found blade.cache.entries hart deed) refl refl refl may.at.own
     (deed-stores plan.domain found blade.cache.entries hart deed)
 action-stays (Refuses h hart denial pc) blade may =
-    stay-one blade (after_action (Refuses h hart denial pc) blade).blade h hart (faulting denial.kind denial.address pc hart) refl refl may.own (omega arith)
+    stay-one blade (after_action (Refuses h hart denial pc) blade).blade h hart (faulting denial.kind denial.address pc hart) refl refl refl may.own (omega arith)
 action-stays (Drains h hart plan oldest newer) blade may =
-    stay-one blade (after_action (Drains h hart plan oldest newer) blade).blade h hart (one_more (record hart { queue = record hart.queue { stores = newer } })) refl refl may.own (omega arith)
-action-stays (Acks number count) blade may = stay-same blade (after_action (Acks number count) blade).blade refl refl
+    stay-one blade (after_action (Drains h hart plan oldest newer) blade).blade h hart (one_more (record hart { queue = record hart.queue { stores = newer } })) refl refl refl may.own (omega arith)
+action-stays (Acks number count) blade may = stay-same blade (after_action (Acks number count) blade).blade refl refl refl
 
 actions-stay : (actions : List Action) (blade : BladeView) → MayActEach actions blade → HartsStay blade (after_actions actions blade).blade
-actions-stay [] blade may = stay-same blade blade refl refl
+actions-stay [] blade may = stay-same blade blade refl refl refl
 actions-stay (action ∷ actions) blade may = stay-then blade (after_action action blade).blade (after_actions actions (after_action action blade).blade).blade
     (action-stays action blade may.0) (actions-stay actions (after_action action blade).blade may.1)
 
@@ -134,8 +137,8 @@ pub record BladesStay (old new : RackView) : Type 0 where
 pub blades-same : (old new : RackView) → new.plan ≡ old.plan → new.blades ≡ old.blades → BladesStay old new
 blades-same old new plan blades = record {
   plan = plan;
-  forth = λ c was there. (was, ap (λ all. slice_get all c) blades ∙ there, stay-same was was refl refl);
-  back = λ c now there. (now, ap (λ all. slice_get all c) (sym blades) ∙ there, stay-same now now refl refl);
+  forth = λ c was there. (was, ap (λ all. slice_get all c) blades ∙ there, stay-same was was refl refl refl);
+  back = λ c now there. (now, ap (λ all. slice_get all c) (sym blades) ∙ there, stay-same now now refl refl refl);
 }
 
 pub blades-then : (a b c : RackView) → BladesStay a b → BladesStay b c → BladesStay a c
@@ -166,7 +169,7 @@ blades-one old new c was now there plan blades stay = record { plan = plan; fort
     by true e =
         let same : was ≡ blade = same_Some _ _ (sym there ∙ ap (slice_get old.blades) (sym (eqb-true n c e)) ∙ is) in
         (now, here n e, subst (λ b. HartsStay b now) same stay)
-    by false e = (blade, away n e ∙ is, stay-same blade blade refl refl)
+    by false e = (blade, away n e ∙ is, stay-same blade blade refl refl refl)
 
   back : (n : ℕ) (blade : BladeView) → slice_get new.blades n ≡ Some blade → (before : BladeView) × (slice_get old.blades n ≡ Some before) × HartsStay before blade
   back n blade is = by (n == c) refl where
@@ -174,7 +177,7 @@ blades-one old new c was now there plan blades stay = record { plan = plan; fort
     by true e =
         let same : now ≡ blade = same_Some _ _ (sym (here n e) ∙ is) in
         (was, ap (slice_get old.blades) (eqb-true n c e) ∙ there, subst (HartsStay was) same stay)
-    by false e = (blade, sym (away n e) ∙ is, stay-same blade blade refl refl)
+    by false e = (blade, sym (away n e) ∙ is, stay-same blade blade refl refl refl)
 
 -- what a blade does is actions in a row
 pub does-stay : (c : ℕ) (act : BladeView → Option Effect) (old new : RackView) (noted : List Note)

@@ -1,6 +1,6 @@
 -- A page that is denied, with what waited for it, leads the machine on: the permissions deny the access there too.
-use Rattle.std.proofs.Common.{◌≡◌, ℕ, ◌%◌, ◌==◌, ◌∙◌, Bool, true, false, not, ◌&&◌, ap, sym, refl, subst, List, [], ◌∷◌, ◌++◌, Option, Some, None, slice_get, option_map, unwrap_or}
-use Rattle.std.specs.Prelude.{if◌then◌else◌, option_and_then, IfSome}
+use Rattle.std.proofs.Common.{◌≡◌, ℕ, ◌%◌, ◌==◌, ◌∙◌, Bool, true, false, not, ◌&&◌, ap, sym, refl, subst, List, ◌∷◌, Option, Some, None, slice_get, option_map, unwrap_or}
+use Rattle.std.specs.Prelude.{if◌then◌else◌, option_and_then}
 use Rattle.std.proofs.lemmas.Bool.{or_parts}
 use Rattle.std.proofs.lemmas.Option.{same_Some}
 use Rattle.mind_base.specs.Page.{PageView}
@@ -12,7 +12,6 @@ use Rattle.mind_base.specs.declared.ends.End.TheVariants.{Running, Exit, Fault}
 use Rattle.mind_base.specs.declared.ends.FaultKind.{FaultKind}
 use Rattle.mind_base.specs.declared.ends.FaultKind.TheVariants as fault
 use Rattle.mind_base.specs.declared.images.Image.{Image}
-use Rattle.mind_base.specs.declared.links.LinkKind.TheVariants.{Down}
 use Rattle.mind_base.specs.declared.notes.Note.TheVariants as note
 use Rattle.hart_core.specs.Memory.{load_size}
 use Rattle.hart_core.specs.declared.outcome.Act.{Act}
@@ -27,7 +26,7 @@ use Rattle.page_image.specs.PageImage.{PageImageView}
 use Rattle.protect_table.specs.Protect.{permission_at}
 use Rattle.wire_msg.specs.declared.msgs.Msg.{Msg}
 use Rattle.wire_msg.specs.declared.msgs.Msg.TheVariants.{Deny}
-use Rattle.compute_blade.specs.Blade.{HartView, BladeView, answered, noting, only, with_hart}
+use Rattle.compute_blade.specs.Blade.{HartView, BladeView, noting, only, with_hart}
 use Rattle.compute_blade.specs.Denials.{denial_in, faulting, refused_by}
 use Rattle.compute_blade.specs.Messages.{after_message, need_asked, needs_just, resumed_at, resumed_by, resumed_with}
 use Rattle.compute_blade.specs.Steps.{need_at, need_in}
@@ -36,24 +35,18 @@ use Rattle.compute_blade.specs.declared.kept.Denial.{Denial}
 use Rattle.compute_blade.specs.declared.kept.Need.{Need}
 use Rattle.compute_blade.specs.declared.kept.Waits.{Waits}
 use Rattle.compute_blade.specs.declared.kept.Waits.TheVariants.{Step, Drain}
-use Rattle.coherence.specs.Facts.{AreDowns, IsCoherent, allows}
-use Rattle.coherence.specs.Moves.{took}
-use Rattle.coherence.proofs.Keys.{put-here}
-use Rattle.coherence.proofs.Lists.{downs-cons}
-use Rattle.coherence.proofs.Whole.{run_keeps}
+use Rattle.coherence.specs.Facts.{IsCoherent, allows}
 use Rattle.tso_machine.specs.Replay.{advanced}
 use Rattle.tso_machine.specs.State.{Setup, State}
 use Rattle.tso_machine.specs.Step.{around_in, done_by, after_exec}
-use Rattle.rack_core.specs.BladeMoves.{with_seen_blade, HasBlade, IsRequest, handing}
+use Rattle.rack_core.specs.BladeMoves.{handing}
 use Rattle.rack_core.specs.Rack.{RackView}
-use Rattle.rack_core.specs.Seen.{pending_on, seen}
+use Rattle.rack_core.specs.Seen.{seen}
 use Rattle.rack_core.specs.Stands.{IsHartAt, StandsFor, machine_thread}
 use Rattle.rack_core.specs.StandLog.{AreHartsPlaced}
 use Rattle.rack_core.specs.StandRuns.{ArePending, GoesWith}
-use Rattle.rack_core.proofs.BladeActs as acts
-use Rattle.rack_core.proofs.BladeFills.{asked_for, just-page, denied-asked}
-use Rattle.rack_core.proofs.BladeSeen.{seen-has}
-use Rattle.rack_core.proofs.BladeSound.{of_found}
+use Rattle.rack_core.proofs.BladeFills.{just-page}
+use Rattle.rack_core.proofs.MessagesDown.{was_denied}
 use Rattle.rack_core.proofs.StandAnswers.{answers-run}
 use Rattle.rack_core.proofs.StandBlades.{Runs, idles, draining-runs, plan-one}
 use Rattle.rack_core.proofs.StandChanges.{one-changed}
@@ -115,11 +108,11 @@ asked-faults (act.Jumped target) around pc thread need is off = let never : ⊥ 
 asked-faults act.Broke around pc thread need is off = let never : ⊥ = cc in absurd never
 
 -- what was found is carried out by the fault of its denial
-abbrev FaultsIn : Option Denial → ℕ → Thread → Option Deed → Type 0
+abbrev pub FaultsIn : Option Denial → ℕ → Thread → Option Deed → Type 0
 FaultsIn None pc thread deed = ⊥
 FaultsIn (Some denial) pc thread deed = deed ≡ Some (Alone (faulted denial.kind denial.address pc thread))
 
-found-faults : (found : Found) (around : Around) (pc capacity : ℕ) (thread : Thread) (need : Need) → need_in found around.domain ≡ Some need → allows need.write (around.perm need.page) ≡ false
+pub found-faults : (found : Found) (around : Around) (pc capacity : ℕ) (thread : Thread) (need : Need) → need_in found around.domain ≡ Some need → allows need.write (around.perm need.page) ≡ false
     → drains_first found thread.buffer capacity ≡ false → FaultsIn (denial_in found) pc thread (carried_out found around pc thread)
 found-faults Outside around pc capacity thread need is off ready = let never : ⊥ = cc in absurd never
 found-faults (Unknown word) around pc capacity thread need is off ready = let never : ⊥ = cc in absurd never
@@ -134,7 +127,7 @@ found-faults (Asks asked) around pc capacity thread need is off ready =
 -- ---- the hart that is refused
 
 -- a machine in a state that the rack stands for ends the hart's thread by the same fault
-exec-faults : (images : List Image) (setup : Setup) (old : RackView) (flat : PageView → PageImageView) (m : State) → GoesWith images setup old flat m → (h : ℕ) (hart : HartView) (at : IsHartAt old h hart)
+pub exec-faults : (images : List Image) (setup : Setup) (old : RackView) (flat : PageView → PageImageView) (m : State) → GoesWith images setup old flat m → (h : ℕ) (hart : HartView) (at : IsHartAt old h hart)
     → (image : Image) (pc : ℕ) → slice_get images at.plan.image ≡ Some image → hart.end ≡ Running pc → (deed : Deed)
     → carried_out (found image hart.regs pc) (around_in m h at.plan.domain) pc (machine_thread flat hart) ≡ Some deed → after_exec setup m h ≡ Some (done_by h at.plan.domain m deed)
 exec-faults images setup old flat m goes h hart at image pc code runs deed does =
@@ -191,7 +184,7 @@ refuses-run images setup old flat m goes h hart at asked off image pc code runs 
 
 -- ---- what waited for it
 
-not-true : (b : Bool) → not b ≡ true → b ≡ false
+pub not-true : (b : Bool) → not b ≡ true → b ≡ false
 not-true true e = sym e
 not-true false e = refl
 
@@ -230,21 +223,7 @@ pub deny-runs : (images : List Image) (setup : Setup) (old : RackView) (flat : P
     → (c : ℕ) (blade : BladeView) → slice_get old.blades c ≡ Some blade → (page : PageView) (rest : List Msg) → IsCoherent (handing c (Deny page ∷ rest) (seen old flat))
     → Runs images setup old flat m c (after_message images (Deny page) blade)
 deny-runs images setup old flat m goes placed c blade there page rest coherent =
-    let w = handing c (Deny page ∷ rest) (seen old flat) in
-    let behind = rest ++ pending_on old.net Down c in
-    let has : HasBlade c blade w = let h = seen-has old flat c blade there in record { frames = h.frames; asks = h.asks } in
-    let head : w.downs c ≡ Deny page ∷ behind = put-here c (Deny page ∷ behind) (pending_on old.net Down) in
-    let sound = goes.sound c blade there in
-    let down = (downs-cons w c (Deny page) behind (subst (AreDowns w c) head (coherent.downs c))).0 in
-    let out = denied-asked w c page behind coherent head in
-    let asked = asked_for blade.requests page out.0 (sym (has.asks page) ∙ out.1) in
-    let own_page = (of_found (IsRequest blade.plan.threads blade.harts) page blade.requests asked.0 sound.requests asked.1).1 in
-    let off : allows asked.0.write (permission_at old.switch.protect asked.0.page) ≡ false =
-    ap (λ b. allows b (permission_at old.switch.protect asked.0.page)) asked.2 ∙ ap (λ p. allows out.0 (permission_at old.switch.protect p)) own_page
-    ∙ subst (λ o. IfSome o (λ write. allows write (permission_at old.switch.protect page) ≡ false)) out.1 down in
-    let first = acts.denied c blade w page behind has head in
-    let left : BladeView = record blade { requests = answered page blade.requests } in
-    let safe = run_keeps w (with_seen_blade c left [] w.flat (took c behind w)) first.moves coherent first.run in
-    answers-run Denied images setup old flat m goes placed c blade there blade.cache.entries page asked.0 asked.1 sound.cache safe.frames
-    (λ mid perms frames on hart at is. denies-run images setup mid flat m on asked.0.hart hart at (need_asked asked.0)
-    (ap (λ f. allows asked.0.write (f asked.0.page)) perms ∙ off) asked.0.waits)
+    let d = was_denied old flat c blade there (goes.sound c blade there) page rest coherent in
+    answers-run Denied images setup old flat m goes placed c blade there blade.cache.entries page d.asked d.out (goes.sound c blade there).cache d.frames
+    (λ mid perms frames on hart at is. denies-run images setup mid flat m on d.asked.hart hart at (need_asked d.asked)
+    (ap (λ f. allows d.asked.write (f d.asked.page)) perms ∙ d.off) d.asked.waits)

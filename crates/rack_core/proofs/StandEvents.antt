@@ -55,7 +55,7 @@ acts-run images setup old new noted flat newer m c blade e there acts newest cou
 -- ---- a hart of the rack
 
 -- hart h is one of its blade, where its blade does something for it
-hart-at : (images : List Image) (setup : Setup) (old : RackView) (flat : PageView → PageImageView) (m : State) → GoesWith images setup old flat m → (h : ℕ) (thread : ThreadPlan)
+pub hart-at : (images : List Image) (setup : Setup) (old : RackView) (flat : PageView → PageImageView) (m : State) → GoesWith images setup old flat m → (h : ℕ) (thread : ThreadPlan)
     → slice_get old.plan.threads h ≡ Some thread → (blade : BladeView) → slice_get old.blades thread.blade ≡ Some blade
     → (plan : ThreadPlan) (hart : HartView) → slice_get blade.plan.threads h ≡ Some plan → hart_of blade h ≡ Some hart
     → (plan ≡ thread) × IsHartAt old h hart

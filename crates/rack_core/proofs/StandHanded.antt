@@ -124,7 +124,7 @@ to-coherent number message rest old new flat noted coherent sound asks hears =
 
 -- ---- whichever it is
 
-one-goes : (images : List Image) (setup : Setup) (kind : LinkKind) (number : ℕ) (message : Msg) (rest : List Msg) (old new : RackView) (flat : PageView → PageImageView) (noted : List Note) (m : State)
+pub one-goes : (images : List Image) (setup : Setup) (kind : LinkKind) (number : ℕ) (message : Msg) (rest : List Msg) (old new : RackView) (flat : PageView → PageImageView) (noted : List Note) (m : State)
     → IsCoherent (with_front kind number (message ∷ rest) (seen old flat)) → IsSound old → number < 8 → AsksOn kind (place_in old.switch) number message
     → GoesWith images setup old flat m → AreHartsPlaced old → HandsTo kind images number message old new noted → AreCounted new → HandedOn setup kind number rest m noted new
 one-goes images setup Down number message rest old new flat noted m coherent sound lt asks goes placed hands counted =
@@ -145,7 +145,7 @@ one-goes images setup To number message rest old new flat noted m coherent sound
   machine = memory-leads images setup old new noted flat m goes number message hands;
 }
 
-one-stays : (images : List Image) (kind : LinkKind) (number : ℕ) (message : Msg) (rest : List Msg) (old new : RackView) (flat : PageView → PageImageView) (noted : List Note)
+pub one-stays : (images : List Image) (kind : LinkKind) (number : ℕ) (message : Msg) (rest : List Msg) (old new : RackView) (flat : PageView → PageImageView) (noted : List Note)
     → IsCoherent (with_front kind number (message ∷ rest) (seen old flat)) → IsSound old → HandsTo kind images number message old new noted → BladesStay old new
 one-stays images Down number message rest old new flat noted coherent sound hands = does-stay number (λ blade. Some (after_message images message blade)) old new noted
     (λ blade there. message_acts images message blade (sound.blades number blade there).cache (handed_may_come images old flat number blade message rest coherent sound.blades there)) hands
@@ -166,7 +166,7 @@ hands-stay images kind number (message ∷ rest) old new flat noted coherent sou
     (hands-stay images kind number rest hands.0 new first.flat hands.2 first.coherent first.sound lt asks_later hands.4)
 
 -- frames are those of the world without the messages
-front-frames : (kind : LinkKind) (number : ℕ) (messages : List Msg) (w : World) → AreFrames (with_front kind number messages w) → AreFrames w
+pub front-frames : (kind : LinkKind) (number : ℕ) (messages : List Msg) (w : World) → AreFrames (with_front kind number messages w) → AreFrames w
 front-frames Up number messages w frames = frames
 front-frames Down number messages w frames = frames
 front-frames To number messages w frames = frames

@@ -14,15 +14,22 @@ use Rattle.compute_blade.specs.Steps.{after_step, after_drain}
 use Rattle.compute_blade.proofs.Acting.{step_acts, drain_acts, gives}
 use Rattle.rack_net.specs.Net.{NetView, links_of, ChangesOnly}
 use Rattle.coherence.specs.Facts.{IsCoherent}
+use Rattle.coherence.specs.Held.{held_by, in_force, no_holdings}
 use Rattle.tso_machine.specs.Replay.{Whole, labels, replay}
 use Rattle.tso_machine.specs.State.{Setup, State, start_state}
+use Rattle.rack_core.specs.Accesses.{AreAccessesHeld}
 use Rattle.rack_core.specs.Events.{Delivers, Leads}
 use Rattle.rack_core.specs.Rack.{RackView, with_net}
 use Rattle.rack_core.specs.Safe.{IsSafe, IsSound, IsOfRack, AreOfRack, Reaches}
 use Rattle.rack_core.specs.Seen.{pending_on, seen}
 use Rattle.rack_core.specs.StandLog.{made_from, AreHartsPlaced, StandsAt, StandsForLog}
 use Rattle.rack_core.specs.StandRuns.{AreCounted, GoesWith, GoesOn}
+use Rattle.rack_core.specs.Telling.{HasRoom, IsLogOf}
+use Rattle.rack_core.proofs.AccessEvents.{event-holds}
+use Rattle.rack_core.proofs.AccessLogs.{accesses-then, states-led}
 use Rattle.rack_core.proofs.Delivering.{gave_on, none_left, asks_taken, with_net-sound, delivers}
+use Rattle.rack_core.proofs.RackTells.{event_tells, log-then}
+use Rattle.rack_core.proofs.Released.{event-released, log-released}
 use Rattle.rack_core.proofs.StandCounts.{BladesStay, blades-same, blades-then, does-stay, hart-stays, counted-before, placed-after}
 use Rattle.rack_core.proofs.StandElsewhere.{elsewhere-leads, net-leads}
 use Rattle.rack_core.proofs.StandEvents.{step-goes, drain-goes, goes-on}
@@ -75,7 +82,7 @@ net-goes images setup name old new net noted flat m coherent goes same only afte
 
 -- ---- every event
 
-event-stays : (images : List Image) (event : Event) (old new : RackView) (noted : List Note) → IsOfRack event → IsSafe old → Leads images event old new noted → BladesStay old new
+pub event-stays : (images : List Image) (event : Event) (old new : RackView) (noted : List Note) → IsOfRack event → IsSafe old → Leads images event old new noted → BladesStay old new
 event-stays images (Step hart) old new noted fits safe given = hart-stays (slice_get old.plan.threads hart) (after_step images hart) old new noted (λ blade. step_acts images hart blade) given
 event-stays images (Drain hart) old new noted fits safe given = hart-stays (slice_get old.plan.threads hart) (after_drain hart) old new noted (λ blade. drain_acts hart blade) given
 event-stays images (Evict blade page) old new noted fits safe given = does-stay blade (λ b. Some (given_up page b)) old new noted (λ b there. gives page b) given
@@ -123,6 +130,7 @@ event-logs images event old new log noted fits stands given counted =
     let safe = safe-at images setup old stands.state at in
     let on = event-goes images setup event old new noted at.flat stands.state fits at.coherent at.sound at.placed at.goes given counted in
     let stay = event-stays images event old new noted fits safe given in
+    let tells = event_tells images old.plan event old new noted fits safe stands.room given in
     let next = on.machine.next in
     let its : StandsAt images setup new next = record {
       flat = on.flat;
@@ -136,9 +144,17 @@ event-logs images event old new log noted fits stands given counted =
       state = next;
       run = subst (λ p. replay (made_from images p) (start_state (made_from images p)) (labels (log ++ noted)) ≡ Whole next) (sym stay.plan) run;
       at = subst (λ p. StandsAt images (made_from images p) new next) (sym stay.plan) its;
+      room = subst (λ p. HasRoom p new) (sym stay.plan) tells.room;
+      told = subst (λ p. IsLogOf p new (log ++ noted)) (sym stay.plan) (log-then old.plan old new log noted stands.told tells);
+      accesses = subst (λ p. AreAccessesHeld (made_from images p) (start_state (made_from images p)) no_holdings (log ++ noted)) (sym stay.plan)
+          (accesses-then setup (start_state setup) no_holdings log noted stands.accesses
+          (subst (λ s. AreAccessesHeld setup s (held_by log) noted) (sym (states-led setup (start_state setup) stands.state log stands.run))
+          (event-holds images setup old.plan event old new noted at.flat stands.state fits at.coherent at.sound at.placed at.goes stands.room given counted
+          (held_by log) (in_force log) (stands.told.matches at.flat))));
+      released = log-released old new log noted stands.released (event-released images event old new noted fits safe given);
     }
 
-runs-stay : (images : List Image) (events : List Event) (first last : RackView) (noted : List Note) → AreOfRack events → IsSafe first → Reaches images events first last noted → BladesStay first last
+pub runs-stay : (images : List Image) (events : List Event) (first last : RackView) (noted : List Note) → AreOfRack events → IsSafe first → Reaches images events first last noted → BladesStay first last
 runs-stay images [] first last noted fits safe reaches = blades-same first last (ap (λ (r : RackView). r.plan) reaches.0) (ap (λ (r : RackView). r.blades) reaches.0)
 runs-stay images (event ∷ events) first last noted fits safe reaches =
     blades-then first reaches.0 last (event-stays images event first reaches.0 reaches.1 fits.0 safe reaches.3)

@@ -17,7 +17,7 @@ use Rattle.rack_core.specs.Seen.{seen}
 use Rattle.rack_core.specs.StandRuns.{GoesWith, LeadsMachine}
 
 -- the first label of a whole run is enabled, and the others go on from where it leads
-enabled : (u : Setup) (n : ℕ) (s t : State) (l : Label) (ls : List Label) → advance_all u n (Whole s) (l ∷ ls) ≡ Whole t
+pub enabled : (u : Setup) (n : ℕ) (s t : State) (l : Label) (ls : List Label) → advance_all u n (Whole s) (l ∷ ls) ≡ Whole t
     → (m : State) × (after u s l ≡ Some m) × (advance_all u (suc n) (Whole m) ls ≡ Whole t)
 enabled u n s t l ls e = by (after u s l) refl e where
   by : (o : Option State) → after u s l ≡ o → advance_all u (suc n) (advanced n s o) ls ≡ Whole t

@@ -20,6 +20,9 @@ use Rattle.rack_core.specs.Start.{IsStart}
 use Rattle.rack_core.specs.StandLog.{made_from, StandsAt, StandsForLog}
 use Rattle.rack_core.specs.StandRuns.{ArePending}
 use Rattle.rack_core.specs.Stands.{IsHartAt, IsPast, StandsFor, machine_thread}
+use Rattle.rack_core.specs.Telling.{HasRoom, IsLogOf}
+use Rattle.rack_core.proofs.Released.{start-released}
+use Rattle.rack_core.proofs.RackTells.{starts_log, starts_room}
 use Rattle.rack_core.proofs.Starting.{blade_is, starts, starts_coherent}
 
 -- ---- harts
@@ -117,4 +120,8 @@ start-logs images plan rack fit start = record {
   state = start_state (made_from images rack.plan);
   run = refl;
   at = subst (λ p. StandsAt images (made_from images p) rack (start_state (made_from images p))) (sym start.of_plan) (start-stands images plan rack fit start);
+  room = subst (λ p. HasRoom p rack) (sym start.of_plan) (starts_room plan rack start);
+  told = subst (λ p. IsLogOf p rack []) (sym start.of_plan) (starts_log plan rack start);
+  accesses = tt;
+  released = start-released plan rack start;
 }

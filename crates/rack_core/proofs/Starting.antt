@@ -66,7 +66,7 @@ nothing_on : (plan : RackPlan) (rack : RackView) (kind : LinkKind) (number : ℕ
 nothing_on plan rack kind number h = ap (λ (links : LinkName → NetLink). (links (record { kind = kind; number = number })).pending) h.net
 
 -- the world in which nothing has been done
-first_seen : (plan : RackPlan) (rack : RackView) → IsStart plan rack → seen rack (λ page. zero_image) ≡ start (place_in rack.switch) (permission_at rack.switch.protect)
+pub first_seen : (plan : RackPlan) (rack : RackView) → IsStart plan rack → seen rack (λ page. zero_image) ≡ start (place_in rack.switch) (permission_at rack.switch.protect)
 first_seen plan rack h = λ i. record (start (place_in rack.switch) (permission_at rack.switch.protect)) {
   frames = λ c page. (ap (λ (blades : List BladeView). frame_at blades c page) h.blades ∙ no_frame plan (range_with_len 0 (length plan.frames)) c page) i;
   asks = λ c page. (ap (λ (blades : List BladeView). asked_at blades c page) h.blades ∙ none_asked plan (range_with_len 0 (length plan.frames)) c page) i;

@@ -30,6 +30,7 @@ use Rattle.rack_core.proofs.SwitchLookups.{all-got, all-changed, apart-changed}
 use Rattle.rack_core.proofs.SwitchRequests.{unfetched}
 use Rattle.rack_core.proofs.SwitchRuns.{one_move}
 use Rattle.rack_core.proofs.SwitchSets.{one-here, one-only, one-other, one-fits, calls-down, calls-to, calls-quiet}
+use Rattle.rack_core.proofs.SwitchTold.{kept-told}
 use Rattle.rack_core.proofs.SwitchWorlds.{Follows, none_sent, regions-changed, regions-got}
 
 -- what is asked of a transition by the state that it is begun in
@@ -49,7 +50,7 @@ pub record AreCalls (busy : Busy) (message : Msg) (messages : List (LinkName × 
 module _ (v : World) (switch : SwitchView) (i : ℕ) (entry : Entry) (shows : Shows v switch) (sound : IsSoundSwitch switch)
     (stands : slice_get switch.directory.entries i ≡ Some entry) (free : entry.busy ≡ None) (still : is_fetched entry.range switch.requests ≡ false) where
   pub begins_it : (busy : Busy) (message : Msg) (messages : List (LinkName × Msg)) → busy.number ≡ switch.last + 1 → IsFor entry.state busy → IsCallOf entry.range busy message → AreCalls busy message messages
-      → Follows v (begun i busy messages switch)
+      → Follows v switch (begun i busy messages switch)
   begins_it busy message messages number fits call calls = record {
     moves = one_move v (shown v (begun i busy messages switch)) (Begins (region_of entry) busy message)
         (record {
@@ -80,6 +81,7 @@ module _ (v : World) (switch : SwitchView) (i : ℕ) (entry : Entry) (shows : Sh
       region = sound.region;
     };
     places = record { places = shows.places.places; perms = shows.places.perms };
+    told = kept-told v switch i (with_busy (Some busy)) entry shows.regions (λ x. refl) sound.blocks stands (begun i busy messages switch) refl refl refl refl;
   }
 
 -- ---- invalidations
@@ -199,13 +201,13 @@ module _ (v : World) (switch : SwitchView) (i : ℕ) (entry : Entry) (shows : Sh
   fit : IsFitState 8 entry.state
   fit = (all-got (IsFitEntry 8) switch.directory.entries i entry sound.entries stands).state
 
-  pub clears : Follows v (cleared i entry switch)
+  pub clears : Follows v switch (cleared i entry switch)
   clears =
       let busy : Busy = record { number = switch.last + 1; waiting = holders entry.state; target = I; for_room = true } in
       begins_it v switch i entry shows sound stands free still busy (Inv (switch.last + 1) entry.range None) (invalidations (switch.last + 1) entry.range None (holders entry.state))
       refl (cleared-for (switch.last + 1) entry.state) (refl, refl) (invalidations-calls busy (switch.last + 1) entry.range None (holders-fit entry.state fit))
 
-  pub invalidates : (r : Request) → r.blade < 8 → grants true r.blade entry.state ≡ false → Follows v (invalidated r i entry switch)
+  pub invalidates : (r : Request) → r.blade < 8 → grants true r.blade entry.state ≡ false → Follows v switch (invalidated r i entry switch)
   invalidates r lt cannot =
       let busy : Busy = record { number = switch.last + 1; waiting = without_blade (holders entry.state) r.blade; target = left_to r.blade entry.state; for_room = false } in
       begins_it v switch i entry shows sound stands free still busy (Inv (switch.last + 1) entry.range (Some r.page))
@@ -213,7 +215,7 @@ module _ (v : World) (switch : SwitchView) (i : ℕ) (entry : Entry) (shows : Sh
       refl (invalidated-for (switch.last + 1) r.blade entry.state lt cannot) (refl, refl)
       (invalidations-calls busy (switch.last + 1) entry.range (Some r.page) (less-fits (holders entry.state) r.blade (holders-fit entry.state fit)))
 
-  pub lowers : (r : Request) (owner : ℕ) → entry.state ≡ M owner → Follows v (lowered r owner i entry switch)
+  pub lowers : (r : Request) (owner : ℕ) → entry.state ≡ M owner → Follows v switch (lowered r owner i entry switch)
   lowers r owner is =
       let busy : Busy = record { number = switch.last + 1; waiting = 2 ^ owner; target = S (2 ^ owner); for_room = false } in
       let message : Msg = Lower (switch.last + 1) entry.range r.page in

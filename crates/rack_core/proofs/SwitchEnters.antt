@@ -1,5 +1,5 @@
 -- An entry that is put in, and one that is dropped, is so by a move.
-use Rattle.std.proofs.Common.{◌≡◌, refl, sym, ◌∙◌, ap, ℕ, ◌≤◌, Bool, true, false, List, [], ◌∷◌, length, insert, remove, zero, suc, arith, Option, Some, None}
+use Rattle.std.proofs.Common.{◌≡◌, refl, sym, ◌∙◌, ap, ℕ, ◌≤◌, ◌==◌, Bool, true, false, List, [], ◌∷◌, length, insert, remove, zero, suc, arith, Option, Some, None}
 use Rattle.std.specs.Prelude.{if◌then◌else◌, slice_get, option_map}
 use Rattle.std.specs.List.{AllByRecursion, list_all}
 use Rattle.std.proofs.Math.Path.{fun_ext}
@@ -23,6 +23,7 @@ use Rattle.rack_core.specs.Seen.{region_of, region_at}
 use Rattle.rack_core.specs.SwitchMoves.{shown, Shows, IsSoundSwitch}
 use Rattle.rack_core.proofs.SwitchLookups.{MeetsNone, position-here, position-there, all-same, all-insert, all-remove, apart-insert, apart-remove, region_at-first, first-none, first-insert, first-remove}
 use Rattle.rack_core.proofs.SwitchRuns.{one_move}
+use Rattle.rack_core.proofs.SwitchTold.{dropped-told, entered-told}
 use Rattle.rack_core.proofs.SwitchWorlds.{Follows, none_sent, regions-got}
 
 -- ---- the block of a new entry
@@ -76,17 +77,20 @@ new_stands switch range = inserted switch.directory.entries (place_of switch.dir
 
 -- ---- an entry is put in
 
-pub enters_it : (v : World) (switch : SwitchView) (page : PageView) → Shows v switch → IsSoundSwitch switch → NoneHas page switch.directory.entries → Follows v (entered (new_range page switch) switch)
-enters_it v switch page shows sound none =
+pub enters_it : (v : World) (switch : SwitchView) (page : PageView) → Shows v switch → IsSoundSwitch switch → NoneHas page switch.directory.entries → (length switch.directory.entries == switch.directory.slots) ≡ false
+    → Follows v switch (entered (new_range page switch) switch)
+enters_it v switch page shows sound none short =
     let es = switch.directory.entries in
     let range = new_range page switch in
     let free : MeetsNone range es = free_block es page switch.plan.region none in
+    let unseen : (p : PageView) → in_range range p ≡ true → v.regions p ≡ None = λ p within.
+    ap (λ g. g p) shows.regions ∙ region_at-first es p ∙ first-none es range p (all-same (λ l. IsApart l.range range) (λ l. IsApart range l.range) (λ l a q s t. a q t s) es free) within in
     let regions : region_at (insert es (place_of es range) (fresh_entry range)) ≡ put_range range (Some (region_of (fresh_entry range))) v.regions = fun_ext (λ p.
     region_at-first (insert es (place_of es range) (fresh_entry range)) p ∙ first-insert es (place_of es range) (fresh_entry range) p free
     ∙ ap (λ o. if in_range range p then Some (region_of (fresh_entry range)) else o) (sym (region_at-first es p) ∙ ap (λ g. g p) (sym shows.regions))) in
     record {
       moves = one_move v (shown v (entered range switch)) (Enters range)
-          (λ p within. ap (λ g. g p) shows.regions ∙ region_at-first es p ∙ first-none es range p (all-same (λ l. IsApart l.range range) (λ l. IsApart range l.range) (λ l a q s t. a q t s) es free) within)
+          unseen
           (λ j. record v { wants = sym shows.wants j; regions = regions j; last = sym shows.last j; downs = none_sent v.downs j; tos = none_sent v.tos j });
       quiet = λ n. (refl, refl);
       asks = λ m. tt;
@@ -98,12 +102,13 @@ enters_it v switch page shows sound none =
         region = sound.region;
       };
       places = record { places = shows.places.places; perms = shows.places.perms };
+      told = entered-told v switch range short unseen regions;
     }
 
 -- ---- an entry is dropped
 
 pub drops_it : (v : World) (switch : SwitchView) (i : ℕ) (entry : Entry) → Shows v switch → IsSoundSwitch switch → slice_get switch.directory.entries i ≡ Some entry → entry.state ≡ I → entry.busy ≡ None
-    → Follows v (dropped i entry switch)
+    → Follows v switch (dropped i entry switch)
 drops_it v switch i entry shows sound stands unheld free =
     let es = switch.directory.entries in
     let regions : region_at (remove es i) ≡ put_range entry.range None v.regions = fun_ext (λ p.
@@ -124,4 +129,5 @@ drops_it v switch i entry shows sound stands unheld free =
         region = sound.region;
       };
       places = record { places = shows.places.places; perms = shows.places.perms };
+      told = dropped-told v switch i (λ x. x) entry shows.regions (λ x. refl) sound.blocks stands regions;
     }

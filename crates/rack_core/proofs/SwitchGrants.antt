@@ -27,6 +27,7 @@ use Rattle.rack_core.proofs.SwitchLookups.{all-got, all-changed, apart-changed}
 use Rattle.rack_core.proofs.SwitchRefuses.{allowed}
 use Rattle.rack_core.proofs.SwitchRuns.{one_move}
 use Rattle.rack_core.proofs.SwitchSets.{one-here, empty-has, with-here, with-others, with-fits, one-fits}
+use Rattle.rack_core.proofs.SwitchTold.{changed-told}
 use Rattle.rack_core.proofs.SwitchWorlds.{asked_there, Follows, not_no, none_sent, one_sent, regions-changed, regions-got, wants-got, wants-fetching}
 
 -- ---- states
@@ -109,7 +110,7 @@ module _ (v : World) (switch : SwitchView) (at : ℕ) (r : Request) (i : ℕ) (e
   by_place (Some place) lies = grant_moves place lies
   by_place None none = absurd (false≢true (ap is_some (sym (ap (λ f. f r.page) shows.places.places ∙ none)) ∙ safe.placed.placed r.page (not_no r.write (v.perms r.page) (allowed v switch r shows may))))
 
-  pub grants_it : Follows v (granted r at i entry switch)
+  pub grants_it : Follows v switch (granted r at i entry switch)
   grants_it = record {
     moves = by_place (place_in switch r.page) refl;
     quiet = λ n. read_quiet (place_in switch r.page) n;
@@ -126,4 +127,5 @@ module _ (v : World) (switch : SwitchView) (at : ℕ) (r : Request) (i : ℕ) (e
       region = sound.region;
     };
     places = record { places = shows.places.places; perms = shows.places.perms };
+    told = changed-told v switch i (in_state (granted_state r.write r.blade entry.state)) entry shows.regions (λ x. refl) sound.blocks stands (granted r at i entry switch) refl refl refl;
   }

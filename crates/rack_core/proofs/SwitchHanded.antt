@@ -7,20 +7,23 @@ use Rattle.mind_base.specs.Page.{PageView}
 use Rattle.mind_base.specs.declared.links.LinkKind.{LinkKind}
 use Rattle.mind_base.specs.declared.links.LinkKind.TheVariants.{Up, Down, To, From}
 use Rattle.mind_base.specs.declared.notes.Note.{Note}
+use Rattle.mind_base.specs.declared.plans.RackPlan.{RackPlan}
 use Rattle.page_image.specs.PageImage.{PageImageView}
 use Rattle.wire_msg.specs.declared.msgs.Msg.{Msg}
 use Rattle.wire_msg.specs.declared.msgs.Msg.TheVariants.{Back}
 use Rattle.rack_net.specs.Net.{NetView}
-use Rattle.switch_core.specs.Switch.{Effect, place_in}
+use Rattle.switch_core.specs.Switch.{SwitchView, Effect, place_in}
 use Rattle.coherence.proofs.Keys.{put-here}
 use Rattle.coherence.specs.Facts.{IsCoherent, AreFroms}
+use Rattle.coherence.specs.Lawful.{Tells}
 use Rattle.coherence.specs.World.{World, put}
 use Rattle.rack_core.specs.Events.{SendsAll, SwitchHears}
 use Rattle.rack_core.specs.Rack.{RackView, with_net, with_switch}
 use Rattle.rack_core.specs.Seen.{pending_on, seen, sent_on}
-use Rattle.rack_core.specs.SwitchMoves.{shown, Shows, HasPlaces, IsSoundSwitch, IsQuiet, AsksAt, AskPlaces, AreAsked, Leads, LiesWhere, taken_from, with_front}
+use Rattle.rack_core.specs.SwitchMoves.{shown, Shows, HasPlaces, IsSoundSwitch, IsQuiet, AsksAt, AskPlaces, AreAsked, Leads, HasSlots, LiesWhere, taken_from, with_front}
 use Rattle.rack_core.proofs.SwitchHears.{switch_moves}
 use Rattle.rack_core.proofs.SwitchLookups.{all-joined}
+use Rattle.rack_core.proofs.SwitchNotes.{HoldsWithin}
 use Rattle.rack_core.proofs.SwitchSent.{sends_all}
 
 -- the last value at a number counts
@@ -67,12 +70,13 @@ module _ (old : RackView) (flat : PageView → PageImageView) (number : ℕ) (re
       λ i. record (seen (with_net net (with_switch effect.switch old)) flat) { ups = ups i; downs = downs i; tos = tos i; froms = from i; places = places.places i; perms = places.perms i }
 
 -- What is so after a message was handed to the switch: moves, a sound switch with the same places and
--- permissions, and memory blades are asked for what lies there.
-pub record Handed (first last : World) (rack : RackView) : Type 0 where
+-- permissions, memory blades are asked for what lies there, and the notes tell of it.
+pub record Handed (first last : World) (before : SwitchView) (rack : RackView) (noted : List Note) : Type 0 where
   pub moves : Leads first last
   pub sound : IsSoundSwitch rack.switch
   pub places : HasPlaces first rack.switch
   pub asked : AreAsked rack
+  pub told : (plan : RackPlan) → HoldsWithin plan first → HasSlots plan before → HasSlots plan rack.switch × Tells plan first noted last
 
 -- what is pending to memory blades is what was, and what is asked then
 still_asked : (old : RackView) (effect : Effect) (net : NetView) → SendsAll effect.sent old.net net → place_in old.switch ≡ place_in effect.switch → AreAsked old → AskPlaces (place_in old.switch) effect.sent
@@ -85,18 +89,22 @@ still_asked old effect net sent places before asks m =
 pub switch_handed_up : (old new : RackView) (flat : PageView → PageImageView) (number : ℕ) (message : Msg) (rest : List Msg) (noted : List Note)
     → IsCoherent (with_front Up number (message ∷ rest) (seen old flat)) → IsSoundSwitch old.switch → AreAsked old → number < 8 → LiesWhere (seen old flat) message
     → SwitchHears (record { kind = Up; number = number }) message old new noted
-    → Handed (with_front Up number (message ∷ rest) (seen old flat)) (with_front Up number rest (seen new flat)) new
+    → Handed (with_front Up number (message ∷ rest) (seen old flat)) (with_front Up number rest (seen new flat)) old.switch new noted
 switch_handed_up old new flat number message rest noted safe sound before lt lies hears =
     let w = with_front Up number (message ∷ rest) (seen old flat) in
     let behind = rest ++ pending_on old.net Up number in
     let done = switch_moves w old.switch (record { kind = Up; number = number }) message behind hears.effect safe (shows_front Up number (message ∷ rest) old flat) sound lt lies
     (put-here number (message ∷ behind) (pending_on old.net Up)) hears.heard in
+    let after = shown (taken_from Up number behind w) hears.effect in
     let same = seen_up old flat number rest hears.effect hears.net hears.sent done.1.quiet message (record { places = done.1.places.places; perms = done.1.places.perms }) in
-    subst (λ r. Handed w (with_front Up number rest (seen r flat)) r) (sym hears.after) (record {
+    subst (λ r. Handed w (with_front Up number rest (seen r flat)) old.switch r noted) (sym hears.after) (record {
       moves = subst (λ v. Leads w v) same done.0;
       sound = done.1.sound;
       places = record { places = done.1.places.places; perms = done.1.places.perms };
       asked = still_asked old hears.effect hears.net hears.sent done.1.places.places before done.1.asks;
+      told = λ plan holds slots.
+          let told = done.2 plan holds slots in
+          (told.0, subst (λ v. Tells plan w noted v) same (subst (λ n. Tells plan w n after) (sym hears.notes) told.1));
     })
 
 -- no page comes back from a memory blade
@@ -107,17 +115,21 @@ lies_from w number message behind known = tt
 pub switch_handed_from : (old new : RackView) (flat : PageView → PageImageView) (number : ℕ) (message : Msg) (rest : List Msg) (noted : List Note)
     → IsCoherent (with_front From number (message ∷ rest) (seen old flat)) → IsSoundSwitch old.switch → AreAsked old → number < 8
     → SwitchHears (record { kind = From; number = number }) message old new noted
-    → Handed (with_front From number (message ∷ rest) (seen old flat)) (with_front From number rest (seen new flat)) new
+    → Handed (with_front From number (message ∷ rest) (seen old flat)) (with_front From number rest (seen new flat)) old.switch new noted
 switch_handed_from old new flat number message rest noted safe sound before lt hears =
     let w = with_front From number (message ∷ rest) (seen old flat) in
     let behind = rest ++ pending_on old.net From number in
     let first : w.froms number ≡ message ∷ behind = put-here number (message ∷ behind) (pending_on old.net From) in
     let done = switch_moves w old.switch (record { kind = From; number = number }) message behind hears.effect safe (shows_front From number (message ∷ rest) old flat) sound lt
     (lies_from w number message behind (subst (AreFroms w number) first (safe.froms number))) first hears.heard in
+    let after = shown (taken_from From number behind w) hears.effect in
     let same = seen_from old flat number rest hears.effect hears.net hears.sent done.1.quiet message (record { places = done.1.places.places; perms = done.1.places.perms }) in
-    subst (λ r. Handed w (with_front From number rest (seen r flat)) r) (sym hears.after) (record {
+    subst (λ r. Handed w (with_front From number rest (seen r flat)) old.switch r noted) (sym hears.after) (record {
       moves = subst (λ v. Leads w v) same done.0;
       sound = done.1.sound;
       places = record { places = done.1.places.places; perms = done.1.places.perms };
       asked = still_asked old hears.effect hears.net hears.sent done.1.places.places before done.1.asks;
+      told = λ plan holds slots.
+          let told = done.2 plan holds slots in
+          (told.0, subst (λ v. Tells plan w noted v) same (subst (λ n. Tells plan w n after) (sym hears.notes) told.1));
     })

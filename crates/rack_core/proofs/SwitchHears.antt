@@ -1,9 +1,10 @@
 -- A message that comes to the switch is taken by a move, and what is served then is moves.
-use Rattle.std.proofs.Common.{◌≡◌, refl, sym, ◌∙◌, ap, subst, ℕ, ◌<◌, Bool, true, false, not, ◌==◌, List, [], ◌∷◌, ◌++◌, map, arith, Option, Some, None}
+use Rattle.std.proofs.Common.{◌≡◌, refl, sym, ◌∙◌, ap, subst, ℕ, ◌<◌, ◌≤◌, Bool, true, false, not, ◌==◌, List, [], ◌∷◌, ◌++◌, length, map, suc, arith, Option, Some, None}
 use Rattle.std.specs.Prelude.{if◌then◌else◌, find, is_some, option_map}
 use Rattle.std.specs.List.{AllByRecursion}
 use Rattle.std.proofs.Math.Path.{fun_ext}
 use Rattle.std.proofs.lemmas.Bool.{false≢true}
+use Rattle.std.proofs.lemmas.List.{length-map}
 use Rattle.std.proofs.lemmas.Bool.Decides.{nat_tests}
 use Rattle.mind_base.specs.Page.{PageView}
 use Rattle.mind_base.specs.declared.links.LinkKind.{LinkKind}
@@ -16,7 +17,8 @@ use Rattle.invalidate_multicast.specs.First.{first_changed}
 use Rattle.invalidate_multicast.specs.Transition as transition
 use Rattle.invalidate_multicast.specs.Transition.{is_number, after_answer, is_answered}
 use Rattle.region_directory.specs.Block.{IsApart}
-use Rattle.mind_base.specs.Range.{in_range}
+use Rattle.mind_base.specs.Range.{RangeView, in_range}
+use Rattle.mind_base.specs.declared.plans.RackPlan.{RackPlan}
 use Rattle.region_directory.specs.Entry.{with_busy, plus_hits}
 use Rattle.region_directory.specs.declared.entries.Busy.{Busy}
 use Rattle.region_directory.specs.declared.entries.Entry.{Entry}
@@ -33,22 +35,30 @@ use Rattle.switch_core.proofs.EachEnding.{answered-is}
 use Rattle.coherence.specs.Facts.{IsCoherent, AreAnswered, AreUps, AreFroms, is_fetching}
 use Rattle.coherence.specs.Moves as moves
 use Rattle.coherence.specs.Moves.{HearsGet, HearsBack, HearsAck, HearsImage, heard, answered_by}
+use Rattle.coherence.specs.Lawful.{Tells, first_page, state_in}
 use Rattle.coherence.specs.World.{Region, World, put, put_both}
+use Rattle.coherence.proofs.Telling.{tells_then}
 use Rattle.rack_core.specs.Seen.{sent_on, region_of, region_at, wanted_at}
-use Rattle.rack_core.specs.SwitchMoves.{shown, Shows, HasPlaces, IsSoundSwitch, IsQuiet, AsksAt, AskPlaces, Leads, AreEntriesApart, LiesWhere, IsFirstOn, taken_from}
+use Rattle.rack_core.specs.SwitchMoves.{shown, Shows, HasPlaces, IsSoundSwitch, IsQuiet, AsksAt, AskPlaces, Leads, AreEntriesApart, HasSlots, LiesWhere, IsFirstOn, taken_from}
 use Rattle.rack_core.proofs.SwitchLookups.{all-map, all-last, all-filter, apart-map, first_region, region_at-first, first-map}
+use Rattle.rack_core.proofs.SwitchNotes.{HoldsWithin, state_of, within_slots}
 use Rattle.rack_core.proofs.SwitchPasses.{serving_goes}
 use Rattle.rack_core.proofs.SwitchRequests.{wanted_of, found-of, wanted-last, wanted-without, unwanted-none}
 use Rattle.rack_core.proofs.SwitchRuns.{one_move, leads_on, leads_keeps}
+use Rattle.rack_core.proofs.SwitchEnds.{ended-range, ended-region, ends_told}
+use Rattle.rack_core.proofs.SwitchTold.{nothing_noted}
 use Rattle.rack_core.proofs.SwitchWorlds.{asked_there, Stands, none_sent, one_sent}
 
--- a message was taken: moves, and the switch is sound still, with the same places and permissions
-pub record Hears (w taken : World) (effect : Effect) : Type 0 where
+-- a message was taken: moves, and the switch is sound still, with the same places and permissions, and its notes tell
+-- of it
+pub record Hears (w taken : World) (switch : SwitchView) (effect : Effect) : Type 0 where
   pub moves : Leads w (shown taken effect)
   pub quiet : IsQuiet effect.sent
   pub asks : AskPlaces taken.places effect.sent
   pub sound : IsSoundSwitch effect.switch
   pub places : HasPlaces taken effect.switch
+  pub told : (plan : RackPlan) → IsCoherent w → IsCoherent (shown taken effect) → HoldsWithin plan w → HasSlots plan switch
+      → HasSlots plan effect.switch × Tells plan w effect.noted (shown taken effect)
 
 -- ---- a request
 
@@ -57,7 +67,7 @@ pub unwanted_before : (w : World) (blade : ℕ) (page : PageView) (write : Bool)
 unwanted_before w blade page write behind head answers = grind (arith, nat_tests, answers blade page, same_page-refl page)
 
 hears_get : (w : World) (switch : SwitchView) (blade : ℕ) (page : PageView) (write : Bool) (behind : List Msg) → IsCoherent w → Shows w switch → IsSoundSwitch switch → blade < 8
-    → w.ups blade ≡ Get page write ∷ behind → Hears w (heard blade behind w) (asked blade page write switch)
+    → w.ups blade ≡ Get page write ∷ behind → Hears w (heard blade behind w) switch (asked blade page write switch)
 hears_get w switch blade page write behind safe shows sound lt head =
     let request : Request = record { blade = blade; page = page; write = write; fetching = false } in
     let unwanted : wanted_at switch.requests blade page ≡ None = ap (λ f. f blade page) (sym shows.wants) ∙ unwanted_before w blade page write behind head safe.answered in
@@ -77,18 +87,20 @@ hears_get w switch blade page write behind safe shows sound lt head =
         region = sound.region;
       };
       places = record { places = shows.places.places; perms = shows.places.perms };
+      told = λ plan safe_then safe_after holds slots. nothing_noted w (heard blade behind w) switch (asked blade page write switch) shows.regions refl refl refl plan slots;
     }
 
 -- ---- a page that comes back
 
 hears_back : (w : World) (switch : SwitchView) (blade : ℕ) (page : PageView) (image : PageImageView) (behind : List Msg) → Shows w switch → IsSoundSwitch switch → is_some (w.places page) ≡ true
-    → w.ups blade ≡ Back page image ∷ behind → Hears w (heard blade behind w) (went_back page image switch)
+    → w.ups blade ≡ Back page image ∷ behind → Hears w (heard blade behind w) switch (went_back page image switch)
 hears_back w switch blade page image behind shows sound lies head = record {
   moves = by (place_in switch page) refl;
   quiet = λ n. write_quiet (place_in switch page) n;
   asks = λ m. write_asks m (place_in switch page) refl;
   sound = sound;
   places = record { places = shows.places.places; perms = shows.places.perms };
+  told = λ plan safe safe_after holds slots. nothing_noted w (heard blade behind w) switch (went_back page image switch) shows.regions refl refl refl plan slots;
 } where
   write_quiet : (o : Option (ℕ × ℕ)) → IsQuiet (writing o image)
   write_quiet None n = (refl, refl)
@@ -120,22 +132,6 @@ option-answered : (number blade : ℕ) (o : Option Region) → option_map (answe
 option-answered number blade None = refl
 option-answered number blade (Some region) = refl
 
-ended-range : (e : Entry) → (ended e).range ≡ e.range
-ended-range e = by (is_answered e.busy) where
-  by : (b : Bool) → (if b then transition.finished e else e).range ≡ e.range
-  by true = refl
-  by false = refl
-
-ended-region : (e : Entry) → region_of (ended e) ≡ moves.ended (region_of e)
-ended-region e = by_busy e.busy where
-  by_busy : (busy : Option Busy) → region_of (ended (record { range = e.range; state = e.state; busy = busy; hits = e.hits })) ≡ moves.ended (record { range = e.range; state = e.state; busy = busy })
-  by_busy None = refl
-  by_busy (Some busy) = by (busy.waiting == 0) where
-    by : (b : Bool) → region_of (if b then transition.finished (record { range = e.range; state = e.state; busy = Some busy; hits = e.hits }) else record { range = e.range; state = e.state; busy = Some busy; hits = e.hits })
-        ≡ (if b then record { range = e.range; state = busy.target; busy = None } else record { range = e.range; state = e.state; busy = Some busy })
-    by true = refl
-    by false = refl
-
 -- hits are not seen
 first-hits : (test : Entry → Bool) (count : ℕ) (es : List Entry) (page : PageView) → first_region (first_changed test (plus_hits count) es) page ≡ first_region es page
 first-hits test count [] page = refl
@@ -151,6 +147,13 @@ all-hits P test count k (e ∷ es) h = by (test e) (all-hits P test count k es h
   by : (b : Bool) → AllByRecursion P (first_changed test (plus_hits count) es) → AllByRecursion P (if b then plus_hits count e ∷ es else e ∷ first_changed test (plus_hits count) es)
   by true rest = (k e h.0, h.1)
   by false rest = (h.0, rest)
+
+length-hits : (test : Entry → Bool) (count : ℕ) (es : List Entry) → length (first_changed test (plus_hits count) es) ≡ length es
+length-hits test count [] = refl
+length-hits test count (e ∷ es) = by (test e) (length-hits test count es) where
+  by : (b : Bool) → length (first_changed test (plus_hits count) es) ≡ length es → length (if b then plus_hits count e ∷ es else e ∷ first_changed test (plus_hits count) es) ≡ suc (length es)
+  by true rest = refl
+  by false rest = ap suc rest
 
 apart-hits : (test : Entry → Bool) (count : ℕ) (es : List Entry) → AreEntriesApart es → AreEntriesApart (first_changed test (plus_hits count) es)
 apart-hits test count [] h = tt
@@ -178,7 +181,7 @@ fit-ended e h = by (is_answered e.busy) (target e.busy h.target) where
   by false s = h
 
 hears_ended : (w : World) (switch : SwitchView) (blade number count : ℕ) (behind : List Msg) → Shows w switch → IsSoundSwitch switch
-    → w.ups blade ≡ Ack number count ∷ behind → Hears w (heard blade behind w) (all_ended (transition.acknowledged number blade count switch.directory.entries) switch)
+    → w.ups blade ≡ Ack number count ∷ behind → Hears w (heard blade behind w) switch (all_ended (transition.acknowledged number blade count switch.directory.entries) switch)
 hears_ended w switch blade number count behind shows sound head =
     let es = switch.directory.entries in
     let answer : Entry → Entry = λ e. with_busy (after_answer number blade e.busy) e in
@@ -203,23 +206,40 @@ hears_ended w switch blade number count behind shows sound head =
         region = sound.region;
       };
       places = record { places = shows.places.places; perms = shows.places.perms };
+      told = λ plan safe safe_after holds slots.
+          let count_of : length (map ended mid) ≡ length es =
+          length-map mid ended ∙ length-hits test count (map answer es) ∙ length-map es answer in
+          let next : HasSlots plan (all_ended mid switch).switch = record { slots = slots.slots; room = subst (λ n. n ≤ plan.slots) (sym count_of) slots.room } in
+          let same : (range : RangeView) → state_in w.regions range ≡ state_of range (first_region mid (first_page range)) = λ range.
+          ap (λ g. state_of range (g (first_page range))) shows.regions ∙ ap (state_of range) (region_at-first es (first_page range))
+          ∙ answer-state range (first_region es (first_page range))
+          ∙ sym (ap (state_of range) (first-hits test count (map answer es) (first_page range) ∙ first-map answer (with_answer number blade) es (first_page range) (λ e. refl) (λ e. refl))) in (
+            next,
+            ends_told plan w (shown (heard blade behind w) (all_ended mid switch)) mid safe (within_slots plan w switch shows.regions holds slots) safe_after
+                (within_slots plan (shown (heard blade behind w) (all_ended mid switch)) (all_ended mid switch).switch refl holds next) refl refl same
+                (apart-hits test count (map answer es) (apart-map answer es (λ e. refl) sound.blocks)),
+          );
     }
   where
     twice : (o : Option Region) → option_map moves.ended (option_map (with_answer number blade) o) ≡ option_map (answers_one number blade) o
     twice None = refl
     twice (Some region) = refl
 
+    answer-state : (range : RangeView) (o : Option Region) → state_of range o ≡ state_of range (option_map (with_answer number blade) o)
+    answer-state range None = refl
+    answer-state range (Some region) = refl
+
 hears_ack : (w : World) (switch : SwitchView) (blade number count : ℕ) (behind : List Msg) → Shows w switch → IsSoundSwitch switch
-    → w.ups blade ≡ Ack number count ∷ behind → Hears w (heard blade behind w) (answered number blade count switch)
+    → w.ups blade ≡ Ack number count ∷ behind → Hears w (heard blade behind w) switch (answered number blade count switch)
 hears_ack w switch blade number count behind shows sound head =
-    subst (Hears w (heard blade behind w)) (sym (answered-is number blade count switch)) (hears_ended w switch blade number count behind shows sound head)
+    subst (Hears w (heard blade behind w) switch) (sym (answered-is number blade count switch)) (hears_ended w switch blade number count behind shows sound head)
 
 -- ---- an image
 
 hears_image : (w : World) (switch : SwitchView) (memory blade : ℕ) (page : PageView) (image : PageImageView) (behind : List Msg) → Shows w switch → IsSoundSwitch switch → is_fetching (w.wants blade page) ≡ true
-    → w.froms memory ≡ Image (Some blade) page image ∷ behind → Hears w (record w { froms = put memory behind w.froms }) (filled (Some blade) page image switch)
+    → w.froms memory ≡ Image (Some blade) page image ∷ behind → Hears w (record w { froms = put memory behind w.froms }) switch (filled (Some blade) page image switch)
 hears_image w switch memory blade page image behind shows sound fetching head = by (find (is_of blade page) switch.requests) refl where
-  by : (o : Option Request) → find (is_of blade page) switch.requests ≡ o → Hears w (record w { froms = put memory behind w.froms }) (filling o image switch)
+  by : (o : Option Request) → find (is_of blade page) switch.requests ≡ o → Hears w (record w { froms = put memory behind w.froms }) switch (filling o image switch)
   by None at = absurd (false≢true (ap is_fetching (sym (ap (λ f. f blade page) shows.wants ∙ ap (option_map wanted_of) at)) ∙ fetching))
   by (Some r) at =
       let same = found-of blade page switch.requests r at in
@@ -246,28 +266,30 @@ hears_image w switch memory blade page image behind shows sound fetching head = 
           region = sound.region;
         };
         places = record { places = shows.places.places; perms = shows.places.perms };
+        told = λ plan safe safe_after holds slots.
+            nothing_noted w (record w { froms = put memory behind w.froms }) switch (filling (Some r) image switch) shows.regions refl refl refl plan slots;
       }
 
 -- ---- every message
 
 pub hears_up : (w : World) (switch : SwitchView) (blade : ℕ) (message : Msg) (behind : List Msg) → IsCoherent w → Shows w switch → IsSoundSwitch switch → blade < 8 → LiesWhere w message
-    → w.ups blade ≡ message ∷ behind → Hears w (heard blade behind w) (from_blade blade message switch)
+    → w.ups blade ≡ message ∷ behind → Hears w (heard blade behind w) switch (from_blade blade message switch)
 hears_up w switch blade message behind safe shows sound lt lies head = by message lies head (subst (AreUps w blade) head (safe.ups blade)) where
-  by : (m : Msg) → LiesWhere w m → w.ups blade ≡ m ∷ behind → AreUps w blade (m ∷ behind) → Hears w (heard blade behind w) (from_blade blade m switch)
+  by : (m : Msg) → LiesWhere w m → w.ups blade ≡ m ∷ behind → AreUps w blade (m ∷ behind) → Hears w (heard blade behind w) switch (from_blade blade m switch)
   by (Get page write) there at known = hears_get w switch blade page write behind safe shows sound lt at
   by (Back page image) there at known = hears_back w switch blade page image behind shows sound there at
   by (Ack number count) there at known = hears_ack w switch blade number count behind shows sound at
   by m there at known = absurd known.0
 
 pub hears_from : (w : World) (switch : SwitchView) (memory : ℕ) (message : Msg) (behind : List Msg) → IsCoherent w → Shows w switch → IsSoundSwitch switch
-    → w.froms memory ≡ message ∷ behind → Hears w (record w { froms = put memory behind w.froms }) (from_memory message switch)
+    → w.froms memory ≡ message ∷ behind → Hears w (record w { froms = put memory behind w.froms }) switch (from_memory message switch)
 hears_from w switch memory message behind safe shows sound head = by message head (subst (AreFroms w memory) head (safe.froms memory)) where
-  by : (m : Msg) → w.froms memory ≡ m ∷ behind → AreFroms w memory (m ∷ behind) → Hears w (record w { froms = put memory behind w.froms }) (from_memory m switch)
+  by : (m : Msg) → w.froms memory ≡ m ∷ behind → AreFroms w memory (m ∷ behind) → Hears w (record w { froms = put memory behind w.froms }) switch (from_memory m switch)
   by (Image (Some blade) page image) at known = hears_image w switch memory blade page image behind shows sound known.0.1 at
   by m at known = absurd known.0
 
 pub hears : (w : World) (switch : SwitchView) (kind : LinkKind) (number : ℕ) (message : Msg) (behind : List Msg) → IsCoherent w → Shows w switch → IsSoundSwitch switch → number < 8 → LiesWhere w message
-    → IsFirstOn kind number message behind w → Hears w (taken_from kind number behind w) (handled_from kind number message switch)
+    → IsFirstOn kind number message behind w → Hears w (taken_from kind number behind w) switch (handled_from kind number message switch)
 hears w switch Up number message behind safe shows sound lt lies first = hears_up w switch number message behind safe shows sound lt lies first
 hears w switch From number message behind safe shows sound lt lies first = hears_from w switch number message behind safe shows sound first
 hears w switch Down number message behind safe shows sound lt lies first = absurd first
@@ -278,10 +300,27 @@ hears w switch To number message behind safe shows sound lt lies first = absurd 
 pub switch_moves : (w : World) (switch : SwitchView) (link : LinkName) (message : Msg) (behind : List Msg) (effect : Effect) → IsCoherent w → Shows w switch → IsSoundSwitch switch → link.number < 8 → LiesWhere w message
     → IsFirstOn link.kind link.number message behind w → Receives link message switch effect
     → Leads w (shown (taken_from link.kind link.number behind w) effect) × Stands (taken_from link.kind link.number behind w) effect
+    × ((plan : RackPlan) → HoldsWithin plan w → HasSlots plan switch → HasSlots plan effect.switch × Tells plan w effect.noted (shown (taken_from link.kind link.number behind w) effect))
 switch_moves w switch link message behind effect safe shows sound lt lies first receives =
     let taken = taken_from link.kind link.number behind w in
     let done = handled_from link.kind link.number message switch in
     let step = hears w switch link.kind link.number message behind safe shows sound lt lies first in
     let stands : Stands taken done = record { safe = leads_keeps w (shown taken done) safe step.moves; quiet = step.quiet; asks = step.asks; sound = step.sound; places = step.places } in
-    let serves = serving_goes taken done effect stands receives in
-    (leads_on w (shown taken done) (shown taken effect) step.moves serves.0, serves.1)
+    let serves = serving_goes taken done effect stands receives in (
+      leads_on w (shown taken done) (shown taken effect) step.moves serves.0,
+      serves.1,
+      λ plan holds slots.
+          let heard_it = step.told plan safe stands.safe holds slots in
+          let served = serves.2.told plan (taken-holds plan link.kind w holds) heard_it.0 in (
+            served.0,
+            subst (λ noted. Tells plan w noted (shown taken effect)) (sym serves.2.is)
+                (tells_then plan w (shown taken done) (shown taken effect) done.noted serves.2.noted heard_it.1 served.1),
+          ),
+    )
+  where
+    -- the frames are as they were
+    taken-holds : (plan : RackPlan) (kind : LinkKind) (w : World) → HoldsWithin plan w → HoldsWithin plan (taken_from kind link.number behind w)
+    taken-holds plan Up w holds = holds
+    taken-holds plan From w holds = holds
+    taken-holds plan Down w holds = holds
+    taken-holds plan To w holds = holds

@@ -1,7 +1,9 @@
 -- What is seen of the entries of a directory and of requests when one of them changes.
-use Rattle.std.proofs.Common.{◌≡◌, refl, sym, ◌∙◌, ap, subst, ℕ, Bool, true, false, List, [], ◌∷◌, ◌++◌, map, filter, insert, remove, zero, suc, arith, Option, Some, None}
+use Rattle.std.proofs.Common.{◌≡◌, refl, sym, ◌∙◌, ap, subst, ℕ, Bool, true, false, ◌||◌, List, [], ◌∷◌, ◌++◌, map, filter, insert, remove, zero, suc, arith, Option, Some, None}
 use Rattle.std.specs.Prelude.{if◌then◌else◌, slice_get, position, option_map, option_and_then}
 use Rattle.std.specs.List.{AllByRecursion}
+use Rattle.std.specs.Set.{is_member}
+use Rattle.std.proofs.lemmas.Bool.{false≢true}
 use Rattle.std.proofs.lemmas.Option.{none-some, same_Some}
 use Rattle.std.proofs.lemmas.Bool.Decides.{nat_tests}
 use Rattle.mind_base.specs.Page.{PageView}
@@ -61,6 +63,15 @@ all-joined P (x ∷ xs) ys h g = (h.0, all-joined P xs ys h.1 g)
 pub all-last : {X : Type 0} (P : X → Type 0) (xs : List X) (x : X) → AllByRecursion P xs → P x → AllByRecursion P (xs ++ x ∷ [])
 all-last P [] x h p = (p, tt)
 all-last P (y ∷ xs) x h p = (h.0, all-last P xs x h.1 p)
+
+-- by a test that only equal keys pass, what is true of all keys is true of each
+pub all-member : {K : Type 0} (same : K → K → Bool) → ((a b : K) → same a b ≡ true → a ≡ b) → (P : K → Type 0) (keys : List K) (key : K)
+    → AllByRecursion P keys → is_member same keys key ≡ true → P key
+all-member same equal P [] key all h = absurd (false≢true h)
+all-member same equal P (k ∷ keys) key all h = by (same key k) refl h (λ g. all-member same equal P keys key all.1 g) where
+  by : (t : Bool) → same key k ≡ t → (t || is_member same keys key) ≡ true → (is_member same keys key ≡ true → P key) → P key
+  by true e g rest = subst P (sym (equal key k e)) all.0
+  by false e g rest = rest g
 
 -- ---- entries stay apart
 

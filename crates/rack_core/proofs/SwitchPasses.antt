@@ -6,10 +6,11 @@ use Rattle.switch_core.specs.Serving.{treated_if, treated_next, over, one_pass, 
 use Rattle.switch_core.specs.Switch.{SwitchView, Effect, only, and_then}
 use Rattle.switch_core.specs.Treating.{Pass}
 use Rattle.coherence.specs.Facts.{IsCoherent}
+use Rattle.coherence.specs.Lawful.{Tells}
 use Rattle.coherence.specs.World.{World}
 use Rattle.rack_core.specs.SwitchMoves.{shown, Shows, IsSoundSwitch, Leads}
-use Rattle.rack_core.proofs.SwitchTreats.{Goes, goes_nowhere, goes_on, treats}
-use Rattle.rack_core.proofs.SwitchWorlds.{Follows, Stands, follow, only-shown, shows-shown}
+use Rattle.rack_core.proofs.SwitchTreats.{treats}
+use Rattle.rack_core.proofs.SwitchWorlds.{Follows, Stands, Goes, follow, goes_nowhere, goes_on, only-shown, shows-shown}
 
 next_goes : (w : World) (pass : Pass) → Stands w pass.done → Goes w pass.done (treated_next pass).done
 next_goes w pass stands = by (slice_get pass.done.switch.requests pass.at) refl where
@@ -32,7 +33,7 @@ stands_first v switch safe shows sound = record {
   places = record { places = shows.places.places; perms = shows.places.perms };
 }
 
-pass_follows : (v : World) (switch : SwitchView) → IsCoherent v → Shows v switch → IsSoundSwitch switch → Follows v (one_pass switch)
+pass_follows : (v : World) (switch : SwitchView) → IsCoherent v → Shows v switch → IsSoundSwitch switch → Follows v switch (one_pass switch)
 pass_follows v switch safe shows sound =
     let goes = over_goes v (length switch.requests) (record { done = only switch; at = 0; blocked = false }) (stands_first v switch safe shows sound) in
     record {
@@ -41,6 +42,12 @@ pass_follows v switch safe shows sound =
       asks = goes.1.asks;
       sound = goes.1.sound;
       places = record { places = goes.1.places.places; perms = goes.1.places.perms };
+      told = λ plan safe_then holds slots.
+          let told = goes.2.told plan holds slots in (
+            told.0,
+            subst (λ noted. Tells plan v noted (shown v (one_pass switch))) (sym goes.2.is)
+                (subst (λ u. Tells plan u goes.2.noted (shown v (one_pass switch))) (sym (only-shown v switch shows)) told.1),
+          );
     }
 
 pub passes_go : (w : World) (n : ℕ) (done : Effect) → Stands w done → Goes w done (passes n done)

@@ -15,6 +15,7 @@ use Rattle.coherence.specs.World.{World}
 use Rattle.rack_core.specs.SwitchMoves.{shown, Shows, IsSoundSwitch}
 use Rattle.rack_core.proofs.SwitchLookups.{all-filter}
 use Rattle.rack_core.proofs.SwitchRuns.{one_move}
+use Rattle.rack_core.proofs.SwitchTold.{nothing_noted}
 use Rattle.rack_core.proofs.SwitchWorlds.{Follows, allows-same, none_sent, one_sent, wants-got, wants-without}
 
 not_true : (b : Bool) → not b ≡ true → b ≡ false
@@ -35,7 +36,7 @@ allowed v switch r shows e =
     ap (λ f. facts.allows r.write (f r.page)) shows.places.perms ∙ allows-same r.write (permission_at switch.protect r.page) ∙ not_false (treating.allows r.write (permission_at switch.protect r.page)) e
 
 pub refuses : (v : World) (switch : SwitchView) (at : ℕ) (r : Request) → Shows v switch → IsSoundSwitch switch → slice_get switch.requests at ≡ Some r → r.fetching ≡ false → is_denied switch r ≡ true
-    → Follows v (denied r switch)
+    → Follows v switch (denied r switch)
 refuses v switch at r shows sound is idle none = record {
   moves = one_move v (shown v (denied r switch)) (Refuses r.blade r.page r.write)
       (wants-got v.wants switch.requests at r shows.wants sound.requests is idle, disallowed v switch r shows none)
@@ -56,4 +57,5 @@ refuses v switch at r shows sound is idle none = record {
     region = sound.region;
   };
   places = record { places = shows.places.places; perms = shows.places.perms };
+  told = λ plan safe holds slots. nothing_noted v v switch (denied r switch) shows.regions refl refl refl plan slots;
 }

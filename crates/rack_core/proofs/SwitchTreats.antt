@@ -1,9 +1,11 @@
 -- What is done with one waiting request is moves.
-use Rattle.std.proofs.Common.{◌≡◌, refl, sym, ◌∙◌, ap, subst, ℕ, ◌<◌, Bool, true, false, not, ◌==◌, List, length, Option, Some, None}
+use Rattle.std.proofs.Common.{◌≡◌, refl, sym, ◌∙◌, ap, subst, ℕ, ◌<◌, Bool, true, false, not, ◌==◌, List, length, remove, arith, Option, Some, None}
 use Rattle.std.specs.Prelude.{if◌then◌else◌, slice_get, position, is_none, option_map, unwrap_or}
 use Rattle.std.specs.List.{list_any}
 use Rattle.std.proofs.lemmas.Bool.{false≢true, and_parts}
-use Rattle.std.proofs.lemmas.Option.{same_Some, get_or_from_slice_get}
+use Rattle.std.proofs.lemmas.Bool.Decides.{nat_tests}
+use Rattle.std.proofs.lemmas.List.Edits.{length-remove}
+use Rattle.std.proofs.lemmas.Option.{same_Some, get_or_from_slice_get, slice_get_within}
 use Rattle.std.proofs.lemmas.List.Quantifiers.{position-Some}
 use Rattle.mind_base.specs.declared.notes.State.{State}
 use Rattle.mind_base.specs.declared.notes.State.TheVariants.{I, S, M}
@@ -14,27 +16,16 @@ use Rattle.region_directory.specs.declared.entries.Busy.{Busy}
 use Rattle.region_directory.specs.declared.entries.Entry.{Entry}
 use Rattle.request_list.specs.Requests.{fetched_pages}
 use Rattle.request_list.specs.declared.requests.Request.{Request}
-use Rattle.switch_core.specs.Switch.{SwitchView, Effect}
+use Rattle.switch_core.specs.Switch.{SwitchView}
 use Rattle.switch_core.specs.Treating.{Pass, waits, blocks, does, grants, is_denied, denied, granted, changed_for, invalidated, lowered, cleared, is_fetched, with_idle, with_entry, at_entry, entered, new_range, enters, dropped, with_room, without_entry, entry_for, for_entry, treated}
 use Rattle.coherence.specs.World.{World}
-use Rattle.rack_core.specs.SwitchMoves.{shown, Shows, IsSoundSwitch, Leads}
+use Rattle.rack_core.specs.SwitchMoves.{shown, Shows, IsSoundSwitch}
 use Rattle.rack_core.proofs.SwitchBegins.{clears, invalidates, lowers}
 use Rattle.rack_core.proofs.SwitchEnters.{NoneHas, none-has, new_has, new_stands, enters_it, drops_it}
 use Rattle.rack_core.proofs.SwitchGrants.{grants_it}
 use Rattle.rack_core.proofs.SwitchLookups.{all-got, all-remove}
 use Rattle.rack_core.proofs.SwitchRefuses.{refuses}
-use Rattle.rack_core.proofs.SwitchRuns.{stay, leads_on}
-use Rattle.rack_core.proofs.SwitchWorlds.{Follows, Stands, follow, shows-shown}
-
--- moves lead on from what was done, and all that is true of the switch stays true
-abbrev pub Goes : World → Effect → Effect → Type 0
-Goes w done after = Leads (shown w done) (shown w after) × Stands w after
-
-pub goes_nowhere : (w : World) (done : Effect) → Stands w done → Goes w done done
-goes_nowhere w done stands = (stay (shown w done), stands)
-
-pub goes_on : (w : World) (a b c : Effect) → Goes w a b → (Stands w b → Goes w b c) → Goes w a c
-goes_on w a b c first next = let later = next first.1 in (leads_on (shown w a) (shown w b) (shown w c) first.0 later.0, later.1)
+use Rattle.rack_core.proofs.SwitchWorlds.{Follows, Stands, Goes, follow, goes_nowhere, goes_on, shows-shown}
 
 -- a search finds what passes
 pub found-passes : (p : Entry → Bool) (es : List Entry) (i : ℕ) (e : Entry) → position p es ≡ Some i → slice_get es i ≡ Some e → p e ≡ true
@@ -57,20 +48,20 @@ not-so false e = refl
 
 changes : (v : World) (switch : SwitchView) (r : Request) (i : ℕ) (entry : Entry) → Shows v switch → IsSoundSwitch switch → r.blade < 8
     → slice_get switch.directory.entries i ≡ Some entry → entry.busy ≡ None → is_fetched entry.range switch.requests ≡ false → grants r.write r.blade entry.state ≡ false
-    → Follows v (changed_for r entry.state i entry switch)
+    → Follows v switch (changed_for r entry.state i entry switch)
 changes v switch r i entry shows sound lt stands free still cannot = by entry.state refl cannot where
-  to_write : (state : State) → entry.state ≡ state → grants true r.blade state ≡ false → Follows v (invalidated r i entry switch)
+  to_write : (state : State) → entry.state ≡ state → grants true r.blade state ≡ false → Follows v switch (invalidated r i entry switch)
   to_write state is f = invalidates v switch i entry shows sound stands free still r lt (ap (grants true r.blade) is ∙ f)
 
-  shared : (write : Bool) (sharers : ℕ) → entry.state ≡ S sharers → grants write r.blade (S sharers) ≡ false → Follows v (invalidated r i entry switch)
+  shared : (write : Bool) (sharers : ℕ) → entry.state ≡ S sharers → grants write r.blade (S sharers) ≡ false → Follows v switch (invalidated r i entry switch)
   shared true sharers is f = to_write (S sharers) is f
   shared false sharers is f = absurd (false≢true (sym f))
 
-  owned : (write : Bool) (owner : ℕ) → entry.state ≡ M owner → grants write r.blade (M owner) ≡ false → Follows v (if write then invalidated r i entry switch else lowered r owner i entry switch)
+  owned : (write : Bool) (owner : ℕ) → entry.state ≡ M owner → grants write r.blade (M owner) ≡ false → Follows v switch (if write then invalidated r i entry switch else lowered r owner i entry switch)
   owned true owner is f = to_write (M owner) is f
   owned false owner is f = lowers v switch i entry shows sound stands free still r owner is
 
-  by : (state : State) → entry.state ≡ state → grants r.write r.blade state ≡ false → Follows v (changed_for r state i entry switch)
+  by : (state : State) → entry.state ≡ state → grants r.write r.blade state ≡ false → Follows v switch (changed_for r state i entry switch)
   by I is f = absurd (false≢true (sym f))
   by (S sharers) is f = shared r.write sharers is f
   by (M owner) is f = owned r.write owner is f
@@ -114,20 +105,27 @@ treats_at w r i pass stands is within = by (slice_get pass.done.switch.directory
 -- ---- a request whose page has none
 
 treats_new : (w : World) (r : Request) (pass : Pass) → Stands w pass.done → IsTreated r pass.at pass.done.switch → NoneHas r.page pass.done.switch.directory.entries
-    → Goes w pass.done (enters r pass).done
-treats_new w r pass stands is none =
+    → (length pass.done.switch.directory.entries == pass.done.switch.directory.slots) ≡ false → Goes w pass.done (enters r pass).done
+treats_new w r pass stands is none short =
     let range = new_range r.page pass.done.switch in
     let mid = does (entered range) pass in
     goes_on w pass.done mid.done (enters r pass).done
-    (follow w pass.done (entered range) stands (enters_it (shown w pass.done) pass.done.switch r.page (shows-shown w pass.done stands.places) stands.sound none))
+    (follow w pass.done (entered range) stands (enters_it (shown w pass.done) pass.done.switch r.page (shows-shown w pass.done stands.places) stands.sound none short))
     (λ there. treats_at w r (place_of pass.done.switch.directory.entries range) mid there (record { stands = is.stands; idle = is.idle; allowed = is.allowed })
     (λ entry at. subst (λ e. in_range e.range r.page ≡ true) (same_Some (fresh_entry range) entry (sym (new_stands pass.done.switch range) ∙ at)) (new_has pass.done.switch r.page stands.sound)))
 
+-- where one of as many entries as slots is dropped, there is room
+shorter : (es : List Entry) (slots i : ℕ) (entry : Entry) → slice_get es i ≡ Some entry → (length es == slots) ≡ true → (length (remove es i) == slots) ≡ false
+shorter es slots i entry at full =
+    let fewer = length-remove es i (slice_get_within es i entry at) in
+    grind (arith, nat_tests, fewer, full)
+
 treats_room : (w : World) (r : Request) (pass : Pass) → Stands w pass.done → IsTreated r pass.at pass.done.switch → NoneHas r.page pass.done.switch.directory.entries
+    → (length pass.done.switch.directory.entries == pass.done.switch.directory.slots) ≡ true
     → (drop : Option ℕ) → position is_droppable pass.done.switch.directory.entries ≡ drop → (clearing : Bool)
     → (evict : Option ℕ) → position (is_evictable (fetched_pages pass.done.switch.requests)) pass.done.switch.directory.entries ≡ evict
     → Goes w pass.done (with_room r (first_rule drop clearing evict) pass).done
-treats_room w r pass stands is none (Some i) drop clearing evict evicted = by (slice_get pass.done.switch.directory.entries i) refl where
+treats_room w r pass stands is none full (Some i) drop clearing evict evicted = by (slice_get pass.done.switch.directory.entries i) refl where
   by : (o : Option Entry) → slice_get pass.done.switch.directory.entries i ≡ o
       → Goes w pass.done (unwrap_or (option_map (λ entry. enters r (does (dropped i entry) pass)) o) (blocks pass)).done
   by None at = goes_nowhere w pass.done stands
@@ -137,10 +135,11 @@ treats_room w r pass stands is none (Some i) drop clearing evict evicted = by (s
       goes_on w pass.done mid.done (enters r mid).done
       (follow w pass.done (dropped i entry) stands (drops_it (shown w pass.done) pass.done.switch i entry (shows-shown w pass.done stands.places) stands.sound at (unheld-so entry.state parts.0) (none-so entry.busy parts.1)))
       (λ there. treats_new w r mid there (record { stands = is.stands; idle = is.idle; allowed = is.allowed })
-      (all-remove (λ e. in_range e.range r.page ≡ false) pass.done.switch.directory.entries i none))
-treats_room w r pass stands is none None drop true evict evicted = goes_nowhere w pass.done stands
-treats_room w r pass stands is none None drop false None evicted = goes_nowhere w pass.done stands
-treats_room w r pass stands is none None drop false (Some i) evicted = by (slice_get pass.done.switch.directory.entries i) refl where
+      (all-remove (λ e. in_range e.range r.page ≡ false) pass.done.switch.directory.entries i none)
+      (shorter pass.done.switch.directory.entries pass.done.switch.directory.slots i entry at full))
+treats_room w r pass stands is none full None drop true evict evicted = goes_nowhere w pass.done stands
+treats_room w r pass stands is none full None drop false None evicted = goes_nowhere w pass.done stands
+treats_room w r pass stands is none full None drop false (Some i) evicted = by (slice_get pass.done.switch.directory.entries i) refl where
   by : (o : Option Entry) → slice_get pass.done.switch.directory.entries i ≡ o
       → Goes w pass.done (unwrap_or (option_map (λ entry. blocks (does (cleared i entry) pass)) o) (blocks pass)).done
   by None at = goes_nowhere w pass.done stands
@@ -152,19 +151,20 @@ treats_room w r pass stands is none None drop false (Some i) evicted = by (slice
 
 treats_without : (w : World) (r : Request) (pass : Pass) → Stands w pass.done → IsTreated r pass.at pass.done.switch → NoneHas r.page pass.done.switch.directory.entries
     → Goes w pass.done (without_entry r pass).done
-treats_without w r pass stands is none = by pass.blocked (length pass.done.switch.directory.entries == pass.done.switch.directory.slots) where
-  room : Goes w pass.done (with_room r (first_rule (position is_droppable pass.done.switch.directory.entries) (list_any (λ entry. is_for_room entry.busy) pass.done.switch.directory.entries)
+treats_without w r pass stands is none = by pass.blocked (length pass.done.switch.directory.entries == pass.done.switch.directory.slots) refl where
+  room : (length pass.done.switch.directory.entries == pass.done.switch.directory.slots) ≡ true
+      → Goes w pass.done (with_room r (first_rule (position is_droppable pass.done.switch.directory.entries) (list_any (λ entry. is_for_room entry.busy) pass.done.switch.directory.entries)
       (position (is_evictable (fetched_pages pass.done.switch.requests)) pass.done.switch.directory.entries)) pass).done
-  room = treats_room w r pass stands is none (position is_droppable pass.done.switch.directory.entries) refl (list_any (λ entry. is_for_room entry.busy) pass.done.switch.directory.entries)
+  room full = treats_room w r pass stands is none full (position is_droppable pass.done.switch.directory.entries) refl (list_any (λ entry. is_for_room entry.busy) pass.done.switch.directory.entries)
       (position (is_evictable (fetched_pages pass.done.switch.requests)) pass.done.switch.directory.entries) refl
 
-  by : (b c : Bool) → Goes w pass.done (if b then waits pass else (if c
+  by : (b c : Bool) → (length pass.done.switch.directory.entries == pass.done.switch.directory.slots) ≡ c → Goes w pass.done (if b then waits pass else (if c
       then with_room r (first_rule (position is_droppable pass.done.switch.directory.entries) (list_any (λ entry. is_for_room entry.busy) pass.done.switch.directory.entries)
       (position (is_evictable (fetched_pages pass.done.switch.requests)) pass.done.switch.directory.entries)) pass
       else enters r pass)).done
-  by true c = goes_nowhere w pass.done stands
-  by false true = room
-  by false false = treats_new w r pass stands is none
+  by true c e = goes_nowhere w pass.done stands
+  by false true e = room e
+  by false false e = treats_new w r pass stands is none e
 
 -- ---- the request
 

@@ -9,6 +9,8 @@ use Rattle.mind_base.specs.declared.commands.Perm.TheVariants.{No, R, Rw}
 use Rattle.mind_base.specs.declared.links.LinkKind.{LinkKind}
 use Rattle.mind_base.specs.declared.links.LinkKind.TheVariants.{Up, Down, To, From}
 use Rattle.mind_base.specs.Range.{in_range}
+use Rattle.mind_base.specs.declared.notes.Note.{Note}
+use Rattle.mind_base.specs.declared.plans.RackPlan.{RackPlan}
 use Rattle.region_directory.specs.Entry.{changed_at}
 use Rattle.region_directory.specs.declared.entries.Entry.{Entry}
 use Rattle.request_list.specs.Requests.{AreApart, fetching_at}
@@ -19,12 +21,16 @@ use Rattle.switch_core.specs.Treating as treating
 use Rattle.switch_core.specs.Treating.{without_request}
 use Rattle.coherence.specs.Facts as facts
 use Rattle.coherence.specs.Facts.{IsCoherent, ArePlaced}
+use Rattle.coherence.specs.Lawful.{Tells}
 use Rattle.coherence.specs.World.{Region, Wanted, World, put, put_both, put_range}
+use Rattle.coherence.proofs.Telling.{tells_nothing, tells_then}
+use Rattle.coherence.proofs.TellingNotes.{alike-same}
 use Rattle.rack_core.specs.Seen.{sent_on, region_of, region_at, wanted_at}
-use Rattle.rack_core.specs.SwitchMoves.{shown, Shows, HasPlaces, IsSoundSwitch, IsQuiet, AsksAt, AskPlaces, Leads, AreEntriesApart}
+use Rattle.rack_core.specs.SwitchMoves.{shown, Shows, HasPlaces, IsSoundSwitch, IsQuiet, AsksAt, AskPlaces, Leads, AreEntriesApart, HasSlots}
+use Rattle.rack_core.proofs.SwitchNotes.{HoldsWithin, IsTold}
 use Rattle.rack_core.proofs.SwitchLookups.{all-joined, region_at-first, first-changed, first-got}
 use Rattle.rack_core.proofs.SwitchRequests.{wanted-got, wanted-without, wanted-fetching}
-use Rattle.rack_core.proofs.SwitchRuns.{sent_on-append, leads_keeps}
+use Rattle.rack_core.proofs.SwitchRuns.{sent_on-append, leads_keeps, leads_on, stay}
 
 pub append-assoc : {X : Type 0} (a b c : List X) → a ++ (b ++ c) ≡ (a ++ b) ++ c
 append-assoc [] b c = refl
@@ -96,13 +102,15 @@ asked_there places m place message there = by (m == place.0) refl where
 
 -- ---- steps
 
--- what follows from a step of the switch: moves, and it is sound still, with the same places and permissions
-pub record Follows (v : World) (effect : Effect) : Type 0 where
+-- what follows from a step of the switch: moves, and it is sound still, with the same places and permissions, and its
+-- notes tell of it
+pub record Follows (v : World) (switch : SwitchView) (effect : Effect) : Type 0 where
   pub moves : Leads v (shown v effect)
   pub quiet : IsQuiet effect.sent
   pub asks : AskPlaces v.places effect.sent
   pub sound : IsSoundSwitch effect.switch
   pub places : HasPlaces v effect.switch
+  pub told : IsTold v switch effect
 
 -- a world in which the switch is seen, sound, and what is done there
 pub record Stands (w : World) (done : Effect) : Type 0 where
@@ -112,15 +120,26 @@ pub record Stands (w : World) (done : Effect) : Type 0 where
   pub sound : IsSoundSwitch done.switch
   pub places : HasPlaces w done.switch
 
+-- what was noted after something was done tells of what was done then
+pub record Adds (w : World) (done after : Effect) : Type 0 where
+  pub noted : List Note
+  pub is : after.noted ≡ done.noted ++ noted
+  pub told : (plan : RackPlan) → HoldsWithin plan w → HasSlots plan done.switch → HasSlots plan after.switch × Tells plan (shown w done) noted (shown w after)
+
+-- moves lead on from what was done, all that is true of the switch stays true, and its notes tell of it
+abbrev pub Goes : World → Effect → Effect → Type 0
+Goes w done after = Leads (shown w done) (shown w after) × Stands w after × Adds w done after
+
 -- where the moves of a step lead from what was done
-pub follow : (w : World) (done : Effect) (change : SwitchView → Effect) → Stands w done → Follows (shown w done) (change done.switch)
-    → Leads (shown w done) (shown w (and_then done change)) × Stands w (and_then done change)
+pub follow : (w : World) (done : Effect) (change : SwitchView → Effect) → Stands w done → Follows (shown w done) done.switch (change done.switch) → Goes w done (and_then done change)
 follow w done change stands step =
     let next = shown w (and_then done change) in
-    let moves : Leads (shown w done) next = subst (λ v. Leads (shown w done) v) (sym (shown-then w done change)) step.moves in (
+    let same : shown (shown w done) (change done.switch) ≡ next = sym (shown-then w done change) in
+    let moves : Leads (shown w done) next = subst (λ v. Leads (shown w done) v) same step.moves in
+    let safe : IsCoherent next = leads_keeps (shown w done) next stands.safe moves in (
       moves,
       record {
-        safe = leads_keeps (shown w done) next stands.safe moves;
+        safe = safe;
         quiet = λ n. (
           sent_on-append Up n done.sent (change done.switch).sent ∙ ap (λ s. s ++ sent_on Up n (change done.switch).sent) (stands.quiet n).0 ∙ (step.quiet n).0,
           sent_on-append From n done.sent (change done.switch).sent ∙ ap (λ s. s ++ sent_on From n (change done.switch).sent) (stands.quiet n).1 ∙ (step.quiet n).1,
@@ -129,6 +148,41 @@ follow w done change stands step =
             (all-joined (AsksAt w.places m) (sent_on To m done.sent) (sent_on To m (change done.switch).sent) (stands.asks m) (step.asks m));
         sound = step.sound;
         places = record { places = step.places.places; perms = step.places.perms };
+      },
+      record {
+        noted = (change done.switch).noted;
+        is = refl;
+        told = λ plan holds slots.
+            let told = step.told plan (subst IsCoherent (sym same) safe) holds slots in
+            (told.0, subst (λ v. Tells plan (shown w done) (change done.switch).noted v) same told.1);
+      },
+    )
+
+pub goes_nowhere : (w : World) (done : Effect) → Stands w done → Goes w done done
+goes_nowhere w done stands = (
+  stay (shown w done),
+  stands,
+  record {
+    noted = [];
+    is = sym (append-nil done.noted);
+    told = λ plan holds slots. (slots, tells_nothing plan (shown w done) (shown w done) (alike-same (shown w done) (shown w done) refl refl));
+  },
+)
+
+pub goes_on : (w : World) (a b c : Effect) → Goes w a b → (Stands w b → Goes w b c) → Goes w a c
+goes_on w a b c first next =
+    let later = next first.1 in
+    let one = first.2 in
+    let two = later.2 in (
+      leads_on (shown w a) (shown w b) (shown w c) first.0 later.0,
+      later.1,
+      record {
+        noted = one.noted ++ two.noted;
+        is = two.is ∙ ap (λ n. n ++ two.noted) one.is ∙ sym (append-assoc a.noted one.noted two.noted);
+        told = λ plan holds slots.
+            let before = one.told plan holds slots in
+            let after = two.told plan holds before.0 in
+            (after.0, tells_then plan (shown w a) (shown w b) (shown w c) one.noted two.noted before.1 after.1);
       },
     )
 

@@ -27,7 +27,7 @@ acted c old new safe leaves led = record {
 }
 
 -- a hart's blade has
-hart_leaves : (thread : Option ThreadPlan) (act : BladeView → Option Effect) (old new : RackView) (noted : List Note) → HartDoes thread act old new noted → Leaves old new
+pub hart_leaves : (thread : Option ThreadPlan) (act : BladeView → Option Effect) (old new : RackView) (noted : List Note) → HartDoes thread act old new noted → Leaves old new
 hart_leaves None act old new noted does = absurd does
 hart_leaves (Some thread) act old new noted does = blade_leaves thread.blade act old new noted does
 

@@ -15,6 +15,7 @@ use Rattle.compute_blade.specs.Messages as blades
 use Rattle.memory_blade.specs.MemoryBlade.{IsFor}
 use Rattle.rack_net.specs.Net.{NetView, links_of, links_of_kind, frames_on}
 use Rattle.switch_core.specs.Handling as switches
+use Rattle.switch_core.specs.Serving.{IsServed}
 use Rattle.rack_core.specs.Rack.{RackView}
 use Rattle.rack_core.specs.Safe.{IsSafe}
 use Rattle.rack_core.specs.Shape.{IsShaped}
@@ -48,10 +49,11 @@ MayBeHanded From number message rack = switches.MayCome rack.switch (record { ki
 
 -- ---- what a call leaves
 
--- A rack has its plan's shape, and what is true of every rack is true of it.
+-- A rack has its plan's shape, what is true of every rack is true of it, and the switch has served.
 pub record IsKept (rack : RackView) : Type 0 where
   pub shape : IsShaped rack
   pub safe : IsSafe rack
+  pub served : IsServed rack.switch
 
 -- notes were added, and they are what was done
 abbrev pub Notes : (List Note → Type 0) → List Note → List Note → Type 0

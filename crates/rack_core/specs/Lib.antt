@@ -1,11 +1,14 @@
+pub mod Accesses
 pub mod AtOnce
 pub mod BladeMoves
 pub mod Calls
 pub mod Events
+pub mod Frames
 pub mod Handing
 pub mod Newest
 pub mod Noted
 pub mod Rack
+pub mod Released
 pub mod Safe
 pub mod Seen
 pub mod Shape
@@ -14,4 +17,5 @@ pub mod StandRuns
 pub mod Stands
 pub mod Start
 pub mod SwitchMoves
+pub mod Telling
 pub mod Waits

@@ -8,12 +8,16 @@ use Rattle.mind_base.specs.declared.plans.ThreadPlan.{ThreadPlan}
 use Rattle.page_image.specs.PageImage.{PageImageView}
 use Rattle.compute_blade.specs.Blade.{HartView, BladeView, hart_of}
 use Rattle.coherence.specs.Facts.{IsCoherent}
+use Rattle.coherence.specs.Held.{no_holdings}
 use Rattle.tso_machine.specs.Replay.{Whole, labels, replay}
 use Rattle.tso_machine.specs.State.{Setup, State, start_state}
+use Rattle.rack_core.specs.Accesses.{AreAccessesHeld}
 use Rattle.rack_core.specs.Rack.{RackView}
+use Rattle.rack_core.specs.Released.{AreReleased}
 use Rattle.rack_core.specs.Safe.{IsSound}
 use Rattle.rack_core.specs.Seen.{seen}
 use Rattle.rack_core.specs.StandRuns.{GoesWith}
+use Rattle.rack_core.specs.Telling.{HasRoom, IsLogOf}
 
 -- what a machine of a plan and of images is made from, which takes no commands
 abbrev pub made_from : List Image → RackPlan → Setup
@@ -34,8 +38,14 @@ pub record StandsAt (images : List Image) (setup : Setup) (rack : RackView) (sta
   pub goes : GoesWith images setup rack flat state
 
 -- The labels of the log, replayed from the start of a machine of the rack's plan and of these images, lead whole to a
--- state for which the rack stands.
+-- state for which the rack stands. The log is lawful at every point, and leads to what is held and in force in the rack,
+-- which has room for it. Each access noted is performed by a blade that holds its page, and each hit of the directory is of
+-- a page that it says was given up or lowered.
 pub record StandsForLog (images : List Image) (rack : RackView) (log : List Note) : Type 0 where
   pub state : State
   pub run : replay (made_from images rack.plan) (start_state (made_from images rack.plan)) (labels log) ≡ Whole state
   pub at : StandsAt images (made_from images rack.plan) rack state
+  pub room : HasRoom rack.plan rack
+  pub told : IsLogOf rack.plan rack log
+  pub accesses : AreAccessesHeld (made_from images rack.plan) (start_state (made_from images rack.plan)) no_holdings log
+  pub released : AreReleased rack log

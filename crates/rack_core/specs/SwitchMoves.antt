@@ -1,10 +1,11 @@
 -- What the switch and a memory blade change in the rack as its coherence sees it, and what is true of every switch.
-use Rattle.std.specs.Prelude.{Option, Some, ◌≡◌, ◌≤◌, ◌<◌, ℕ, true, is_some, List, [], ◌∷◌, ◌++◌}
+use Rattle.std.specs.Prelude.{Option, Some, ◌≡◌, ◌≤◌, ◌<◌, ℕ, true, is_some, List, [], ◌∷◌, ◌++◌, length}
 use Rattle.std.specs.List.{AllByRecursion}
 use Rattle.mind_base.specs.Page.{PageView}
 use Rattle.mind_base.specs.declared.links.LinkKind.{LinkKind}
 use Rattle.mind_base.specs.declared.links.LinkKind.TheVariants.{Up, Down, To, From}
 use Rattle.mind_base.specs.declared.links.LinkName.{LinkName}
+use Rattle.mind_base.specs.declared.plans.RackPlan.{RackPlan}
 use Rattle.page_image.specs.PageImage.{PageImageView}
 use Rattle.protect_table.specs.Protect.{permission_at}
 use Rattle.region_directory.specs.Block.{IsApart}
@@ -89,6 +90,11 @@ pub record IsSoundSwitch (switch : SwitchView) : Type 0 where
   pub blocks : AreEntriesApart switch.directory.entries
   pub entries : AllByRecursion (IsFitEntry 8) switch.directory.entries
   pub region : switch.plan.region ≤ 9
+
+-- the directory has as many slots as the plan says, and no more entries
+pub record HasSlots (plan : RackPlan) (switch : SwitchView) : Type 0 where
+  pub slots : switch.directory.slots ≡ plan.slots
+  pub room : length switch.directory.entries ≤ plan.slots
 
 -- ---- messages to the switch
 

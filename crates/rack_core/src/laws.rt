@@ -10,7 +10,8 @@ ghost use Rattle.coherence.specs.Facts.{may, may_write, IsCoherent};
 ghost use Rattle.mind_base.specs.declared.events.Event.TheVariants.{Step, Drain};
 ghost use Rattle.page_image.specs.PageImage.{PageImageView};
 ghost use Rattle.rack_core.specs.Events.{Leads};
-ghost use Rattle.rack_core.specs.Noted.{AreDone};
+ghost use Rattle.rack_core.specs.Calls.{IsKept};
+ghost use Rattle.rack_core.specs.Noted.{AreInPlace};
 ghost use Rattle.rack_core.specs.Rack.{RackView};
 ghost use Rattle.rack_core.specs.Safe.{IsSafe, IsOfRack, Reaches, AreOfRack};
 ghost use Rattle.rack_core.specs.Seen.{frame_at, region_at, seen};
@@ -86,9 +87,11 @@ pub fn runs_are_runs_of_the_machine()
         → StandsForLog images last (log ++ noted) }
 {}
 
-/// What a rack notes of an event is what its nodes did: that the event begins, and its number, is noted by who
-/// runs it.
-pub fn nodes_note_what_they_did()
+/// Each note that an event adds stands in its place: that a page comes or may be written no longer in a delivery to
+/// its blade; that it is given up there, in an eviction, or by a thread of the blade; that an instruction was executed
+/// or a store took effect in an event of its thread or in a delivery to the thread's blade. That the event begins is
+/// noted by who runs it.
+pub fn notes_stand_in_their_places()
     ensures { (images : List image) (e : event) (old new : RackView) (noted : List note)
-        → Leads images e old new noted → AreDone noted }
+        → IsOfRack e → IsKept old → Leads images e old new noted → AreInPlace old.plan e noted }
 {}

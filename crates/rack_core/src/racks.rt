@@ -6,7 +6,7 @@ ghost use Rattle.compute_blade.specs.Blade.{BeginsWith};
 ghost use Rattle.rack_net.specs.Net.{FindsFrame, FindsKept};
 ghost use Rattle.rack_core.specs.Calls.{HasNoFrame, HasSpentNumber, IsEventFor, IsKept, IsQuiet, KeepsNothing, Notes};
 ghost use Rattle.rack_core.specs.Events.{Leads};
-ghost use Rattle.rack_core.specs.Noted.{AreDone, CarriesOn};
+ghost use Rattle.rack_core.specs.Noted.{AreInPlace, CarriesOn};
 ghost use Rattle.rack_core.specs.Shape.{IsShaped};
 ghost use Rattle.rack_core.specs.StandLog.{StandsForLog};
 ghost use Rattle.rack_core.specs.Start.{IsStart};
@@ -86,9 +86,9 @@ impl Rack {
         ensures leads { OnOk result (Notes (Leads images.now event.now self.old self.new) log.old.notes log.new.notes) }
         ensures kept { OnOk result (IsKept self.new) }
 
-        // The labels noted carry on the run of the machine for which the rack stood; the notes are those of its nodes.
+        // The labels noted carry on the run of the machine for which the rack stood; the notes may stand in the event.
         ensures stands { OnOk result (Notes (CarriesOn images.now self.old self.new) log.old.notes log.new.notes) }
-        ensures done { OnOk result (Notes AreDone log.old.notes log.new.notes) }
+        ensures places { OnOk result (Notes (AreInPlace self.old.plan event.now) log.old.notes log.new.notes) }
         ensures spent { result ≡ Err Spent → HasSpentNumber self.new }
         ensures err { OnErr result (BeginsWith log.old.notes log.new.notes) }
         ensures plan { self.new.plan ≡ self.old.plan }

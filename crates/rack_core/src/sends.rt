@@ -29,6 +29,7 @@ pub(crate) fn send_each(net: &mut Net, link: LinkName, msgs: &[Msg]) -> Result<(
     requires fields { AllByRecursion FieldsAgree msgs.now }
     ensures ok { OnOk result (SendsAll (map (λ msg. (link, msg)) msgs.now) net.old net.new) }
     ensures spent { result ≡ Err Spent → HasSpentLink net.new }
+    ensures net { IsNet net.old → IsNet net.new }
 {
     for msg in msgs {
         send(net, link, msg)?;
@@ -41,6 +42,7 @@ pub(crate) fn send_all(net: &mut Net, msgs: &[(LinkName, Msg)]) -> Result<(), St
     requires { AllByRecursion (λ sent. IsLinkOf net.old sent.0 × FieldsAgree sent.1) msgs.now }
     ensures ok { OnOk result (SendsAll msgs.now net.old net.new) }
     ensures spent { result ≡ Err Spent → HasSpentLink net.new }
+    ensures net { IsNet net.old → IsNet net.new }
 {
     for (link, msg) in msgs {
         send(net, *link, msg)?;

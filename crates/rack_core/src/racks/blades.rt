@@ -10,7 +10,7 @@ ghost use Rattle.mind_base.specs.declared.links.LinkKind.TheVariants.{Up};
 ghost use Rattle.mind_base.specs.declared.plans.ThreadPlan.{ThreadPlan};
 ghost use Rattle.wire_msg.specs.WellFormed.{FieldsAgree};
 ghost use Rattle.compute_blade.specs.Blade.{BeginsWith};
-ghost use Rattle.rack_net.specs.Net.{NetView};
+ghost use Rattle.rack_net.specs.Net.{IsNet, NetView};
 ghost use Rattle.rack_core.specs.Calls.{HasSpentLink, HasSpentNumber, IsKept, Notes};
 ghost use Rattle.rack_core.specs.Events.{Leads, SendsAll, on};
 ghost use Rattle.rack_core.specs.Rack.{with_net};
@@ -84,6 +84,7 @@ impl Rack {
         requires fields { AllByRecursion FieldsAgree sent.now }
         ensures ok { OnOk result ((net : NetView) × SendsAll (on Up number sent.now) self.old.net net × (self.new ≡ with_net net self.old)) }
         ensures spent { result ≡ Err Spent → HasSpentLink self.new.net }
+        ensures net { IsNet self.old.net → IsNet self.new.net }
         ensures plan { self.new.plan ≡ self.old.plan }
     {
         let kind = LinkKind::Up;

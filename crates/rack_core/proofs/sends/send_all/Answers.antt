@@ -15,4 +15,5 @@ loop-link-preserved c =
           (subst (λ ms. SendsOnward ms c.args.msgs.now c.args.net.now c.loop-link.net) here c.loop-link.invariant.0) c.in_ok-send.ensures.ok,
       still-links sent.0 sent.1 c.loop-link.net c.send.new.net c.in_ok-send.ensures.ok rest
           (subst (AllByRecursion (λ m. IsLinkOf c.loop-link.net m.0 × FieldsAgree m.1)) here c.loop-link.invariant.1).1,
+      λ was. c.send.ensures.net,
     )

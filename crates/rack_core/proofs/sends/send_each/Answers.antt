@@ -14,4 +14,5 @@ loop-msg-preserved c =
           (subst (λ ms. SendsOnward (on ms) (on c.args.msgs.now) c.args.net.now c.loop-msg.net) here c.loop-msg.invariant.0) c.in_ok-send.ensures.ok,
       still-link c.args.link c.args.link c.msg-item.result c.loop-msg.net c.send.new.net c.in_ok-send.ensures.ok c.loop-msg.invariant.1,
       (subst (AllByRecursion FieldsAgree) here c.loop-msg.invariant.2).1,
+      λ was. c.send.ensures.net,
     )

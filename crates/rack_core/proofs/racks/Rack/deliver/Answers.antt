@@ -18,7 +18,7 @@ deliver-requires c = subst (λ (r : RackView). IsLinkOf r.net c.args.link) (sym 
 pub hand_all-requires-clause-shape : goal.hand_all-requires-clause-shape
 hand_all-requires-clause-shape c =
     let inside : RackView = record { plan = c.self.inside.plan; blades = c.self.inside.blades.items; switch = c.self.inside.switch; memories = c.self.inside.memories.items; net = c.self.inside.net; asked = c.self.inside.asked } in
-    shape-only c.args.link inside c.deliver.new.self c.in_ok-taken.ensures.only (subst IsShaped (sym c.self.view_is) c.requires.kept.shape)
+    shape-only c.args.link inside c.deliver.new.self c.in_ok-taken.ensures.only c.deliver.ensures.net (subst IsShaped (sym c.self.view_is) c.requires.kept.shape)
 
 pub hand_all-requires-clause-handing : goal.hand_all-requires-clause-handing
 hand_all-requires-clause-handing c =

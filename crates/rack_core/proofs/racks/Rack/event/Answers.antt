@@ -1,6 +1,6 @@
 use Rattle.rack_core.proofs.CodeBlades.{when-ok, both-ok}
 use Rattle.rack_core.proofs.CodeEvents.{kept-after, of-rack}
-use Rattle.rack_core.proofs.NotedEvents.{leads-done}
+use Rattle.rack_core.proofs.NotedEvents.{places_of, shaped-own}
 use Rattle.rack_core.proofs.StandLogs.{event-logs}
 use Rattle.rack_core.proofs.StandShaped.{shaped-counted}
 use Rattle.rack_core.proofs.racks.Rack.event.Goals as goal
@@ -20,7 +20,12 @@ returns-clause-stands c = both-ok c.lead.result
     ))
     c.lead.ensures.shape c.lead.ensures.leads
 
-pub returns-clause-done : goal.returns-clause-done
-returns-clause-done c = when-ok c.lead.result
-    (λ leads. (leads.0, leads-done c.args.images.now c.args.event.now c.args.self.now c.lead.new.self leads.0 leads.1, leads.2))
+pub returns-clause-places : goal.returns-clause-places
+returns-clause-places c = when-ok c.lead.result
+    (λ leads. (
+      leads.0,
+      places_of c.args.images.now c.args.event.now c.args.self.now c.lead.new.self leads.0
+          (of-rack c.args.self.now.plan c.args.event.now c.requires.kept.shape.fit c.requires.fits) c.requires.kept.safe (shaped-own c.args.self.now c.requires.kept.shape) leads.1,
+      leads.2,
+    ))
     c.lead.ensures.leads

@@ -2,6 +2,7 @@ use Rattle.std.proofs.Common.{ap, sym, subst, [], Some}
 use Rattle.compute_blade.specs.Blade.{Did}
 use Rattle.compute_blade.specs.Pages.{given_up}
 use Rattle.compute_blade.proofs.Acting.{gives}
+use Rattle.rack_net.specs.Net.{IsNet}
 use Rattle.rack_core.specs.Rack.{RackView}
 use Rattle.rack_core.proofs.CodeBlades.{IsAtPlace, went, blade-did, did-agrees, shape-went, when-ok, of-net, number-within}
 use Rattle.rack_core.proofs.racks.Rack.evict.Goals as goal
@@ -36,5 +37,6 @@ returns-clause-shape c =
     let at : IsAtPlace inside c.args.self.now c.from.result c.args.number c.index_mut.result.now = record { view = c.self.view_is; index = c.from.ensures; value = c.index_mut.ensures.value; within = number-within c.args.number c.args.self.now c.requires.kept.shape c.requires.number } in
     when-ok c.send_up.result
     (λ done. shape-went c.args.number c.index_mut.result.now c.evict.new.self c.as_slice.result.now c.args.self.now c.send_up.new.self
-    (went inside c.args.self.now c.send_up.new.self c.from.result c.args.number c.index_mut.result.now c.evict.new.self c.as_slice.result.now at done) c.evict.ensures.keeps c.requires.kept.shape)
+    (went inside c.args.self.now c.send_up.new.self c.from.result c.args.number c.index_mut.result.now c.evict.new.self c.as_slice.result.now at done)
+    c.evict.ensures.keeps (c.send_up.ensures.net (subst (λ (r : RackView). IsNet r.net) (sym c.self.view_is) c.requires.kept.shape.net)) c.requires.kept.shape)
     c.send_up.ensures.ok

@@ -5,6 +5,7 @@ use Rattle.mind_base.specs.declared.plans.RackPlan.{RackPlan}
 use Rattle.compute_blade.specs.Blade.{Did}
 use Rattle.compute_blade.specs.Messages.{after_message}
 use Rattle.compute_blade.proofs.Acting.{message_acts}
+use Rattle.rack_net.specs.Net.{IsNet}
 use Rattle.rack_core.specs.Rack.{RackView}
 use Rattle.rack_core.proofs.CodeBlades.{IsAtPlace, there, went, blade-plan, some-spent, spent-place, blade-did, did-agrees, shape-went, when-ok, of-net, number-within}
 use Rattle.rack_core.proofs.racks.Rack.hand_down.Goals as goal
@@ -57,5 +58,6 @@ returns-clause-shape c =
     let at : IsAtPlace inside c.args.self.now c.from.result c.args.number c.index_mut.result.now = record { view = c.self.view_is; index = c.from.ensures; value = c.index_mut.ensures.value; within = number-within c.args.number c.args.self.now c.requires.shape c.requires.number } in
     when-ok c.send_up.result
     (λ done. shape-went c.args.number c.index_mut.result.now c.receive.new.self c.as_slice.result.now c.args.self.now c.send_up.new.self
-    (went inside c.args.self.now c.send_up.new.self c.from.result c.args.number c.index_mut.result.now c.receive.new.self c.as_slice.result.now at done) c.receive.ensures.keeps c.requires.shape)
+    (went inside c.args.self.now c.send_up.new.self c.from.result c.args.number c.index_mut.result.now c.receive.new.self c.as_slice.result.now at done)
+    c.receive.ensures.keeps (c.send_up.ensures.net (subst (λ (r : RackView). IsNet r.net) (sym c.self.view_is) c.requires.shape.net)) c.requires.shape)
     c.send_up.ensures.ok

@@ -30,7 +30,7 @@ returns-in_default-clause-shape c =
     (memory-within c.args.number c.args.self.now c.requires.shape c.requires.number) in
     memory-shape c.args.number None c.handle.new.self c.args.self.now _ c.args.self.now.net refl
     (memory-at inside c.args.self.now c.from.result c.args.number c.handle.new.self inside.net c.self.view_is c.from.ensures
-    ∙ ap (λ net. with_net net (with_memory c.args.number c.handle.new.self c.args.self.now)) (ap (λ (rack : RackView). rack.net) c.self.view_is)) c.requires.shape
+    ∙ ap (λ net. with_net net (with_memory c.args.number c.handle.new.self c.args.self.now)) (ap (λ (rack : RackView). rack.net) c.self.view_is)) c.requires.shape.net c.requires.shape
 
 pub returns-clause-ok : goal.returns-clause-ok
 returns-clause-ok c =
@@ -52,5 +52,5 @@ returns-clause-shape c =
     when-ok c.send.result
     (λ sends. memory-shape c.args.number (Some c.in-Some.answer) c.handle.new.self c.args.self.now _ c.send.new.net
     (subst (λ (rack : RackView). SendsAll (answers c.args.number (Some c.in-Some.answer)) rack.net c.send.new.net) c.self.view_is (one-sent (record { kind = From; number = c.args.number }) c.in-Some.answer inside.net c.send.new.net sends))
-    (memory-at inside c.args.self.now c.from.result c.args.number c.handle.new.self c.send.new.net c.self.view_is c.from.ensures) c.requires.shape)
+    (memory-at inside c.args.self.now c.from.result c.args.number c.handle.new.self c.send.new.net c.self.view_is c.from.ensures) c.send.ensures.net c.requires.shape)
     c.send.ensures.ok

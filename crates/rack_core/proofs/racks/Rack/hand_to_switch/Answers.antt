@@ -10,5 +10,5 @@ returns-clause-shape c =
     let inside : RackView = record { plan = c.self.inside.plan; blades = c.self.inside.blades.items; switch = c.self.inside.switch; memories = c.self.inside.memories.items; net = c.self.inside.net; asked = c.self.inside.asked } in
     when-ok c.send_all.result
     (λ sends. switch-shape inside (with_net c.send_all.new.net (with_switch c.receive.new.self inside)) c.receive.new.self c.send_all.new.net c.as_slice.result.now sends refl
-    c.receive.ensures.remains.plan (subst IsShaped (sym c.self.view_is) c.requires.shape))
+    c.receive.ensures.remains c.in_ok-receive.ensures.switch c.send_all.ensures.net (subst IsShaped (sym c.self.view_is) c.requires.shape))
     c.send_all.ensures.ok

@@ -8,4 +8,4 @@ use Rattle.rack_core.proofs.racks.Rack.repeat.Goals as goal
 pub returns-clause-shape : goal.returns-clause-shape
 returns-clause-shape c =
     let was : RackView = record { plan = c.self.inside.plan; blades = c.self.inside.blades.items; switch = c.self.inside.switch; memories = c.self.inside.memories.items; net = c.self.inside.net; asked = c.self.inside.asked } in
-    when-ok c.repeat.result (λ only. shape-only c.args.link was c.repeat.new.self only (subst IsShaped (sym c.self.view_is) c.requires.shape)) c.repeat.ensures.only
+    when-ok c.repeat.result (λ only. shape-only c.args.link was c.repeat.new.self only c.repeat.ensures.net (subst IsShaped (sym c.self.view_is) c.requires.shape)) c.repeat.ensures.only

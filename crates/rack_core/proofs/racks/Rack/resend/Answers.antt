@@ -8,4 +8,4 @@ use Rattle.rack_core.proofs.racks.Rack.resend.Goals as goal
 pub returns-clause-shape : goal.returns-clause-shape
 returns-clause-shape c =
     let was : RackView = record { plan = c.self.inside.plan; blades = c.self.inside.blades.items; switch = c.self.inside.switch; memories = c.self.inside.memories.items; net = c.self.inside.net; asked = c.self.inside.asked } in
-    when-ok c.resend.result (λ only. shape-only c.args.link was c.resend.new.self only (subst IsShaped (sym c.self.view_is) c.requires.shape)) c.resend.ensures.only
+    when-ok c.resend.result (λ only. shape-only c.args.link was c.resend.new.self only c.resend.ensures.net (subst IsShaped (sym c.self.view_is) c.requires.shape)) c.resend.ensures.only

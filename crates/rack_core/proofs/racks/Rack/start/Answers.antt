@@ -2,6 +2,7 @@ use Rattle.std.proofs.Common.{◌≡◌, ◌∙◌, ap, map, refl, length, rules
 use Rattle.rack_core.specs.Rack.{RackView}
 use Rattle.rack_core.specs.Start.{IsStart, first_memory}
 use Rattle.rack_core.proofs.CodeStarts.{first-shape}
+use Rattle.rack_core.proofs.Served.{start-served}
 use Rattle.rack_core.proofs.StandStarts.{start-logs}
 use Rattle.rack_core.proofs.Starting.{starts}
 use Rattle.rack_core.proofs.racks.Rack.start.Goals as goal
@@ -29,7 +30,7 @@ returns-clause-kept c =
     let start : IsStart c.args.plan.now rack = returns-clause-start c in
     let blades : rack.net.blades ≡ length c.args.plan.now.frames = first_of (search rules, grind (arith)) in
     let memories : rack.net.memories ≡ length c.args.plan.now.memories = first_of (search rules, grind (arith)) in
-    record { shape = first-shape c.args.plan.now rack c.requires start c.in_ok-blades.ensures.shape blades memories; safe = starts c.args.plan.now rack c.requires start }
+    record { shape = first-shape c.args.plan.now rack c.requires start c.in_ok-blades.ensures.shape blades memories c.in_ok-net.ensures.net c.in_ok-switch.ensures.switch; safe = starts c.args.plan.now rack c.requires start; served = start-served c.args.plan.now rack start }
 
 pub returns-clause-stands : goal.returns-clause-stands
 returns-clause-stands c = λ images.

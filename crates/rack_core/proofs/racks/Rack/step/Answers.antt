@@ -5,6 +5,7 @@ use Rattle.mind_base.specs.declared.plans.RackPlan.{RackPlan}
 use Rattle.compute_blade.specs.Blade.{BladeView, DidSome, HasSpent}
 use Rattle.compute_blade.specs.Steps.{after_step}
 use Rattle.compute_blade.proofs.Acting.{step_acts}
+use Rattle.rack_net.specs.Net.{IsNet}
 use Rattle.rack_core.specs.Rack.{RackView}
 use Rattle.rack_core.proofs.CodeBlades.{IsAtPlace, there, went, spent-place, blade-within, blade-own, blade-plan, blade-did, hart-did, did-agrees, shape-went, when-ok, of-net}
 use Rattle.rack_core.proofs.racks.Rack.step.Goals as goal
@@ -58,5 +59,5 @@ returns-clause-shape c =
     let at : IsAtPlace inside c.args.self.now c.from.result c.blade_of-number.result c.index_mut.result.now = record { view = c.self.view_is; index = c.from.ensures; value = c.index_mut.ensures.value; within = blade-within c.args.self.now c.args.hart c.blade_of-number.result c.requires.kept.shape c.blade_of-number.ensures } in
     when-ok c.send_up.result
     (λ done. shape-went c.blade_of-number.result c.index_mut.result.now c.step.new.self c.as_slice.result.now c.args.self.now c.send_up.new.self (went inside c.args.self.now c.send_up.new.self c.from.result c.blade_of-number.result c.index_mut.result.now c.step.new.self c.as_slice.result.now at done)
-    c.step.ensures.keeps c.requires.kept.shape)
+    c.step.ensures.keeps (c.send_up.ensures.net (subst (λ (r : RackView). IsNet r.net) (sym c.self.view_is) c.requires.kept.shape.net)) c.requires.kept.shape)
     c.send_up.ensures.ok
