@@ -1,0 +1,4 @@
+pub mod Draw
+pub mod Generator
+pub mod Line
+pub mod Wire

@@ -1,0 +1,167 @@
+ghost use Rattle.std.specs.Prelude.{◌≡◌, ◌++◌, ◌∷◌, [], ◌%◌, ◌<◌, ◌≤◌, codes, length, OnOk};
+ghost use Rattle.std.specs.Fmt.{decimal};
+ghost use Rattle.rack_gen.specs.Draw.{draw, state_after};
+ghost use Rattle.rack_gen.specs.Line.{wire_at, line_at, draws_of, event_of, line_text, spaced};
+ghost use Rattle.rack_gen.specs.Wire.{name_of};
+
+use crate::draws::Generator;
+use crate::texts::put_decimal;
+use crate::wires::{Wire, put_name};
+use mind_base::{Event, NoMemory};
+use std::alloc::Global;
+
+/// What a line of a generated schedule says.
+#[derive(Clone, Copy, Debug, PartialEq, Eq)]
+pub enum Line {
+    Step { hart: u8 },
+    Drain { hart: u8 },
+    Deliver { wire: Wire, k: u32 },
+    Lose { wire: Wire, k: u32 },
+    Repeat { wire: Wire, k: u32 },
+    Epoch,
+    Settle,
+}
+
+/// A frame that a line names: its wire, and its number there.
+#[derive(Clone, Copy, Debug)]
+struct Frame {
+    wire: Wire,
+    k: u32,
+}
+
+/// Draws a line, for so many threads and these wires.
+#[tactic(auto, unfolding(crate::specs::Line::line_at))]
+pub fn draw_line(generator: &mut Generator, threads: u8, wires: &[Wire]) -> Line
+    requires threads { 0 < threads }
+    requires some { 0 < length wires.now }
+    requires few { length wires.now ≤ 64 }
+    ensures line { result ≡ line_at threads wires.now generator.old.state }
+    ensures state { generator.new.state ≡ state_after (draws_of result) generator.old.state }
+{
+    match generator.next() % 16 {
+        0..=7 => Line::Step {
+            hart: draw_hart(generator, threads),
+        },
+        8..=10 => Line::Drain {
+            hart: draw_hart(generator, threads),
+        },
+        11..=12 => {
+            let Frame { wire, k } = draw_frame(generator, wires);
+            Line::Deliver { wire, k }
+        }
+        13 => {
+            let Frame { wire, k } = draw_frame(generator, wires);
+            Line::Lose { wire, k }
+        }
+        14 => {
+            let Frame { wire, k } = draw_frame(generator, wires);
+            Line::Repeat { wire, k }
+        }
+        _ => if generator.next() % 4 == 0 {
+            Line::Epoch
+        } else {
+            Line::Settle
+        },
+    }
+}
+
+fn draw_hart(generator: &mut Generator, threads: u8) -> u8
+    requires { 0 < threads }
+    ensures hart { result ≡ draw 1 generator.old.state % threads }
+    ensures state { generator.new.state ≡ state_after 1 generator.old.state }
+{
+    (generator.next() % u32::from(threads)) as u8
+}
+
+fn draw_frame(generator: &mut Generator, wires: &[Wire]) -> Frame
+    requires some { 0 < length wires.now }
+    requires few { length wires.now ≤ 64 }
+    ensures wire { result.wire ≡ wire_at wires.now (draw 1 generator.old.state) }
+    ensures k { result.k ≡ draw 2 generator.old.state % 4 }
+    ensures state { generator.new.state ≡ state_after 2 generator.old.state }
+{
+    let place = generator.next() as usize % wires.len();
+    let k = generator.next() % 4;
+    Frame {
+        wire: wires[place],
+        k,
+    }
+}
+
+/// The event that a line stands for.
+pub fn event(line: Line) -> Event
+    ensures { result ≡ event_of line }
+{
+    match line {
+        Line::Step { hart } => Event::Step { hart },
+        Line::Drain { hart } => Event::Drain { hart },
+        Line::Deliver { wire, k } => Event::Deliver {
+            link: wire.link,
+            side: wire.side,
+            k,
+        },
+        Line::Lose { wire, k } => Event::Lose {
+            link: wire.link,
+            side: wire.side,
+            k,
+        },
+        Line::Repeat { wire, k } => Event::Repeat {
+            link: wire.link,
+            side: wire.side,
+            k,
+        },
+        Line::Epoch => Event::Epoch,
+        Line::Settle => Event::Settle,
+    }
+}
+
+/// The text of a line, with its end.
+pub fn put_line(alloc: Global, out: &mut Vec<u8>, line: Line) -> Result<(), NoMemory>
+    ensures { OnOk result (out.new.items ≡ out.old.items ++ line_text line) }
+{
+    match line {
+        Line::Step { hart } => put_of_hart(alloc, out, b"step", hart),
+        Line::Drain { hart } => put_of_hart(alloc, out, b"drain", hart),
+        Line::Deliver { wire, k } => put_of_frame(alloc, out, b"deliver", wire, k),
+        Line::Lose { wire, k } => put_of_frame(alloc, out, b"lose", wire, k),
+        Line::Repeat { wire, k } => put_of_frame(alloc, out, b"repeat", wire, k),
+        Line::Epoch => put_alone(out, b"epoch"),
+        Line::Settle => put_alone(out, b"settle"),
+    }
+}
+
+fn put_of_hart(alloc: Global, out: &mut Vec<u8>, word: &[u8], hart: u8) -> Result<(), NoMemory>
+    ensures { OnOk result (out.new.items ≡ out.old.items ++ (spaced (word.now ∷ decimal hart ∷ []) ++ codes "\n")) }
+{
+    out.extend_from_slice(word)?;
+    out.extend_from_slice(b" ")?;
+    put_decimal(alloc, out, u32::from(hart))?;
+    out.extend_from_slice(b"\n")?;
+    Ok(())
+}
+
+fn put_of_frame(
+    alloc: Global,
+    out: &mut Vec<u8>,
+    word: &[u8],
+    wire: Wire,
+    k: u32,
+) -> Result<(), NoMemory>
+    ensures { OnOk result (out.new.items ≡ out.old.items ++ (spaced (word.now ∷ name_of wire ∷ decimal k ∷ []) ++ codes "\n")) }
+{
+    out.extend_from_slice(word)?;
+    out.extend_from_slice(b" ")?;
+    put_name(alloc, out, wire)?;
+    out.extend_from_slice(b" ")?;
+    put_decimal(alloc, out, k)?;
+    out.extend_from_slice(b"\n")?;
+    Ok(())
+}
+
+fn put_alone(out: &mut Vec<u8>, word: &[u8]) -> Result<(), NoMemory>
+    ensures { OnOk result (out.new.items ≡ out.old.items ++ (word.now ++ codes "\n")) }
+{
+    out.extend_from_slice(word)?;
+    out.extend_from_slice(b"\n")?;
+    Ok(())
+}

@@ -1,0 +1,105 @@
+ghost use Rattle.std.specs.Prelude.{◌≡◌, ◌+◌, ◌*◌, ◌++◌, length, IfOk, OnOk};
+ghost use Rattle.mind_base.specs.declared.links.LinkKind.TheVariants.{Up, Down, To, From};
+ghost use Rattle.rack_gen.specs.Wire.{wires_of_link, wires_between, letter_of, side_mark, name_of};
+
+use crate::texts::put_decimal;
+use mind_base::{LinkKind, LinkName, NoMemory, Side};
+use std::alloc::Global;
+
+/// A wire of the rack: its link, and whether it carries the messages or their acknowledgements.
+#[derive(Clone, Copy, Debug, PartialEq, Eq)]
+pub struct Wire {
+    pub link: LinkName,
+    pub side: Side,
+}
+
+/// The wires of a rack with so many compute and memory blades, in order.
+pub fn make_wires(alloc: Global, blades: u8, memories: u8) -> Result<Vec<Wire>, NoMemory>
+    ensures wires { IfOk result (λ wires. wires.items ≡ wires_between Up Down blades ++ wires_between To From memories) }
+    ensures four { IfOk result (λ wires. length wires.items ≡ 4 * (blades + memories)) }
+{
+    let mut wires = Vec::new(alloc);
+    push_wires(&mut wires, LinkKind::Up, LinkKind::Down, blades)?;
+    push_wires(&mut wires, LinkKind::To, LinkKind::From, memories)?;
+    Ok(wires)
+}
+
+#[tactic(auto, unfolding(crate::specs::Wire::wires_between))]
+fn push_wires(
+    wires: &mut Vec<Wire>,
+    one: LinkKind,
+    other: LinkKind,
+    blades: u8,
+) -> Result<(), NoMemory>
+    ensures { OnOk result (wires.new.items ≡ wires.old.items ++ wires_between one other blades) }
+{
+    for number in 0..blades {
+        push_links(wires, one, other, number)?;
+    }
+    Ok(())
+}
+
+fn push_links(
+    wires: &mut Vec<Wire>,
+    one: LinkKind,
+    other: LinkKind,
+    number: u8,
+) -> Result<(), NoMemory>
+    ensures { OnOk result (wires.new.items ≡ wires.old.items ++ (wires_of_link one number ++ wires_of_link other number)) }
+{
+    let one = LinkName { kind: one, number };
+    let other = LinkName {
+        kind: other,
+        number,
+    };
+    let four = [
+        Wire {
+            link: one,
+            side: Side::Messages,
+        },
+        Wire {
+            link: one,
+            side: Side::Acks,
+        },
+        Wire {
+            link: other,
+            side: Side::Messages,
+        },
+        Wire {
+            link: other,
+            side: Side::Acks,
+        },
+    ];
+    wires.extend_from_slice(&four)?;
+    Ok(())
+}
+
+fn letter(kind: LinkKind) -> &'static [u8]
+    ensures { result.now ≡ letter_of kind }
+{
+    match kind {
+        LinkKind::Up => b"u",
+        LinkKind::Down => b"d",
+        LinkKind::To => b"t",
+        LinkKind::From => b"f",
+    }
+}
+
+fn mark(side: Side) -> &'static [u8]
+    ensures { result.now ≡ side_mark side }
+{
+    match side {
+        Side::Messages => b"",
+        Side::Acks => b"a",
+    }
+}
+
+/// The name of a wire.
+pub fn put_name(alloc: Global, out: &mut Vec<u8>, wire: Wire) -> Result<(), NoMemory>
+    ensures { OnOk result (out.new.items ≡ out.old.items ++ name_of wire) }
+{
+    out.extend_from_slice(letter(wire.link.kind))?;
+    put_decimal(alloc, out, u32::from(wire.link.number))?;
+    out.extend_from_slice(mark(wire.side))?;
+    Ok(())
+}

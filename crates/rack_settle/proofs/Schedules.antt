@@ -1,0 +1,390 @@
+-- The labels of a schedule's stretches, and of a schedule whose events are settled one by one.
+use Rattle.std.proofs.Common.{◌≡◌, ◌⊎◌, inl, inr, ℕ, suc, ◌+◌, ◌∙◌, ap, sym, refl, subst, List, [], ◌∷◌, ◌++◌, length, slice_get, Some, append-nil, arith}
+use Rattle.std.specs.List.{AllByRecursion, flat_map}
+use Rattle.std.specs.List.Sorted.{IsPermutation}
+use Rattle.std.proofs.lemmas.List.{append_assoc}
+use Rattle.std.proofs.lemmas.List.Elements.{filter_map-append}
+use Rattle.mind_base.specs.Fit.{IsFit}
+use Rattle.mind_base.specs.declared.events.Event.{Event}
+use Rattle.mind_base.specs.declared.events.Event.TheVariants.{Step, Drain, Evict, Deliver, Lose, Repeat, Resend, Epoch, Ask, Settle}
+use Rattle.mind_base.specs.declared.images.Image.{Image}
+use Rattle.mind_base.specs.declared.notes.Note.{Note}
+use Rattle.mind_base.specs.declared.notes.Note.TheVariants as note
+use Rattle.mind_base.specs.declared.plans.RackPlan.{RackPlan}
+use Rattle.rack_net.specs.Net.{NetView}
+use Rattle.tso_machine.specs.Replay.{Whole, label_of, labels, replay}
+use Rattle.tso_machine.specs.State.{start_state}
+use Rattle.rack_core.specs.Calls.{IsEventFor}
+use Rattle.rack_core.specs.Events.{Leads}
+use Rattle.rack_core.specs.Rack.{RackView}
+use Rattle.rack_core.specs.Safe.{IsSafe, IsOfRack, AreOfRack, Reaches}
+use Rattle.rack_core.specs.StandLog.{StandsForLog, made_from}
+use Rattle.rack_core.specs.StandRuns.{AreCounted}
+use Rattle.rack_core.specs.Start.{IsStart}
+use Rattle.rack_core.specs.Waits.{AreNeeded}
+use Rattle.rack_core.proofs.CodeEvents.{of-rack}
+use Rattle.rack_core.proofs.StandCounts.{BladesStay, blades-same, blades-then, counted-before}
+use Rattle.rack_core.proofs.StandLogs.{runs-log, runs-stay}
+use Rattle.rack_core.proofs.StandStarts.{start-logs}
+use Rattle.rack_core.proofs.WaitsRuns.{run_needs, start_needs}
+use Rattle.rack_core.proofs.Whole.{run_keeps-all}
+use Rattle.rack_settle.specs.Labels.{owed, all_asked, AsksNothing, AskNothing, IsOneEach, LeadsAndSettles, SettlesEach, settled_labels}
+use Rattle.rack_settle.specs.Ran.{IsRunFor, LeadsOrSettles, Ran}
+use Rattle.rack_settle.specs.Settled.{IsTurn, AreTurns, Settles}
+use Rattle.rack_settle.specs.Stretches.{IsNoSettling, EndSettled, IsStretch, HasItsLabels, AreSettledEach, HasSettledLabels}
+use Rattle.rack_settle.proofs.LabelRuns.{quiet-owes, start-owes, safe-log, stretch-settles, settles-start}
+use Rattle.rack_settle.proofs.Rans.{stands-noted}
+
+-- ---- lists
+
+all-front : {X : Type 0} (P : X → Type 0) (xs ys : List X) → AllByRecursion P (xs ++ ys) → AllByRecursion P xs
+all-front P [] ys all = tt
+all-front P (x ∷ xs) ys all = (all.0, all-front P xs ys all.1)
+
+all-behind : {X : Type 0} (P : X → Type 0) (xs ys : List X) → AllByRecursion P (xs ++ ys) → AllByRecursion P ys
+all-behind P [] ys all = all
+all-behind P (x ∷ xs) ys all = all-behind P xs ys all.1
+
+-- ---- the events by which a schedule's event leads on
+
+turns-reach : (images : List Image) (turns : List Event) (first last : RackView) (noted : List Note) → AreTurns images turns first last noted → Reaches images turns first last noted
+turns-reach images [] first last noted taken = taken
+turns-reach images (turn ∷ turns) first last noted (mid, now, later, is, leads, rest, split) = (mid, now, later, leads, turns-reach images turns mid last later rest, split)
+
+turn-asks : (net : NetView) (turn : Event) → IsTurn net turn → AsksNothing turn
+turn-asks net (Deliver link side k) is = tt
+turn-asks net (Resend link) is = tt
+turn-asks net (Step hart) is = absurd is
+turn-asks net (Drain hart) is = absurd is
+turn-asks net (Evict blade page) is = absurd is
+turn-asks net (Lose link side k) is = absurd is
+turn-asks net (Repeat link side k) is = absurd is
+turn-asks net Epoch is = absurd is
+turn-asks net (Ask command) is = absurd is
+turn-asks net Settle is = absurd is
+
+turns-ask : (images : List Image) (turns : List Event) (first last : RackView) (noted : List Note) → AreTurns images turns first last noted → AskNothing turns
+turns-ask images [] first last noted taken = tt
+turns-ask images (turn ∷ turns) first last noted (mid, now, later, is, leads, rest, split) = (turn-asks first.net turn is, turns-ask images turns mid last later rest)
+
+all-of-rack : (plan : RackPlan) → IsFit plan → (events : List Event) → AllByRecursion (IsEventFor plan) events → AreOfRack events
+all-of-rack plan fit [] all = tt
+all-of-rack plan fit (event ∷ events) all = (of-rack plan event fit all.0, all-of-rack plan fit events all.1)
+
+-- the rack is reached by events that each lead on by themselves
+record IsReached (images : List Image) (old new : RackView) (noted : List Note) : Type 0 where
+  events : List Event
+  fits : AreOfRack events
+  reaches : Reaches images events old new noted
+
+settles-reach : (images : List Image) (plan : RackPlan) (old new : RackView) (noted : List Note) → IsFit plan → old.plan ≡ plan → Settles images old new noted → IsReached images old new noted
+settles-reach images plan old new noted fit same settles = record {
+  events = settles.turns;
+  fits = all-of-rack plan fit settles.turns (subst (λ p. AllByRecursion (IsEventFor p) settles.turns) same settles.fits);
+  reaches = turns-reach images settles.turns old new noted settles.taken;
+}
+
+-- an event that is no settling
+alone : (images : List Image) (plan : RackPlan) (event : Event) (old new : RackView) (noted : List Note) → IsRunFor plan event → Leads images event old new noted → IsEventFor plan event
+alone images plan event old new noted (inl is) leads = absurd (subst (λ e. Leads images e old new noted) is leads)
+alone images plan event old new noted (inr fits) leads = fits
+
+event-reaches : (images : List Image) (plan : RackPlan) (event : Event) (old new : RackView) (noted : List Note) → IsFit plan → old.plan ≡ plan → IsRunFor plan event → LeadsOrSettles images event old new noted
+    → IsReached images old new noted
+event-reaches images plan event old new noted fit same fits (inl (is, settles)) = settles-reach images plan old new noted fit same settles
+event-reaches images plan event old new noted fit same fits (inr leads) = record {
+  events = event ∷ [];
+  fits = (of-rack plan event fit (alone images plan event old new noted fits leads), tt);
+  reaches = (new, noted, [], leads, (refl, refl), sym (append-nil noted));
+}
+
+-- ---- what is true of the rack behind each event
+
+record IsAhead (images : List Image) (plan : RackPlan) (rack : RackView) (log : List Note) : Type 0 where
+  same : rack.plan ≡ plan
+  stands : StandsForLog images rack log
+  needed : AreNeeded images rack
+
+starts-ahead : (images : List Image) (plan : RackPlan) (first : RackView) → IsFit plan → IsStart plan first → IsAhead images plan first []
+starts-ahead images plan first fit start =
+    record { same = start.of_plan; stands = start-logs images plan first fit start; needed = start_needs images plan first start }
+
+event-ahead : (images : List Image) (plan : RackPlan) (event : Event) (index : ℕ) (old new : RackView) (log added : List Note) → IsFit plan → IsRunFor plan event → IsAhead images plan old log
+    → LeadsOrSettles images event old new added → AreCounted new → IsAhead images plan new (log ++ note.Event index ∷ added)
+event-ahead images plan event index old new log added fit fits ahead leads counted =
+    let r = event-reaches images plan event old new added fit ahead.same fits leads in
+    let safe = safe-log images old log ahead.stands in
+    let stay = runs-stay images r.events old new added r.fits safe r.reaches in
+    let stands = runs-log images r.events old new (log ++ note.Event index ∷ []) added r.fits (stands-noted images old log index ahead.stands) r.reaches counted in
+    record {
+      same = stay.plan ∙ ahead.same;
+      stands = subst (StandsForLog images new) (append_assoc log (note.Event index ∷ []) added) stands;
+      needed = run_needs images r.events old new added r.fits safe r.reaches ahead.needed;
+    }
+
+ran-stays : (images : List Image) (plan : RackPlan) (from : ℕ) (events : List Event) (first last : RackView) (notes : List Note) → IsFit plan → AllByRecursion (IsRunFor plan) events → first.plan ≡ plan → IsSafe first
+    → Ran images from events first last notes → BladesStay first last
+ran-stays images plan from [] first last notes fit fits same safe ran = blades-same first last (ap (λ (r : RackView). r.plan) ran.0) (ap (λ (r : RackView). r.blades) ran.0)
+ran-stays images plan from (event ∷ events) first last notes fit fits same safe (mid, added, later, leads, stand, rest, split) =
+    let r = event-reaches images plan event first mid added fit same fits.0 leads in
+    let stay = runs-stay images r.events first mid added r.fits safe r.reaches in
+    blades-then first mid last stay
+    (ran-stays images plan (suc from) events mid last later fit fits.1 (stay.plan ∙ same) (run_keeps-all images r.events first mid added r.fits safe r.reaches) rest)
+
+ran-ahead : (images : List Image) (plan : RackPlan) (from : ℕ) (events : List Event) (first last : RackView) (log notes : List Note) → IsFit plan → AllByRecursion (IsRunFor plan) events
+    → IsAhead images plan first log → Ran images from events first last notes → AreCounted last → IsAhead images plan last (log ++ notes)
+ran-ahead images plan from [] first last log notes fit fits ahead (same, none) counted =
+    subst (λ ns. IsAhead images plan last (log ++ ns)) (sym none) (subst (IsAhead images plan last) (sym (append-nil log)) (subst (λ r. IsAhead images plan r log) (sym same) ahead))
+ran-ahead images plan from (event ∷ events) first last log notes fit fits ahead (mid, added, later, leads, stand, rest, split) counted =
+    let r = event-reaches images plan event first mid added fit ahead.same fits.0 leads in
+    let safe = safe-log images first log ahead.stands in
+    let stay = runs-stay images r.events first mid added r.fits safe r.reaches in
+    let onward = ran-stays images plan (suc from) events mid last later fit fits.1 (stay.plan ∙ ahead.same) (run_keeps-all images r.events first mid added r.fits safe r.reaches) rest in
+    let one = event-ahead images plan event from first mid log added fit fits.0 ahead leads (counted-before mid last onward counted) in
+    let all = ran-ahead images plan (suc from) events mid last (log ++ note.Event from ∷ added) later fit fits.1 one rest counted in
+    subst (λ ns. IsAhead images plan last (log ++ ns)) (sym split) (subst (IsAhead images plan last) (append_assoc log (note.Event from ∷ added) later) all)
+
+-- ---- parts of a run
+
+-- it goes through the first events, and then through the others
+record RanInParts (images : List Image) (from : ℕ) (xs ys : List Event) (first last : RackView) (notes : List Note) : Type 0 where
+  mid : RackView
+  one : List Note
+  two : List Note
+  before : Ran images from xs first mid one
+  behind : Ran images (from + length xs) ys mid last two
+  split : notes ≡ one ++ two
+
+ran-parts : (images : List Image) (from : ℕ) (xs ys : List Event) (first last : RackView) (notes : List Note) → Ran images from (xs ++ ys) first last notes → RanInParts images from xs ys first last notes
+ran-parts images from [] ys first last notes ran = record {
+  mid = first;
+  one = [];
+  two = notes;
+  before = (refl, refl);
+  behind = subst (λ n. Ran images n ys first last notes) (let same : from ≡ from + 0 = omega arith in same) ran;
+  split = refl;
+}
+ran-parts images from (x ∷ xs) ys first last notes (next, added, later, leads, stand, rest, split) =
+    let r = ran-parts images (suc from) xs ys next last later rest in
+    record {
+      mid = r.mid;
+      one = note.Event from ∷ (added ++ r.one);
+      two = r.two;
+      before = (next, added, r.one, leads, stand, r.before, refl);
+      behind = subst (λ n. Ran images n ys r.mid last r.two) (let same : suc from + length xs ≡ from + suc (length xs) = omega arith in same) r.behind;
+      split = split ∙ ap (λ ns. note.Event from ∷ (added ++ ns)) r.split ∙ ap (λ ns. note.Event from ∷ ns) (sym (append_assoc added r.one r.two));
+    }
+
+labels-both : (a b : List Note) → labels (a ++ b) ≡ labels a ++ labels b
+labels-both a b = filter_map-append label_of a b
+
+-- events without a settling lead on by themselves
+record LeadOn (images : List Image) (events : List Event) (first last : RackView) (notes : List Note) : Type 0 where
+  noted : List Note
+  reaches : Reaches images events first last noted
+  same : labels noted ≡ labels notes
+
+leads-alone : (images : List Image) (event : Event) (old new : RackView) (noted : List Note) → IsNoSettling event → LeadsOrSettles images event old new noted → Leads images event old new noted
+leads-alone images event old new noted unsettled (inl (is, settles)) = absurd (unsettled is)
+leads-alone images event old new noted unsettled (inr leads) = leads
+
+lead-on : (images : List Image) (from : ℕ) (events : List Event) (first last : RackView) (notes : List Note) → AllByRecursion IsNoSettling events → Ran images from events first last notes
+    → LeadOn images events first last notes
+lead-on images from [] first last notes unsettled ran = record { noted = []; reaches = (ran.0, refl); same = sym (ap labels ran.1) }
+lead-on images from (event ∷ events) first last notes unsettled (mid, added, later, leads, stand, rest, split) =
+    let r = lead-on images (suc from) events mid last later unsettled.1 rest in
+    record {
+      noted = added ++ r.noted;
+      reaches = (mid, added, r.noted, leads-alone images event first mid added unsettled.0 leads, r.reaches, refl);
+      same = labels-both added r.noted ∙ ap (λ ls. labels added ++ ls) r.same ∙ sym (labels-both added later) ∙ sym (ap labels split);
+    }
+
+-- events that a rack takes and that are no settling
+of-racks : (plan : RackPlan) (events : List Event) → IsFit plan → AllByRecursion (IsRunFor plan) events → AllByRecursion IsNoSettling events → AreOfRack events
+of-racks plan [] fit fits unsettled = tt
+of-racks plan (event ∷ events) fit fits unsettled = (one fits.0, of-racks plan events fit fits.1 unsettled.1) where
+  one : IsRunFor plan event → IsOfRack event
+  one (inl is) = absurd (unsettled.0 is)
+  one (inr its) = of-rack plan event fit its
+
+-- ---- a stretch
+
+settled-owes : (images : List Image) (event : Event) (old new : RackView) (noted : List Note) → event ≡ Settle → LeadsOrSettles images event old new noted → Settles images old new noted
+settled-owes images event old new noted is (inl (same, settles)) = settles
+settled-owes images event old new noted is (inr leads) = absurd (subst (λ e. Leads images e old new noted) is leads)
+
+-- a rack that starts, or that has settled, owes nothing
+ends-owing : (images : List Image) (events : List Event) (first last : RackView) (notes : List Note) → owed first ≡ [] → EndSettled events → Ran images 0 events first last notes → owed last ≡ []
+ends-owing images events first last notes none (inl e) ran =
+    let same : last ≡ first = (subst (λ es. Ran images 0 es first last notes) e ran).0 in
+    ap owed same ∙ none
+ends-owing images events first last notes none (inr (front, e)) ran =
+    let r = ran-parts images 0 front (Settle ∷ []) first last notes (subst (λ es. Ran images 0 es first last notes) e ran) in
+    let end = r.behind in
+    let same : last ≡ end.0 = end.5.0 in
+    ap owed same ∙ quiet-owes end.0 (settled-owes images Settle r.mid end.0 end.1 refl end.3).quiet
+
+starts-with : (images : List Image) (from : ℕ) (events after : List Event) (first last : RackView) (notes added : List Note) → Ran images from events first last notes
+    → slice_get (notes ++ note.Event (from + length events) ∷ added) 0 ≡ Some (note.Event from)
+starts-with images from [] after first last notes added ran =
+    ap (λ ns. slice_get (ns ++ note.Event (from + 0) ∷ added) 0) ran.1 ∙ ap (λ n. Some (note.Event n)) (let same : from + 0 ≡ from = omega arith in same)
+starts-with images from (event ∷ events) after first last notes added ran = ap (λ ns. slice_get (ns ++ note.Event (from + length (event ∷ events)) ∷ added) 0) ran.6
+
+pub goes-on : (images : List Image) (from : ℕ) (events : List Event) (first last : RackView) (notes : List Note) → Ran images from events first last notes
+    → (notes ≡ []) ⊎ (slice_get notes 0 ≡ Some (note.Event from))
+goes-on images from [] first last notes ran = inl ran.1
+goes-on images from (event ∷ events) first last notes ran = inr (ap (λ ns. slice_get ns 0) ran.6)
+
+-- the rack behind the first events of a schedule, and the rest of its run
+pub record IsBetween (images : List Image) (plan : RackPlan) (xs ys : List Event) (first last : RackView) (log : List Note) : Type 0 where
+  pub mid : RackView
+  pub one : List Note
+  pub two : List Note
+  pub split : log ≡ one ++ two
+  pub before : Ran images 0 xs first mid one
+  pub behind : Ran images (length xs) ys mid last two
+  pub same : mid.plan ≡ plan
+  pub stands : StandsForLog images mid one
+  pub needed : AreNeeded images mid
+
+ran-safe : (images : List Image) (plan : RackPlan) (from : ℕ) (es : List Event) (one two : RackView) (notes : List Note) → IsFit plan → AllByRecursion (IsRunFor plan) es → one.plan ≡ plan → IsSafe one
+    → Ran images from es one two notes → IsSafe two
+ran-safe images plan from [] one two notes fit its same safe ran = subst IsSafe (sym ran.0) safe
+ran-safe images plan from (e ∷ es) one two notes fit its same safe (next, added, later, leads, stand, rest, split) =
+    let r = event-reaches images plan e one next added fit same its.0 leads in
+    let stay = runs-stay images r.events one next added r.fits safe r.reaches in
+    ran-safe images plan (suc from) es next two later fit its.1 (stay.plan ∙ same) (run_keeps-all images r.events one next added r.fits safe r.reaches) rest
+
+pub between : (images : List Image) (plan : RackPlan) (xs ys : List Event) (first last : RackView) (log : List Note) → IsFit plan → IsStart plan first → AllByRecursion (IsRunFor plan) (xs ++ ys)
+    → Ran images 0 (xs ++ ys) first last log → AreCounted last → IsBetween images plan xs ys first last log
+between images plan xs ys first last log fit start its ran counted =
+    let whole = ran-parts images 0 xs ys first last log ran in
+    let mid = whole.mid in
+    let behind : Ran images (length xs) ys mid last whole.two = subst (λ n. Ran images n ys mid last whole.two) (let same : 0 + length xs ≡ length xs = omega arith in same) whole.behind in
+    let start_ahead = starts-ahead images plan first fit start in
+    let first_safe = safe-log images first [] start_ahead.stands in
+    let fits_xs = all-front (IsRunFor plan) xs ys its in
+    let stay = ran-stays images plan 0 xs first mid whole.one fit fits_xs start.of_plan first_safe whole.before in
+    let safe = ran-safe images plan 0 xs first mid whole.one fit fits_xs start.of_plan first_safe whole.before in
+    let onward = ran-stays images plan (length xs) ys mid last whole.two fit (all-behind (IsRunFor plan) xs ys its) (stay.plan ∙ start.of_plan) safe behind in
+    let ahead = ran-ahead images plan 0 xs first mid [] whole.one fit fits_xs start_ahead whole.before (counted-before mid last onward counted) in
+    record {
+      mid = mid;
+      one = whole.one;
+      two = whole.two;
+      split = whole.split;
+      before = whole.before;
+      behind = behind;
+      same = ahead.same;
+      stands = ahead.stands;
+      needed = ahead.needed;
+    }
+
+stretch_labels : (images : List Image) (plan : RackPlan) (events : List Event) (first last : RackView) (log : List Note) → IsFit plan → IsStart plan first → AllByRecursion (IsRunFor plan) events
+    → Ran images 0 events first last log → AreCounted last → (before stretch after : List Event) → IsStretch plan events before stretch after
+    → HasItsLabels (made_from images plan) log (length before) stretch
+unfolding settles-reach
+stretch_labels images plan events first last log fit start fits ran counted before stretch after is =
+    let rest = stretch ++ Settle ∷ after in
+    let its : AllByRecursion (IsRunFor plan) (before ++ rest) = subst (λ es. AllByRecursion (IsRunFor plan) es) is.split fits in
+    let whole = between images plan before rest first last log fit start its (subst (λ es. Ran images 0 es first last log) is.split ran) counted in
+    let mid = whole.mid in
+    let behind = ran-parts images (length before) stretch (Settle ∷ after) mid last whole.two whole.behind in
+    let end = behind.behind in
+    let mid_safe = safe-log images mid whole.one whole.stands in
+    let fits_rest = all-behind (IsRunFor plan) before rest its in
+    let none = ends-owing images before first mid whole.one (start-owes plan first start) is.begins whole.before in
+    let fits_stretch = all-front (IsRunFor plan) stretch (Settle ∷ after) fits_rest in
+    let on = lead-on images (length before) stretch mid behind.mid behind.one is.unsettled behind.before in
+    let settles = settled-owes images Settle behind.mid end.0 end.1 refl end.3 in
+    let same : mid.plan ≡ plan = whole.same in
+    let stay = ran-stays images plan (length before) stretch mid behind.mid behind.one fit fits_stretch same mid_safe behind.before in
+    let turns = settles-reach images plan behind.mid end.0 end.1 fit (stay.plan ∙ same) settles in
+    let result = stretch-settles images stretch settles.turns mid behind.mid end.0 whole.one on.noted end.1 whole.stands whole.needed none (of-racks plan stretch fit fits_stretch is.unsettled)
+    (subst (λ p. IsOneEach p stretch) (sym same) is.each) on.reaches turns.fits (turns-ask images settles.turns behind.mid end.0 end.1 settles.taken) turns.reaches
+    (quiet-owes end.0 settles.quiet) in
+    let from = length before in
+    let index = from + length stretch in
+    let now = behind.one ++ note.Event index ∷ end.1 in
+    let noted : labels (on.noted ++ end.1) ≡ labels now = labels-both on.noted end.1 ∙ ap (λ ls. ls ++ labels end.1) on.same ∙ sym (labels-both behind.one (note.Event index ∷ end.1)) in
+    let Same : RackPlan → Type 0 = λ p. IsPermutation (labels now) (all_asked (made_from images p) whole.stands.state.threads stretch) in
+    let Run : RackPlan → Type 0 = λ p. replay (made_from images p) (start_state (made_from images p)) (labels whole.one) ≡ Whole whole.stands.state in
+    record {
+      before = whole.one;
+      now = now;
+      after = end.2;
+      split = whole.split ∙ ap (λ ns. whole.one ++ ns) (behind.split ∙ ap (λ ns. behind.one ++ ns) end.6 ∙ sym (append_assoc behind.one (note.Event index ∷ end.1) end.2));
+      first = starts-with images from stretch after mid behind.mid behind.one end.1 behind.before;
+      next = next (goes-on images (suc index) after end.0 last end.2 end.5) (let next_is : suc index ≡ from + length stretch + 1 = omega arith in next_is);
+      state = whole.stands.state;
+      run = subst Run same whole.stands.run;
+      same = subst Same same (subst (λ ls. IsPermutation ls (all_asked (made_from images mid.plan) whole.stands.state.threads stretch)) noted result);
+    }
+  where
+    next : {a b : ℕ} {notes : List Note} → (notes ≡ []) ⊎ (slice_get notes 0 ≡ Some (note.Event a)) → a ≡ b → (notes ≡ []) ⊎ (slice_get notes 0 ≡ Some (note.Event b))
+    next (inl none) e = inl none
+    next (inr some) e = inr (some ∙ ap (λ n. Some (note.Event n)) e)
+
+-- ---- events that are settled one by one
+
+-- each event with its settling
+record SettlesOneByOne (images : List Image) (each : List Event) (first last : RackView) (notes : List Note) : Type 0 where
+  noted : List Note
+  settles : SettlesEach images each first last noted
+  same : labels noted ≡ labels notes
+
+one-by-one : (images : List Image) (plan : RackPlan) (from : ℕ) (each : List Event) (first last : RackView) (notes : List Note) → IsFit plan → AllByRecursion IsNoSettling each
+    → AllByRecursion (IsRunFor plan) (flat_map (λ event. event ∷ Settle ∷ []) each) → first.plan ≡ plan → IsSafe first → AreCounted last
+    → Ran images from (flat_map (λ event. event ∷ Settle ∷ []) each) first last notes → SettlesOneByOne images each first last notes
+unfolding settles-reach
+one-by-one images plan from [] first last notes fit unsettled fits same safe counted ran = record { noted = []; settles = (ran.0, refl); same = sym (ap labels ran.1) }
+one-by-one images plan from (event ∷ each) first last notes fit unsettled fits same safe counted (mid, added, later, leads, stand, (next, more, others, turned, stand_too, rest, split_too), split) =
+    let r = event-reaches images plan event first mid added fit same fits.0 leads in
+    let stay = runs-stay images r.events first mid added r.fits safe r.reaches in
+    let mid_safe = run_keeps-all images r.events first mid added r.fits safe r.reaches in
+    let settles = settled-owes images Settle mid next more refl turned in
+    let t = settles-reach images plan mid next more fit (stay.plan ∙ same) settles in
+    let stays = runs-stay images t.events mid next more t.fits mid_safe t.reaches in
+    let next_same = stays.plan ∙ stay.plan ∙ same in
+    let next_safe = run_keeps-all images t.events mid next more t.fits mid_safe t.reaches in
+    let onward = ran-stays images plan (suc (suc from)) (flat_map (λ e. e ∷ Settle ∷ []) each) next last others fit fits.1.1 next_same next_safe rest in
+    let later_ones = one-by-one images plan (suc (suc from)) each next last others fit unsettled.1 fits.1.1 next_same next_safe counted rest in
+    let lands : LeadsAndSettles images event first next (added ++ more) = record {
+      turns = settles.turns;
+      fits = t.fits;
+      asks = turns-ask images settles.turns mid next more settles.taken;
+      reaches = (mid, added, more, leads-alone images event first mid added unsettled.0 leads, t.reaches, refl);
+      settled = quiet-owes next settles.quiet;
+      counted = counted-before next last onward counted;
+    } in
+    record {
+      noted = (added ++ more) ++ later_ones.noted;
+      settles = (next, added ++ more, later_ones.noted, lands, later_ones.settles, refl);
+      same = labels-both (added ++ more) later_ones.noted
+          ∙ (λ i. labels-both added more i ++ later_ones.same i)
+          ∙ append_assoc (labels added) (labels more) (labels others)
+          ∙ ap (λ ls. labels added ++ ls) (sym (labels-both more others) ∙ sym (ap labels split_too))
+          ∙ sym (labels-both added later)
+          ∙ sym (ap labels split);
+    }
+
+each-of-rack : (plan : RackPlan) (each : List Event) → IsFit plan → AllByRecursion IsNoSettling each → AllByRecursion (IsRunFor plan) (flat_map (λ event. event ∷ Settle ∷ []) each) → AreOfRack each
+each-of-rack plan [] fit unsettled fits = tt
+each-of-rack plan (event ∷ each) fit unsettled fits = ((of-racks plan (event ∷ []) fit (fits.0, tt) (unsettled.0, tt)).0, each-of-rack plan each fit unsettled.1 fits.1.1)
+
+determined_labels : (images : List Image) (plan : RackPlan) (events : List Event) (first last : RackView) (log : List Note) → IsFit plan → IsStart plan first → AllByRecursion (IsRunFor plan) events
+    → Ran images 0 events first last log → AreCounted last → (each : List Event) → AreSettledEach each events → labels log ≡ settled_labels (made_from images plan) [] each
+determined_labels images plan events first last log fit start fits ran counted each is =
+    let its = subst (λ es. AllByRecursion (IsRunFor plan) es) is.split fits in
+    let safe = safe-log images first [] (starts-ahead images plan first fit start).stands in
+    let ones = one-by-one images plan 0 each first last log fit is.unsettled its start.of_plan safe counted (subst (λ es. Ran images 0 es first last log) is.split ran) in
+    sym ones.same ∙ settles-start images plan each first last ones.noted fit start (each-of-rack plan each fit is.unsettled its) ones.settles
+
+-- ---- a schedule
+
+pub settled_labels_of : (images : List Image) (plan : RackPlan) (events : List Event) (first last : RackView) (log : List Note) → IsFit plan → IsStart plan first → AllByRecursion (IsRunFor plan) events
+    → Ran images 0 events first last log → AreCounted last → HasSettledLabels (made_from images plan) plan events log
+settled_labels_of images plan events first last log fit start fits ran counted = record {
+  stretches = stretch_labels images plan events first last log fit start fits ran counted;
+  determined = determined_labels images plan events first last log fit start fits ran counted;
+}

@@ -1,0 +1,7 @@
+pub mod Labels
+pub mod Prompt
+pub mod Ran
+pub mod Settled
+pub mod Stretches
+pub mod Turns
+pub mod Weight
