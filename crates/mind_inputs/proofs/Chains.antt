@@ -10,7 +10,8 @@ use Rattle.mind_base.specs.declared.events.Event.{Event}
 use Rattle.mind_base.specs.declared.images.Image.{Image}
 use Rattle.mind_base.specs.declared.plans.ImagePlan.{ImagePlan}
 use Rattle.mind_base.specs.declared.plans.RackPlan.{RackPlan}
-use Rattle.mind_inputs.specs.Inputs.{Seen, Long, Bytes, Ending, Missing, Refused, Judged, Ends, Accepts, seen_of, Reads, JudgesOne, JudgesImages, AfterSchedule, AfterImages, AfterRack, Judges, rack_judged, image_judged, schedule_judged, images_from, judged_then, schedule_ends, images_ends, rack_ends, judge, is_built, IsBuilt}
+use Rattle.rack_gen.specs.Generator.{generated}
+use Rattle.mind_inputs.specs.Inputs.{Seen, Long, Bytes, Ending, Missing, Refused, Judged, Ends, Accepts, seen_of, Reads, JudgesOne, JudgesImages, AfterSchedule, AfterImages, AfterRack, JudgesWith, JudgesSchedule, MakesEvents, Judges, JudgesMade, rack_judged, image_judged, schedule_judged, images_from, judged_then, schedule_ends, images_ends, rack_ends, judge_with, judge, judge_made, is_built, IsBuilt}
 use Rattle.mind_inputs.specs.Judged.{Gives}
 use Rattle.mind_inputs.specs.Loading.{FaultTold, MissTold, Loads, StopsBy, Brings}
 use Rattle.mind_inputs.specs.Words.{Paths}
@@ -90,7 +91,7 @@ load-stops holds mid P judges f f1 f2 m m1 m2 why same a b on stops =
 
 -- ---- where the store tells what it holds, the judgement is a function of the files
 
-one-is : {X : Type 0} (files : Files) (name : List ℕ) (limit : ℕ) (judged : Seen → Result X Ending) (answer : Result X Ending)
+pub one-is : {X : Type 0} (files : Files) (name : List ℕ) (limit : ℕ) (judged : Seen → Result X Ending) (answer : Result X Ending)
     → JudgesOne (Some files) name limit judged answer → answer ≡ judged (seen_of (finite.get files name) limit)
 one-is files name limit judged answer (seen, reads, is) = sym is ∙ ap judged (sym reads)
 
@@ -112,20 +113,35 @@ after-schedule : (plan : RackPlan) (images : List Image) (r : Result (List Event
 after-schedule plan images (Ok events) j e = e
 after-schedule plan images (Err ending) j e = e
 
-after-images : (files : Files) (schedule : List ℕ) (plan : RackPlan) (r : Result (List Image) Ending) (j : Judged)
-    → AfterImages (Some files) schedule plan r j → j ≡ images_ends files schedule plan r
-after-images files schedule plan (Err ending) j e = e
-after-images files schedule plan (Ok images) j (answer, judges, rest) =
-    after-schedule plan images answer j rest ∙ ap (schedule_ends plan images) (one-is files schedule 4194304 (schedule_judged plan) answer judges)
+-- the events of a rack are judged so, and in no other way
+abbrev IsOnly : (RackPlan → Result (List Event) Ending → Type 0) → (RackPlan → Result (List Event) Ending) → Type 0
+IsOnly events made = (plan : RackPlan) (answer : Result (List Event) Ending) → events plan answer → answer ≡ made plan
 
-after-rack : (files : Files) (schedule : List ℕ) (r : Result RackPlan Ending) (j : Judged) → AfterRack (Some files) schedule r j → j ≡ rack_ends files schedule r
-after-rack files schedule (Err ending) j e = e
-after-rack files schedule (Ok plan) j (answer, judges, rest) =
-    after-images files schedule plan answer j rest ∙ ap (images_ends files schedule plan) (images-are files [] plan.images answer judges)
+after-images : (events : RackPlan → Result (List Event) Ending → Type 0) (made : RackPlan → Result (List Event) Ending) (plan : RackPlan) (r : Result (List Image) Ending) (j : Judged)
+    → IsOnly events made → AfterImages events plan r j → j ≡ images_ends made plan r
+after-images events made plan (Err ending) j only e = e
+after-images events made plan (Ok images) j only (answer, judges, rest) =
+    after-schedule plan images answer j rest ∙ ap (schedule_ends plan images) (only plan answer judges)
+
+after-rack : (files : Files) (events : RackPlan → Result (List Event) Ending → Type 0) (made : RackPlan → Result (List Event) Ending) (r : Result RackPlan Ending) (j : Judged)
+    → IsOnly events made → AfterRack (Some files) events r j → j ≡ rack_ends files made r
+after-rack files events made (Err ending) j only e = e
+after-rack files events made (Ok plan) j only (answer, judges, rest) =
+    after-images events made plan answer j only rest ∙ ap (images_ends made plan) (images-are files [] plan.images answer judges)
+
+judges-with : (files : Files) (rack : List ℕ) (events : RackPlan → Result (List Event) Ending → Type 0) (made : RackPlan → Result (List Event) Ending) (j : Judged)
+    → IsOnly events made → JudgesWith (Some files) rack events j → j ≡ judge_with files rack made
+judges-with files rack events made j only (answer, judges, rest) =
+    after-rack files events made answer j only rest ∙ ap (rack_ends files made) (one-is files rack 65536 rack_judged answer judges)
 
 pub judges-judge : (files : Files) (paths : Paths) (j : Judged) → Judges (Some files) paths j → j ≡ judge files paths
-judges-judge files paths j (answer, judges, rest) =
-    after-rack files paths.schedule answer j rest ∙ ap (rack_ends files paths.schedule) (one-is files paths.rack 65536 rack_judged answer judges)
+judges-judge files paths j judges =
+    judges-with files paths.rack (JudgesSchedule (Some files) paths.schedule) (λ plan. schedule_judged plan (seen_of (finite.get files paths.schedule) 4194304)) j
+    (λ plan answer one. one-is files paths.schedule 4194304 (schedule_judged plan) answer one) judges
+
+pub judges-made : (files : Files) (rack : List ℕ) (count seed : ℕ) (j : Judged) → JudgesMade (Some files) rack count seed j → j ≡ judge_made files rack count seed
+judges-made files rack count seed j judges =
+    judges-with files rack (MakesEvents count seed) (λ plan. Ok (generated plan count seed)) j (λ plan answer is. is) judges
 
 -- ---- what is accepted
 
@@ -167,10 +183,10 @@ read-all h h1 f f1 m m1 plans left images so_far none =
 
 -- ---- the whole
 
-pub rack-stops : (h : Option Files) (p : Paths) (f f1 m m1 : ℕ) (why : Stopped)
-    → StopsBy h (λ ending. JudgesOne h p.rack 65536 rack_judged (Err ending)) f f1 m m1 why → Loads h (Judges h p) f f1 m m1 (Err why)
-rack-stops h p f f1 m m1 why stops =
-    load-stops h h (λ o ending. JudgesOne o p.rack 65536 rack_judged (Err ending)) (Judges h p) f f f1 m m m1 why refl (omega arith) (omega arith)
+pub rack-stops : (h : Option Files) (rack : List ℕ) (events : RackPlan → Result (List Event) Ending → Type 0) (f f1 m m1 : ℕ) (why : Stopped)
+    → StopsBy h (λ ending. JudgesOne h rack 65536 rack_judged (Err ending)) f f1 m m1 why → Loads h (JudgesWith h rack events) f f1 m m1 (Err why)
+rack-stops h rack events f f1 m m1 why stops =
+    load-stops h h (λ o ending. JudgesOne o rack 65536 rack_judged (Err ending)) (JudgesWith h rack events) f f f1 m m m1 why refl (omega arith) (omega arith)
     (λ ending one. (Err ending, one, refl)) stops
 
 images-told : (h h1 : Option Files) (plans all : List ImagePlan) (answer : Result (List Image) Ending) → h1 ≡ h → plans ≡ all → JudgesImages h1 [] plans answer → JudgesImages h [] all answer
@@ -179,12 +195,12 @@ images-told h h1 plans all answer same is judges =
     let Q : List ImagePlan → Type 0 = λ ps. JudgesImages h [] ps answer in
     subst Q is (subst P same judges)
 
-pub images-stop : (h h1 : Option Files) (p : Paths) (plan : RackPlan) (plans : List ImagePlan) (f f1 f2 m m1 m2 : ℕ) (why : Stopped) → plans ≡ plan.images
-    → h1 ≡ h → f ≤ f1 → m ≤ m1 → JudgesOne h p.rack 65536 rack_judged (Ok plan)
-    → StopsBy h1 (λ ending. JudgesImages h1 [] plans (Err ending)) f1 f2 m1 m2 why → Loads h (Judges h p) f f2 m m2 (Err why)
-images-stop h h1 p plan plans f f1 f2 m m1 m2 why is same a b rack stops =
-    load-stops h h1 (λ o ending. JudgesImages o [] plans (Err ending)) (Judges h p) f f1 f2 m m1 m2 why same a b
-    (λ ending part. (Ok plan, rack, (Err ending, images-told h h plans plan.images (Err ending) refl is part, refl))) stops
+pub images-stop : (h h1 : Option Files) (rack : List ℕ) (events : RackPlan → Result (List Event) Ending → Type 0) (plan : RackPlan) (plans : List ImagePlan) (f f1 f2 m m1 m2 : ℕ) (why : Stopped)
+    → plans ≡ plan.images → h1 ≡ h → f ≤ f1 → m ≤ m1 → JudgesOne h rack 65536 rack_judged (Ok plan)
+    → StopsBy h1 (λ ending. JudgesImages h1 [] plans (Err ending)) f1 f2 m1 m2 why → Loads h (JudgesWith h rack events) f f2 m m2 (Err why)
+images-stop h h1 rack events plan plans f f1 f2 m m1 m2 why is same a b read stops =
+    load-stops h h1 (λ o ending. JudgesImages o [] plans (Err ending)) (JudgesWith h rack events) f f1 f2 m m1 m2 why same a b
+    (λ ending part. (Ok plan, read, (Err ending, images-told h h plans plan.images (Err ending) refl is part, refl))) stops
 
 pub schedule-stops : (h h1 h2 : Option Files) (p : Paths) (plan : RackPlan) (plans : List ImagePlan) (images : List Image) (f f1 f2 f3 m m1 m2 m3 : ℕ) (why : Stopped)
     → plans ≡ plan.images → h1 ≡ h → h2 ≡ h1 → f ≤ f1 → f1 ≤ f2 → m ≤ m1 → m1 ≤ m2
@@ -195,12 +211,19 @@ schedule-stops h h1 h2 p plan plans images f f1 f2 f3 m m1 m2 m3 why is same als
     (omega (arith, a, b)) (omega (arith, c, d))
     (λ ending part. (Ok plan, rack, (Ok images, images-told h h1 plans plan.images (Ok images) same is parts, (Err ending, part, refl)))) stops
 
+-- the rack and its images are read, and its events are judged so
+pub all-with : (h h1 : Option Files) (rack : List ℕ) (made : RackPlan → Result (List Event) Ending → Type 0) (plan : RackPlan) (plans : List ImagePlan) (images : List Image) (events : List Event)
+    → plans ≡ plan.images → h1 ≡ h → JudgesOne h rack 65536 rack_judged (Ok plan) → JudgesImages h1 [] plans (Ok images) → made plan (Ok events)
+    → JudgesWith h rack made (Accepts (record { plan = plan; images = images; events = events }))
+all-with h h1 rack made plan plans images events is same read parts last =
+    (Ok plan, read, (Ok images, images-told h h1 plans plan.images (Ok images) same is parts, (Ok events, last, refl)))
+
 pub all-loaded : (h h1 h2 : Option Files) (p : Paths) (plan : RackPlan) (plans : List ImagePlan) (images : List Image) (events : List Event) → plans ≡ plan.images → h1 ≡ h → h2 ≡ h1
     → JudgesOne h p.rack 65536 rack_judged (Ok plan) → JudgesImages h1 [] plans (Ok images) → JudgesOne h2 p.schedule 4194304 (schedule_judged plan) (Ok events)
     → Judges h p (Accepts (record { plan = plan; images = images; events = events }))
 all-loaded h h1 h2 p plan plans images events is same also rack parts last =
     let P : Option Files → Type 0 = λ o. JudgesOne o p.schedule 4194304 (schedule_judged plan) (Ok events) in
-    (Ok plan, rack, (Ok images, images-told h h1 plans plan.images (Ok images) same is parts, (Ok events, subst P (also ∙ same) last, refl)))
+    all-with h h1 p.rack (JudgesSchedule h p.schedule) plan plans images events is same rack parts (subst P (also ∙ same) last)
 
 pub none-left : (plans : List ImagePlan) → length plans < 1 → plans ≡ []
 none-left [] few = refl

@@ -15,6 +15,7 @@ use Rattle.rack_file.specs.declared.images.ImageFault.{ImageFault}
 use Rattle.rack_file.specs.declared.images.ImageFault.TheVariants.{Length, End}
 use Rattle.schedule_text.specs.Refusal as lines
 use Rattle.schedule_text.specs.Schedule.{schedule_in}
+use Rattle.rack_gen.specs.Generator.{generated}
 use Rattle.mind_inputs.specs.Words.{Paths}
 use Rattle.mind_inputs.specs.declared.refusals.Refusal.{Refusal}
 use Rattle.mind_inputs.specs.declared.refusals.Refusal.TheVariants.{RackRefused, RackLong, ImageLength, ImageEnd, ImageLong, ScheduleRefused, ScheduleLong, ScheduleEarly}
@@ -63,7 +64,7 @@ image_judged number plan Absent = Err Missing
 image_judged number plan Long = Err (Refused (ImageLong number))
 image_judged number plan (Bytes bytes) = image_answer number (image_file.image_judged plan bytes)
 
--- events of this kind are built: neither a command nor a settling
+-- events of this kind are built: all but commands
 abbrev pub is_built : Event → Bool
 is_built (events.Step hart) = true
 is_built (events.Drain hart) = true
@@ -74,7 +75,7 @@ is_built (events.Repeat link side k) = true
 is_built (events.Resend link) = true
 is_built events.Epoch = true
 is_built (events.Ask command) = false
-is_built events.Settle = false
+is_built events.Settle = true
 
 abbrev pub IsBuilt : Event → Type 0
 IsBuilt event = is_built event ≡ true
@@ -119,20 +120,32 @@ abbrev pub AfterSchedule : RackPlan → List Image → Result (List Event) Endin
 AfterSchedule plan images (Err ending) judged = judged ≡ Ends ending
 AfterSchedule plan images (Ok events) judged = judged ≡ Accepts (record { plan = plan; images = images; events = events })
 
-abbrev pub AfterImages : Option Files → List ℕ → RackPlan → Result (List Image) Ending → Judged → Type 0
-AfterImages holds schedule plan (Err ending) judged = judged ≡ Ends ending
-AfterImages holds schedule plan (Ok images) judged =
-    (answer : Result (List Event) Ending) × JudgesOne holds schedule 4194304 (schedule_judged plan) answer × AfterSchedule plan images answer judged
+-- by how the events of a rack are judged
+abbrev pub AfterImages : (RackPlan → Result (List Event) Ending → Type 0) → RackPlan → Result (List Image) Ending → Judged → Type 0
+AfterImages events plan (Err ending) judged = judged ≡ Ends ending
+AfterImages events plan (Ok images) judged = (answer : Result (List Event) Ending) × events plan answer × AfterSchedule plan images answer judged
 
-abbrev pub AfterRack : Option Files → List ℕ → Result RackPlan Ending → Judged → Type 0
-AfterRack holds schedule (Err ending) judged = judged ≡ Ends ending
-AfterRack holds schedule (Ok plan) judged =
-    (answer : Result (List Image) Ending) × JudgesImages holds [] plan.images answer × AfterImages holds schedule plan answer judged
+abbrev pub AfterRack : Option Files → (RackPlan → Result (List Event) Ending → Type 0) → Result RackPlan Ending → Judged → Type 0
+AfterRack holds events (Err ending) judged = judged ≡ Ends ending
+AfterRack holds events (Ok plan) judged = (answer : Result (List Image) Ending) × JudgesImages holds [] plan.images answer × AfterImages events plan answer judged
 
--- the rack is read and judged, then its images in their order, then the schedule
+-- the rack is read and judged, then its images in their order, then its events
+abbrev pub JudgesWith : Option Files → List ℕ → (RackPlan → Result (List Event) Ending → Type 0) → Judged → Type 0
+JudgesWith holds rack events judged = (answer : Result RackPlan Ending) × JudgesOne holds rack 65536 rack_judged answer × AfterRack holds events answer judged
+
+-- the events are those of a schedule that is read and judged behind the images
+abbrev pub JudgesSchedule : Option Files → List ℕ → RackPlan → Result (List Event) Ending → Type 0
+JudgesSchedule holds schedule plan answer = JudgesOne holds schedule 4194304 (schedule_judged plan) answer
+
+-- the events are those that the generator makes for the rack; no more is read
+abbrev pub MakesEvents : ℕ → ℕ → RackPlan → Result (List Event) Ending → Type 0
+MakesEvents count seed plan answer = answer ≡ Ok (generated plan count seed)
+
 abbrev pub Judges : Option Files → Paths → Judged → Type 0
-Judges holds paths judged =
-    (answer : Result RackPlan Ending) × JudgesOne holds paths.rack 65536 rack_judged answer × AfterRack holds paths.schedule answer judged
+Judges holds paths judged = JudgesWith holds paths.rack (JudgesSchedule holds paths.schedule) judged
+
+abbrev pub JudgesMade : Option Files → List ℕ → ℕ → ℕ → Judged → Type 0
+JudgesMade holds rack count seed judged = JudgesWith holds rack (MakesEvents count seed) judged
 
 -- ---- the same as a function, where the store tells what it holds
 
@@ -151,13 +164,19 @@ abbrev pub schedule_ends : RackPlan → List Image → Result (List Event) Endin
 schedule_ends plan images (Err ending) = Ends ending
 schedule_ends plan images (Ok events) = Accepts (record { plan = plan; images = images; events = events })
 
-abbrev pub images_ends : Files → List ℕ → RackPlan → Result (List Image) Ending → Judged
-images_ends files schedule plan (Err ending) = Ends ending
-images_ends files schedule plan (Ok images) = schedule_ends plan images (schedule_judged plan (seen_of (finite.get files schedule) 4194304))
+abbrev pub images_ends : (RackPlan → Result (List Event) Ending) → RackPlan → Result (List Image) Ending → Judged
+images_ends events plan (Err ending) = Ends ending
+images_ends events plan (Ok images) = schedule_ends plan images (events plan)
 
-abbrev pub rack_ends : Files → List ℕ → Result RackPlan Ending → Judged
-rack_ends files schedule (Err ending) = Ends ending
-rack_ends files schedule (Ok plan) = images_ends files schedule plan (images_from files [] plan.images)
+abbrev pub rack_ends : Files → (RackPlan → Result (List Event) Ending) → Result RackPlan Ending → Judged
+rack_ends files events (Err ending) = Ends ending
+rack_ends files events (Ok plan) = images_ends events plan (images_from files [] plan.images)
+
+abbrev pub judge_with : Files → List ℕ → (RackPlan → Result (List Event) Ending) → Judged
+judge_with files rack events = rack_ends files events (rack_judged (seen_of (finite.get files rack) 65536))
 
 abbrev pub judge : Files → Paths → Judged
-judge files paths = rack_ends files paths.schedule (rack_judged (seen_of (finite.get files paths.rack) 65536))
+judge files paths = judge_with files paths.rack (λ plan. schedule_judged plan (seen_of (finite.get files paths.schedule) 4194304))
+
+abbrev pub judge_made : Files → List ℕ → ℕ → ℕ → Judged
+judge_made files rack count seed = judge_with files rack (λ plan. Ok (generated plan count seed))

@@ -9,9 +9,9 @@ mod refusals;
 mod stopped;
 
 pub use journals::{load_for_check, load_journal};
-pub use laws::the_files_are_judged_one_way;
+pub use laws::{a_made_schedule_is_judged_as_it_is_made, the_files_are_judged_one_way};
 pub use loaded::Loaded;
-pub use loading::load;
+pub use loading::{load, load_made, load_rack};
 pub use refusals::Refusal;
 pub use stopped::Stopped;
 

@@ -1,14 +1,17 @@
-ghost use Rattle.std.specs.Prelude.{◌≡◌, ◌≤◌, ◌<◌, [], length, IfOk};
+ghost use Rattle.std.specs.Prelude.{◌≡◌, ◌≤◌, ◌<◌, [], length, Err, IfOk, OnErr};
 ghost use Rattle.std.specs.List.{AllByRecursion, list_all};
 ghost use Rattle.mind_base.specs.Fit.{IsFit, FitsImage, FitImages};
 ghost use Rattle.schedule_text.specs.Event.{IsEventOf};
-ghost use Rattle.mind_inputs.specs.Inputs.{Judges, JudgesOne, JudgesImages, Bytes, rack_judged, image_judged, schedule_judged, is_built, IsBuilt};
+ghost use Rattle.rack_gen.specs.Generator.{generated};
+ghost use Rattle.mind_inputs.specs.declared.stopped.Stopped.TheVariants.{NoMemory as no_memory};
+ghost use Rattle.mind_inputs.specs.Inputs.{Judges, JudgesMade, JudgesOne, JudgesImages, Bytes, rack_judged, image_judged, schedule_judged, is_built, IsBuilt};
 ghost use Rattle.mind_inputs.specs.Judged.{Gives};
 ghost use Rattle.mind_inputs.specs.Loading.{Loads, Brings, stopped_of};
 
 use crate::{Loaded, Refusal, Stopped};
-use mind_base::{Event, Image, ImagePlan, RackPlan, ReadError, Sequence, Store};
+use mind_base::{Event, Image, ImagePlan, NoMemory, RackPlan, ReadError, Sequence, Store};
 use rack_file::{ImageFault, RackRefusal, image_of, rack_of};
+use rack_gen::generated;
 use schedule_text::{LineRefusal, schedule_of};
 use std::alloc::Global;
 
@@ -73,8 +76,9 @@ fn is_built_kind(event: Event) -> bool
         | Event::Lose { .. }
         | Event::Repeat { .. }
         | Event::Resend { .. }
-        | Event::Epoch => true,
-        Event::Ask { .. } | Event::Settle => false,
+        | Event::Epoch
+        | Event::Settle => true,
+        Event::Ask { .. } => false,
     }
 }
 
@@ -109,7 +113,8 @@ fn events_from(alloc: Global, bytes: &[u8], plan: &RackPlan) -> Result<Sequence<
 
 // ---- reading and judging
 
-fn read_rack<S: Store>(alloc: Global, store: &mut S, name: &str) -> Result<RackPlan, Stopped>
+/// Reads and judges the rack of this name.
+pub fn load_rack<S: Store>(alloc: Global, store: &mut S, name: &str) -> Result<RackPlan, Stopped>
     ensures keeps { S.holds store.new ≡ S.holds store.old }
     ensures faults { S.faults store.old ≤ S.faults store.new }
     ensures missed { S.missed store.old ≤ S.missed store.new }
@@ -224,7 +229,7 @@ pub fn load<S: Store>(
     ensures built { IfOk result (λ loaded. AllByRecursion IsBuilt loaded.events) }
     ensures numbers { IfOk result (λ loaded. AllByRecursion (IsEventOf loaded.plan) loaded.events) }
 {
-    let plan = match read_rack(alloc, store, rack) {
+    let plan = match load_rack(alloc, store, rack) {
         Ok(plan) => plan,
         Err(stopped) => return Err(stopped),
     };
@@ -233,6 +238,74 @@ pub fn load<S: Store>(
         Err(stopped) => return Err(stopped),
     };
     let events = match read_schedule(alloc, store, schedule, &plan) {
+        Ok(events) => events,
+        Err(stopped) => return Err(stopped),
+    };
+    Ok(Loaded {
+        plan,
+        images,
+        events,
+    })
+}
+
+/// The generator's events for a rack, `count` drawn and a last settling.
+fn events_made(
+    alloc: Global,
+    plan: &RackPlan,
+    count: u32,
+    seed: u32,
+) -> Result<Sequence<Event>, Stopped>
+    requires fit { IsFit plan.now }
+    requires count { count ≤ 200000 }
+    ensures made { IfOk result (λ events. events ≡ generated plan.now count seed) }
+    ensures want { OnErr result (result ≡ Err no_memory) }
+    ensures few { IfOk result (λ events. length events ≤ 1000000) }
+    ensures built { IfOk result (λ events. AllByRecursion IsBuilt events) }
+    ensures numbers { IfOk result (λ events. AllByRecursion (IsEventOf plan.now) events) }
+{
+    match generated(alloc, plan, count, seed) {
+        Ok(events) => Ok(Sequence::from_vec(events)),
+        Err(NoMemory) => Err(Stopped::NoMemory),
+    }
+}
+
+/// Reads and judges the rack of this name, then its images in their order. The events are those that
+/// the generator makes for the rack. The first that is not held or is refused decides, and nothing is
+/// read behind it.
+pub fn load_made<S: Store>(
+    alloc: Global,
+    store: &mut S,
+    rack: &str,
+    count: u32,
+    seed: u32,
+) -> Result<Loaded, Stopped>
+    requires { count ≤ 200000 }
+
+    // The store holds what it held, and its counts never fall.
+    ensures keeps { S.holds store.new ≡ S.holds store.old }
+    ensures faults { S.faults store.old ≤ S.faults store.new }
+    ensures missed { S.missed store.old ≤ S.missed store.new }
+
+    // The inputs are accepted or refused exactly as they are judged.
+    ensures loads { Loads (S.holds store.old) (JudgesMade (S.holds store.old) rack.now count seed)
+        (S.faults store.old) (S.faults store.new) (S.missed store.old) (S.missed store.new) result }
+
+    // What is accepted: a fit rack, its images, and events of that rack, of kinds that are built.
+    ensures fit { IfOk result (λ loaded. IsFit loaded.plan) }
+    ensures images { IfOk result (λ loaded. FitImages loaded.plan.images loaded.images) }
+    ensures few { IfOk result (λ loaded. length loaded.events ≤ 1000000) }
+    ensures built { IfOk result (λ loaded. AllByRecursion IsBuilt loaded.events) }
+    ensures numbers { IfOk result (λ loaded. AllByRecursion (IsEventOf loaded.plan) loaded.events) }
+{
+    let plan = match load_rack(alloc, store, rack) {
+        Ok(plan) => plan,
+        Err(stopped) => return Err(stopped),
+    };
+    let images = match read_images(alloc, store, plan.images.as_slice()) {
+        Ok(images) => images,
+        Err(stopped) => return Err(stopped),
+    };
+    let events = match events_made(alloc, &plan, count, seed) {
         Ok(events) => events,
         Err(stopped) => return Err(stopped),
     };

@@ -58,7 +58,7 @@ static ROWS: [Row; 8] = [
     Row {
         left_out: "",
         image: LOADS,
-        schedule: b"settle\n",
+        schedule: b"map 0 3 1 rw\n",
         journal: JOURNAL,
         said: b"refused schedule early\n",
     },

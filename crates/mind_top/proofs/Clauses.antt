@@ -2,15 +2,17 @@
 use Rattle.std.proofs.Common.{◌≡◌, ℕ, inl, inr, List, ap, sym, refl, subst, Option, Some, None, Ok, Err, IfSome}
 use Rattle.mind_base.specs.Store.{Files, Rises}
 use Rattle.mind_base.specs.Sink.{Appends}
+use Rattle.mind_base.specs.declared.plans.RackPlan.{RackPlan}
+use Rattle.rack_gen.specs.Generator.{generated_text}
 use Rattle.mind_inputs.specs.Words.{Paths}
-use Rattle.mind_inputs.specs.Inputs.{Ending, Missing, Refused, Ends, Accepts, Accepted, Judges}
+use Rattle.mind_inputs.specs.Inputs.{Ending, Missing, Refused, Ends, Accepts, Accepted, JudgesOne, Judges, JudgesMade, rack_judged}
 use Rattle.mind_inputs.specs.Journals.{Checkable, JudgesCheck}
-use Rattle.mind_inputs.proofs.Chains.{judges-judge}
+use Rattle.mind_inputs.proofs.Chains.{one-is, judges-judge, judges-made}
 use Rattle.mind_inputs.proofs.Checkables.{only}
-use Rattle.mind_top.specs.Words.{Form, Run, Check, IsForm, IsCheck, IsNoForm}
-use Rattle.mind_top.specs.Due.{IsWhole, DoneBy, EndsBy, Due, StopsRun, status_of_ending, status_of, status_of_replay, CallFor, IsSaid, IsAnswered, MayStop, Decides}
+use Rattle.mind_top.specs.Words.{Form, Run, Check, Make, Load, IsForm, IsCheck, IsMake, IsLoad, IsNoForm}
+use Rattle.mind_top.specs.Due.{IsWhole, DoneBy, EndsBy, IsRunBy, Due, StopsRun, status_of_ending, status_of, status_of_one, status_of_replay, CallFor, IsSaid, IsAnswered, MayStop, Decides}
 use Rattle.mind_top.specs.Ending.{Counts, EndsWith}
-use Rattle.mind_top.specs.Headline.{RunWrites}
+use Rattle.mind_top.specs.Headline.{RunWrites, Headline}
 use Rattle.mind_top.specs.Left.{Left, LeavesNothing}
 use Rattle.mind_top.specs.declared.words.Output.{Output}
 use Rattle.mind_top.specs.declared.statuses.Status.{Status}
@@ -41,35 +43,78 @@ check-done holds words left before now old new result ends paths journal is done
     let (text, (inputs, judges, whole, empty), appends) = done-by holds words left before now old new result (Check paths journal) ends is done in
     (inputs, judges, text, whole, appends)
 
--- ---- what a check leaves
+pub make-done : (holds : Option Files) (words : List (List ℕ)) (left : Left) (before now : Counts) (old new : Option (List ℕ)) (result : Status)
+    → EndsWith holds words left before now old new result → (rack : List ℕ) (count seed : ℕ) → IsMake words rack count seed → result ≡ status.Done
+    → (plan : RackPlan) × JudgesOne holds rack 65536 rack_judged (Ok plan) × Appends old new (generated_text plan count seed)
+make-done holds words left before now old new result ends rack count seed is done =
+    let (text, (plan, judges, made, empty), appends) = done-by holds words left before now old new result (Make rack count seed) ends is done in
+    let P : List ℕ → Type 0 = λ t. Appends old new t in
+    (plan, judges, subst P made appends)
 
-no-run : (words : List (List ℕ)) (output : Output) (other paths : Paths) (journal : List ℕ) → IsForm words (Run output other) → IsCheck words paths journal → ⊥
-no-run words output other paths journal run is = let e = same-form words (Run output other) (Check paths journal) run is in absurd (cc)
+pub load-done : (holds : Option Files) (words : List (List ℕ)) (left : Left) (before now : Counts) (old new : Option (List ℕ)) (result : Status)
+    → EndsWith holds words left before now old new result → (rack : List ℕ) (count seed : ℕ) → IsLoad words rack count seed → result ≡ status.Done
+    → (accepted : Accepted) × JudgesMade holds rack count seed (Accepts accepted) × (text : List ℕ) × Headline accepted left text × Appends old new text
+load-done holds words left before now old new result ends rack count seed is done =
+    let (text, (accepted, judges, writes), appends) = done-by holds words left before now old new result (Load rack count seed) ends is done in
+    (accepted, judges, text, writes, appends)
 
-due-leaves : (holds : Option Files) (words : List (List ℕ)) (left : Left) (s : Status) (text : List ℕ) (paths : Paths) (journal : List ℕ) → Due holds words left s text → IsCheck words paths journal
+-- ---- what a check and the making of a schedule leave
+
+-- forms whose inputs are not run
+abbrev pub RunsNothing : Form → Type 0
+RunsNothing (Run output paths) = ⊥
+RunsNothing (Check paths journal) = Unit {0}
+RunsNothing (Make rack count seed) = Unit {0}
+RunsNothing (Load rack count seed) = ⊥
+
+run-nothing : (holds : Option Files) (form : Form) (accepted : Accepted) → IsRunBy holds form accepted → RunsNothing form → ⊥
+run-nothing holds (Run output paths) accepted by none = none
+run-nothing holds (Check paths journal) accepted by none = by
+run-nothing holds (Make rack count seed) accepted by none = by
+run-nothing holds (Load rack count seed) accepted by none = none
+
+done-leaves : (holds : Option Files) (form : Form) (left : Left) (text : List ℕ) → DoneBy holds form left text → RunsNothing form → LeavesNothing left
+done-leaves holds (Run output paths) left text done none = absurd none
+done-leaves holds (Check paths journal) left text (inputs, judges, whole, nothing) none = nothing
+done-leaves holds (Make rack count seed) left text (plan, judges, made, nothing) none = nothing
+done-leaves holds (Load rack count seed) left text done none = absurd none
+
+not-run : (holds : Option Files) (words : List (List ℕ)) (found form : Form) (accepted : Accepted) → IsForm words found → IsRunBy holds found accepted → IsForm words form → RunsNothing form → ⊥
+not-run holds words found form accepted also by is none =
+    let P : Form → Type 0 = λ f. IsRunBy holds f accepted in run-nothing holds form accepted (subst P (same-form words found form also is) by) none
+
+due-leaves : (holds : Option Files) (words : List (List ℕ)) (left : Left) (s : Status) (text : List ℕ) (form : Form) → Due holds words left s text → IsForm words form → RunsNothing form
     → LeavesNothing left
-due-leaves holds words left status.Done text paths journal (Run output other, also, by) is = absurd (no-run words output other paths journal also is)
-due-leaves holds words left status.Done text paths journal (Check others other, also, (inputs, judges, whole, nothing)) is = nothing
-due-leaves holds words left status.Usage text paths journal (none, nothing, line) is = nothing
-due-leaves holds words left status.Malformed text paths journal (found, also, refusal, by, nothing, line) is = nothing
-due-leaves holds words left status.NotARun text paths journal (others, other, also, inputs, judges, label, stuck, nothing, line) is = nothing
-due-leaves holds words left status.ReadFault text paths journal due is = absurd due
-due-leaves holds words left status.WriteFault text paths journal due is = absurd due
-due-leaves holds words left status.NoMemory text paths journal due is = absurd due
-due-leaves holds words left status.Spent text paths journal due is = absurd due
+due-leaves holds words left status.Done text form (found, also, by) is none =
+    let P : Form → Type 0 = λ f. DoneBy holds f left text in done-leaves holds form left text (subst P (same-form words found form also is) by) none
+due-leaves holds words left status.Usage text form (others, nothing, line) is none = nothing
+due-leaves holds words left status.Malformed text form (found, also, refusal, by, nothing, line) is none = nothing
+due-leaves holds words left status.NotARun text form (others, other, also, inputs, judges, label, stuck, nothing, line) is none = nothing
+due-leaves holds words left status.ReadFault text form due is none = absurd due
+due-leaves holds words left status.WriteFault text form due is none = absurd due
+due-leaves holds words left status.NoMemory text form due is none = absurd due
+due-leaves holds words left status.Spent text form due is none = absurd due
+
+form-leaves : (holds : Option Files) (words : List (List ℕ)) (left : Left) (before now : Counts) (old new : Option (List ℕ)) (result : Status)
+    → EndsWith holds words left before now old new result → (form : Form) → IsForm words form → RunsNothing form → LeavesNothing left
+form-leaves holds words left before now old new status.Done (text, due, appends) form is none = due-leaves holds words left status.Done text form due is none
+form-leaves holds words left before now old new status.Usage (text, due, appends) form is none = due-leaves holds words left status.Usage text form due is none
+form-leaves holds words left before now old new status.Malformed (text, due, appends) form is none = due-leaves holds words left status.Malformed text form due is none
+form-leaves holds words left before now old new status.NotARun (text, due, appends) form is none = due-leaves holds words left status.NotARun text form due is none
+form-leaves holds words left before now old new status.ReadFault (found, also, rises, told, nothing, kept) form is none = nothing
+form-leaves holds words left before now old new status.WriteFault (failure, s, text, due, front) form is none = due-leaves holds words left s text form due is none
+form-leaves holds words left before now old new status.NoMemory (some, (no_rack, inl empty), kept) form is none = (empty, no_rack)
+form-leaves holds words left before now old new status.NoMemory (some, (no_rack, inr (found, also, accepted, by, stands)), kept) form is none =
+    absurd (not-run holds words found form accepted also by is none)
+form-leaves holds words left before now old new status.Spent ((found, also, accepted, by, stopped), kept) form is none = absurd (not-run holds words found form accepted also by is none)
 
 pub check-leaves : (holds : Option Files) (words : List (List ℕ)) (left : Left) (before now : Counts) (old new : Option (List ℕ)) (result : Status)
     → EndsWith holds words left before now old new result → (paths : Paths) (journal : List ℕ) → IsCheck words paths journal → LeavesNothing left
-check-leaves holds words left before now old new status.Done (text, due, appends) paths journal is = due-leaves holds words left status.Done text paths journal due is
-check-leaves holds words left before now old new status.Usage (text, due, appends) paths journal is = due-leaves holds words left status.Usage text paths journal due is
-check-leaves holds words left before now old new status.Malformed (text, due, appends) paths journal is = due-leaves holds words left status.Malformed text paths journal due is
-check-leaves holds words left before now old new status.NotARun (text, due, appends) paths journal is = due-leaves holds words left status.NotARun text paths journal due is
-check-leaves holds words left before now old new status.ReadFault (found, also, rises, told, nothing, kept) paths journal is = nothing
-check-leaves holds words left before now old new status.WriteFault (failure, s, text, due, front) paths journal is = due-leaves holds words left s text paths journal due is
-check-leaves holds words left before now old new status.NoMemory (form, (no_rack, inl empty), kept) paths journal is = (empty, no_rack)
-check-leaves holds words left before now old new status.NoMemory (form, (no_rack, inr (output, other, run, accepted, judges, stands)), kept) paths journal is =
-    absurd (no-run words output other paths journal run is)
-check-leaves holds words left before now old new status.Spent ((output, other, run, accepted, judges, stopped), kept) paths journal is = absurd (no-run words output other paths journal run is)
+check-leaves holds words left before now old new result ends paths journal is = form-leaves holds words left before now old new result ends (Check paths journal) is tt
+
+pub make-leaves : (holds : Option Files) (words : List (List ℕ)) (left : Left) (before now : Counts) (old new : Option (List ℕ)) (result : Status)
+    → EndsWith holds words left before now old new result → (rack : List ℕ) (count seed : ℕ) → IsMake words rack count seed → LeavesNothing left
+make-leaves holds words left before now old new result ends rack count seed is = form-leaves holds words left before now old new result ends (Make rack count seed) is tt
 
 -- ---- a run that stopped
 
@@ -89,17 +134,28 @@ usage-answered holds words left before now old new status.NotARun (text, (paths,
 usage-answered holds words left before now old new status.ReadFault (found, also, rises, told, empty, kept) none = absurd (no-form words found none also)
 usage-answered holds words left before now old new status.WriteFault (failure, s, text, due, front) none = inr (refl, tt, failure)
 usage-answered holds words left before now old new status.NoMemory ((found, also), stands, kept) none = absurd (no-form words found none also)
-usage-answered holds words left before now old new status.Spent ((output, paths, also, accepted, judges, stopped), kept) none = absurd (no-form words (Run output paths) none also)
+usage-answered holds words left before now old new status.Spent ((found, also, accepted, by, stopped), kept) none = absurd (no-form words found none also)
 
 -- ---- where the store tells what it holds, the files decide the status
 
 done-called : (files : Files) (form : Form) (left : Left) (text : List ℕ) → DoneBy (Some files) form left text → CallFor files form status.Done
 done-called files (Run output paths) left text (accepted, judges, writes) = ap status_of (judges-judge files paths (Accepts accepted) judges)
 done-called files (Check paths journal) left text (inputs, judges, (state, whole, report), empty) = (Ok inputs, only files paths journal (Ok inputs) judges, ap status_of_replay (sym whole))
+done-called files (Make rack count seed) left text (plan, judges, made, empty) = ap status_of_one (one-is files rack 65536 rack_judged (Ok plan) judges)
+done-called files (Load rack count seed) left text (accepted, judges, writes) = ap status_of (judges-made files rack count seed (Accepts accepted) judges)
 
 ends-called : (files : Files) (form : Form) (ending : Ending) → EndsBy (Some files) form ending → CallFor files form (status_of_ending ending)
 ends-called files (Run output paths) ending judges = ap status_of (judges-judge files paths (Ends ending) judges)
 ends-called files (Check paths journal) ending judges = (Err ending, only files paths journal (Err ending) judges, refl)
+ends-called files (Make rack count seed) ending judges = ap status_of_one (one-is files rack 65536 rack_judged (Err ending) judges)
+ends-called files (Load rack count seed) ending judges = ap status_of (judges-made files rack count seed (Ends ending) judges)
+
+-- inputs that are run call for the end of a run, which may stop
+run-called : (files : Files) (form : Form) (accepted : Accepted) → IsRunBy (Some files) form accepted → CallFor files form status.Done × MayStop form status.Done
+run-called files (Run output paths) accepted judges = (ap status_of (judges-judge files paths (Accepts accepted) judges), refl)
+run-called files (Check paths journal) accepted by = absurd by
+run-called files (Make rack count seed) accepted by = absurd by
+run-called files (Load rack count seed) accepted judges = (ap status_of (judges-made files rack count seed (Accepts accepted) judges), refl)
 
 called-as : (files : Files) (words : List (List ℕ)) (found form : Form) (s : Status) → IsForm words found → IsForm words form → CallFor files found s → CallFor files form s
 called-as files words found form s also is called = let Q : Form → Type 0 = λ f. CallFor files f s in subst Q (same-form words found form also is) called
@@ -131,10 +187,10 @@ told files words left before now old new status.ReadFault (found, also, rises, i
 told files words left before now old new status.WriteFault (failure, s, text, due, front) form is no_fault =
     let called = due-called files words left text s form due is in inr (s, called.0, inl (inr (refl, called.1, failure)))
 told files words left before now old new status.NoMemory ends form is no_fault = inl refl
-told files words left before now old new status.Spent ((output, paths, also, accepted, judges, stopped), kept) form is no_fault =
-    let called = ap status_of (judges-judge files paths (Accepts accepted) judges) in
+told files words left before now old new status.Spent ((found, also, accepted, by, stopped), kept) form is no_fault =
+    let called = run-called files found accepted by in
     let Q : Form → Type 0 = λ f. MayStop f status.Done in
-    inr (status.Done, called-as files words (Run output paths) form status.Done also is called, inr (refl, subst Q (same-form words (Run output paths) form also is) refl))
+    inr (status.Done, called-as files words found form status.Done also is called.0, inr (refl, subst Q (same-form words found form also is) called.1))
 
 pub told-where-held : (holds : Option Files) (words : List (List ℕ)) (left : Left) (before now : Counts) (old new : Option (List ℕ)) (result : Status)
     → EndsWith holds words left before now old new result

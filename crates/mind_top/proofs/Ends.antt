@@ -3,21 +3,24 @@ use Rattle.std.proofs.Common.{◌≡◌, ℕ, inl, inr, List, sym, refl, subst, 
 use Rattle.mind_base.specs.Store.{Files}
 use Rattle.mind_base.specs.Sink.{Appends}
 use Rattle.mind_base.specs.declared.notes.Note.{Note}
+use Rattle.mind_base.specs.declared.plans.RackPlan.{RackPlan}
+use Rattle.rack_gen.specs.Generator.{generated_text}
 use Rattle.mind_inputs.specs.Words.{Paths}
 use Rattle.mind_inputs.specs.Refusal.{line_of}
-use Rattle.mind_inputs.specs.Inputs.{Missing, Judged, Ends, Accepts, Accepted, Judges}
+use Rattle.mind_inputs.specs.Inputs.{Missing, Judged, Ends, Accepts, Accepted, JudgesOne, Judges, JudgesMade, rack_judged}
 use Rattle.mind_inputs.specs.Journals.{Checkable, JudgesCheck}
 use Rattle.mind_inputs.specs.Loading.{FaultTold, MissTold, Loads, StopsBy}
 use Rattle.mind_inputs.specs.declared.stopped.Stopped.{Stopped}
 use Rattle.mind_inputs.specs.declared.stopped.Stopped.TheVariants as stopped
 use Rattle.rack_core.specs.Rack.{RackView}
-use Rattle.mind_top.specs.Words.{Form, Run, Check, IsForm}
-use Rattle.mind_top.specs.Due.{EndsBy, Due, not_a_run_line}
+use Rattle.mind_top.specs.Words.{Form, Run, Check, Make, Load, IsForm}
+use Rattle.mind_top.specs.Due.{DoneBy, EndsBy, IsRunBy, Due, not_a_run_line}
 use Rattle.mind_top.specs.Ending.{Counts, EndsWith}
 use Rattle.mind_top.specs.Headline.{RunWrites}
 use Rattle.mind_top.specs.Left.{Left, LeavesNothing}
 use Rattle.mind_top.specs.Parts.{Says, SaysLine, Stops, RunEnds, CheckEnds}
 use Rattle.mind_top.specs.declared.words.Output.{Output}
+use Rattle.mind_top.specs.declared.words.Output.TheVariants.{Report}
 use Rattle.mind_top.specs.declared.statuses.Status.{Status}
 use Rattle.mind_top.specs.declared.statuses.Status.TheVariants as status
 
@@ -81,17 +84,37 @@ run-stopped holds words output paths left before now old new why result empty is
     stopped-call holds words (Run output paths) left before now old new why result empty is
     (loads-stops holds (Judges holds paths) before.faults now.faults before.missed now.missed why loads) says
 
+pub load-stopped : (holds : Option Files) (words : List (List ℕ)) (rack : List ℕ) (count seed : ℕ) (left : Left) (before now : Counts) (old new : Option (List ℕ)) (why : Stopped) (result : Status)
+    → LeavesNothing left → IsForm words (Load rack count seed) → Loads holds (JudgesMade holds rack count seed) before.faults now.faults before.missed now.missed (Err why)
+    → Stops old new before.failed now.failed why result → EndsWith holds words left before now old new result
+load-stopped holds words rack count seed left before now old new why result empty is loads says =
+    stopped-call holds words (Load rack count seed) left before now old new why result empty is
+    (loads-stops holds (JudgesMade holds rack count seed) before.faults now.faults before.missed now.missed why loads) says
+
+-- the inputs of this form were run, and what a run writes is what is due
+ran-ended : (holds : Option Files) (words : List (List ℕ)) (form : Form) (output : Output) (accepted : Accepted) (left : Left) (before now : Counts) (old new : Option (List ℕ)) (result : Status)
+    → IsForm words form → IsRunBy holds form accepted → ((text : List ℕ) → RunWrites output accepted left text → DoneBy holds form left text)
+    → RunEnds output accepted left old new before.failed now.failed result → EndsWith holds words left before now old new result
+ran-ended holds words form output accepted left before now old new result is by done (inl (none, kept, no_rack, stands)) =
+    let P : Status → Type 0 = λ s. EndsWith holds words left before now old new s in
+    subst P (sym none) ((form, is), (no_rack, inr (form, is, accepted, by, stands)), kept)
+ran-ended holds words form output accepted left before now old new result is by done (inr (inl (spent, kept, stopped))) =
+    let P : Status → Type 0 = λ s. EndsWith holds words left before now old new s in
+    subst P (sym spent) ((form, is, accepted, by, stopped), kept)
+ran-ended holds words form output accepted left before now old new result is by done (inr (inr (text, writes, says))) =
+    said holds words left before now old new text status.Done result (form, is, done text writes) says
+
 pub run-ended : (holds : Option Files) (words : List (List ℕ)) (output : Output) (paths : Paths) (accepted : Accepted) (left : Left) (before now : Counts) (old new : Option (List ℕ)) (result : Status)
     → IsForm words (Run output paths) → Judges holds paths (Accepts accepted) → RunEnds output accepted left old new before.failed now.failed result
     → EndsWith holds words left before now old new result
-run-ended holds words output paths accepted left before now old new result is judges (inl (none, kept, no_rack, stands)) =
-    let P : Status → Type 0 = λ s. EndsWith holds words left before now old new s in
-    subst P (sym none) ((Run output paths, is), (no_rack, inr (output, paths, is, accepted, judges, stands)), kept)
-run-ended holds words output paths accepted left before now old new result is judges (inr (inl (spent, kept, stopped))) =
-    let P : Status → Type 0 = λ s. EndsWith holds words left before now old new s in
-    subst P (sym spent) ((output, paths, is, accepted, judges, stopped), kept)
-run-ended holds words output paths accepted left before now old new result is judges (inr (inr (text, writes, says))) =
-    said holds words left before now old new text status.Done result (Run output paths, is, (accepted, judges, writes)) says
+run-ended holds words output paths accepted left before now old new result is judges ends =
+    ran-ended holds words (Run output paths) output accepted left before now old new result is judges (λ text writes. (accepted, judges, writes)) ends
+
+pub load-ended : (holds : Option Files) (words : List (List ℕ)) (rack : List ℕ) (count seed : ℕ) (accepted : Accepted) (left : Left) (before now : Counts) (old new : Option (List ℕ)) (result : Status)
+    → IsForm words (Load rack count seed) → JudgesMade holds rack count seed (Accepts accepted) → RunEnds Report accepted left old new before.failed now.failed result
+    → EndsWith holds words left before now old new result
+load-ended holds words rack count seed accepted left before now old new result is judges ends =
+    ran-ended holds words (Load rack count seed) Report accepted left before now old new result is judges (λ text writes. (accepted, judges, writes)) ends
 
 pub run-said : (output : Output) (accepted : Accepted) (left : Left) (old new : Option (List ℕ)) (failed failed' : ℕ) (said text : List ℕ) (result : Status) → RunWrites output accepted left text
     → said ≡ text → Says old new failed failed' said status.Done result → RunEnds output accepted left old new failed failed' result
@@ -114,6 +137,15 @@ check-ended holds words paths journal inputs before now old new result is judges
 check-ended holds words paths journal inputs before now old new result is judges (inr (inr (label, stuck, says))) =
     said-line holds words (Check paths journal) nothing before now old new (not_a_run_line label) status.NotARun result (refl, refl) is
     (paths, journal, is, inputs, judges, label, stuck, (refl, refl), refl) says
+
+-- ---- a schedule that is made
+
+pub make-ended : (holds : Option Files) (words : List (List ℕ)) (rack : List ℕ) (count seed : ℕ) (plan : RackPlan) (before now : Counts) (old new : Option (List ℕ)) (result : Status)
+    → IsForm words (Make rack count seed) → JudgesOne holds rack 65536 rack_judged (Ok plan)
+    → SaysLine old new before.failed now.failed (generated_text plan count seed) status.Done result → EndsWith holds words nothing before now old new result
+make-ended holds words rack count seed plan before now old new result is judges says =
+    said-line holds words (Make rack count seed) nothing before now old new (generated_text plan count seed) status.Done result (refl, refl) is
+    (Make rack count seed, is, (plan, judges, refl, (refl, refl))) says
 
 -- a log that stayed empty, and no rack
 pub with-nothing : (holds : Option Files) (words : List (List ℕ)) (log : List Note) (end : Option RackView) (before now : Counts) (old new : Option (List ℕ)) (result : Status)

@@ -1,8 +1,11 @@
 -- Words are of one form at most.
-use Rattle.std.proofs.Common.{◌≡◌, ℕ, ◌∙◌, List, ap, sym, refl, subst}
+use Rattle.std.proofs.Common.{◌≡◌, ℕ, ◌<◌, ◌≤◌, ◌∙◌, codes, List, [], ◌∷◌, length, get_or, map, string_bytes, String, Global, Result, Ok, ap, sym, refl, subst, arith}
+use Rattle.std.proofs.lemmas.List.{length-map}
 use Rattle.mind_inputs.specs.Words.{Paths}
 use Rattle.mind_top.specs.Asked.{form_asked}
-use Rattle.mind_top.specs.Words.{Form, Run, Check, run_word, IsForm, IsNoForm}
+use Rattle.mind_base.specs.Number.{number_of}
+use Rattle.mind_base.specs.declared.numbers.NumberFault.{NumberFault}
+use Rattle.mind_top.specs.Words.{Form, Run, Check, Make, Load, run_word, IsNumber, IsDrawn, IsForm, IsNoForm}
 use Rattle.mind_top.specs.declared.words.Asked.{Asked}
 use Rattle.mind_top.specs.declared.words.Output.{Output}
 use Rattle.mind_top.specs.declared.words.Output.TheVariants.{Report, Journal}
@@ -18,23 +21,138 @@ paths-by p q rack schedule =
     ap (λ (x : List ℕ). let r : Paths = record { rack = x; schedule = p.schedule } in r) rack
     ∙ ap (λ (x : List ℕ). let r : Paths = record { rack = q.rack; schedule = x } in r) schedule
 
+-- a word by its number, and the first letter of the first
+abbrev word-at : ℕ → List (List ℕ) → List ℕ
+word-at n words = get_or words n []
+
+abbrev first-letter : List (List ℕ) → ℕ
+first-letter words = get_or (word-at 0 words) 0 0
+
+same-value : (n m : ℕ) → (let read : Result ℕ NumberFault = Ok n in read) ≡ Ok m → n ≡ m
+same-value n m e = cc
+
+-- a word is one number
+same-number : (word other : List ℕ) (limit n m : ℕ) → word ≡ other → IsNumber word limit n → IsNumber other limit m → n ≡ m
+same-number word other limit n m same a b = same-value n m (sym a.reads ∙ ap (λ w. number_of w limit) same ∙ b.reads)
+
+same-drawn : (name : List ℕ) (words : List (List ℕ)) (form : List ℕ → ℕ → ℕ → Form) (rack other : List ℕ) (count counted seed seeded : ℕ)
+    → IsDrawn name words rack count seed → IsDrawn name words other counted seeded → form rack count seed ≡ form other counted seeded
+same-drawn name words form rack other count counted seed seeded a b =
+    let e = sym a.words_are ∙ b.words_are in
+    let racks : rack ≡ other = ap (word-at 1) e in
+    let counts = same-number a.count_word b.count_word 200000 count counted (ap (word-at 2) e) a.count_is b.count_is in
+    let seeds = same-number a.seed_word b.seed_word 4294967295 seed seeded (ap (word-at 3) e) a.seed_is b.seed_is in
+    λ i. form (racks i) (counts i) (seeds i)
+
 pub same-form : (words : List (List ℕ)) (f g : Form) → IsForm words f → IsForm words g → f ≡ g
 same-form words (Run o p) (Run u q) a b =
     let e = sym a ∙ b in
     let word : run_word o ≡ run_word u = cc in let rack : p.rack ≡ q.rack = cc in let schedule : p.schedule ≡ q.schedule = cc in
     ap (λ x. Run x p) (same-output o u word) ∙ ap (λ x. Run u x) (paths-by p q rack schedule)
-same-form words (Run o p) (Check q journal) a b = let e = sym a ∙ b in absurd (cc)
-same-form words (Check p journal) (Run u q) a b = let e = sym a ∙ b in absurd (cc)
+same-form words (Run o p) (Check q journal) a b = absurd (omega (arith, ap length (sym a ∙ b)))
+same-form words (Run o p) (Make rack count seed) a b = absurd (omega (arith, ap length (sym a ∙ b.words_are)))
+same-form words (Run o p) (Load rack count seed) a b = absurd (omega (arith, ap length (sym a ∙ b.words_are)))
+same-form words (Check p journal) (Run u q) a b = absurd (omega (arith, ap length (sym a ∙ b)))
 same-form words (Check p journal) (Check q other) a b =
     let e = sym a ∙ b in
     let rack : p.rack ≡ q.rack = cc in let schedule : p.schedule ≡ q.schedule = cc in let same : journal ≡ other = cc in
     ap (λ x. Check x journal) (paths-by p q rack schedule) ∙ ap (λ x. Check q x) same
+same-form words (Check p journal) (Make rack count seed) a b = absurd (omega (arith, ap first-letter (sym a ∙ b.words_are)))
+same-form words (Check p journal) (Load rack count seed) a b = absurd (omega (arith, ap first-letter (sym a ∙ b.words_are)))
+same-form words (Make rack count seed) (Run u q) a b = absurd (omega (arith, ap length (sym a.words_are ∙ b)))
+same-form words (Make rack count seed) (Check q journal) a b = absurd (omega (arith, ap first-letter (sym a.words_are ∙ b)))
+same-form words (Make rack count seed) (Make other counted seeded) a b = same-drawn (codes "make") words Make rack other count counted seed seeded a b
+same-form words (Make rack count seed) (Load other counted seeded) a b = absurd (omega (arith, ap first-letter (sym a.words_are ∙ b.words_are)))
+same-form words (Load rack count seed) (Run u q) a b = absurd (omega (arith, ap length (sym a.words_are ∙ b)))
+same-form words (Load rack count seed) (Check q journal) a b = absurd (omega (arith, ap first-letter (sym a.words_are ∙ b)))
+same-form words (Load rack count seed) (Make other counted seeded) a b = absurd (omega (arith, ap first-letter (sym a.words_are ∙ b.words_are)))
+same-form words (Load rack count seed) (Load other counted seeded) a b = same-drawn (codes "load") words Load rack other count counted seed seeded a b
 
 pub no-form : (words : List (List ℕ)) (f : Form) → IsNoForm words → IsForm words f → ⊥
-no-form words (Run Report p) (run, journal, check) is = run p is
-no-form words (Run Journal p) (run, journal, check) is = journal p is
-no-form words (Check p j) (run, journal, check) is = check p j is
+no-form words (Run Report p) (run, journal, check, make, load) is = run p is
+no-form words (Run Journal p) (run, journal, check, make, load) is = journal p is
+no-form words (Check p j) (run, journal, check, make, load) is = check p j is
+no-form words (Make rack count seed) (run, journal, check, make, load) is = make rack count seed is
+no-form words (Load rack count seed) (run, journal, check, make, load) is = load rack count seed is
 
 -- what the code found, under its name
 pub asked-as : (words : List (List ℕ)) (a b : Asked) → a ≡ b → IsForm words (form_asked a) → IsForm words (form_asked b)
 asked-as words a b same is = let P : Asked → Type 0 = λ x. IsForm words (form_asked x) in subst P same is
+
+-- ---- words of no form
+
+-- as many as no form has
+pub wrong-length : (words : List (String Global)) → (length words ≡ 3 → ⊥) → (length words ≡ 4 → ⊥) → IsNoForm (map string_bytes words)
+wrong-length words three four =
+    let long = length-map words string_bytes in (
+      (λ paths e. three (omega (arith, long, ap length e))),
+      (λ paths e. three (omega (arith, long, ap length e))),
+      (λ paths journal e. four (omega (arith, long, ap length e))),
+      (λ rack count seed d. four (omega (arith, long, ap length d.words_are))),
+      (λ rack count seed d. four (omega (arith, long, ap length d.words_are))),
+    )
+
+-- four words by their numbers
+four-are : (words : List (String Global)) (w r t f : String Global) → 4 ≤ length words → length words < 5 → w ≡ get_or words 0 w → r ≡ get_or words 1 r → t ≡ get_or words 2 t → f ≡ get_or words 3 f
+    → map string_bytes words ≡ string_bytes w ∷ string_bytes r ∷ string_bytes t ∷ string_bytes f ∷ []
+four-are [] w r t f least most ew er et ef = absurd (omega arith)
+four-are (a ∷ []) w r t f least most ew er et ef = absurd (omega arith)
+four-are (a ∷ b ∷ []) w r t f least most ew er et ef = absurd (omega arith)
+four-are (a ∷ b ∷ c ∷ []) w r t f least most ew er et ef = absurd (omega arith)
+four-are (a ∷ b ∷ c ∷ d ∷ []) w r t f least most ew er et ef = λ i. string_bytes (sym ew i) ∷ string_bytes (sym er i) ∷ string_bytes (sym et i) ∷ string_bytes (sym ef i) ∷ []
+four-are (a ∷ b ∷ c ∷ d ∷ e ∷ more) w r t f least most ew er et ef = absurd (omega arith)
+
+-- no numbers that a schedule could be made by
+abbrev AreNoNumbers : List ℕ → List ℕ → Type 0
+AreNoNumbers count seed = (n m : ℕ) → IsNumber count 200000 n → IsNumber seed 4294967295 m → ⊥
+
+none-drawn : (name : List ℕ) (words : List (List ℕ)) (rack count seed : List ℕ) → words ≡ name ∷ rack ∷ count ∷ seed ∷ [] → AreNoNumbers count seed
+    → (other : List ℕ) (n m : ℕ) → IsDrawn name words other n m → ⊥
+none-drawn name words rack count seed is none other n m d =
+    let e = sym d.words_are ∙ is in
+    none n m (subst (λ w. IsNumber w 200000 n) (ap (word-at 2) e) d.count_is) (subst (λ w. IsNumber w 4294967295 m) (ap (word-at 3) e) d.seed_is)
+
+make-none : (words : List (List ℕ)) (rack count seed : List ℕ) → words ≡ codes "make" ∷ rack ∷ count ∷ seed ∷ [] → AreNoNumbers count seed → IsNoForm words
+make-none words rack count seed is none = (
+  (λ paths e. omega (arith, ap length (sym e ∙ is))),
+  (λ paths e. omega (arith, ap length (sym e ∙ is))),
+  (λ paths journal e. omega (arith, ap first-letter (sym e ∙ is))),
+  none-drawn (codes "make") words rack count seed is none,
+  (λ other n m d. omega (arith, ap first-letter (sym d.words_are ∙ is))),
+)
+
+load-none : (words : List (List ℕ)) (rack count seed : List ℕ) → words ≡ codes "load" ∷ rack ∷ count ∷ seed ∷ [] → AreNoNumbers count seed → IsNoForm words
+load-none words rack count seed is none = (
+  (λ paths e. omega (arith, ap length (sym e ∙ is))),
+  (λ paths e. omega (arith, ap length (sym e ∙ is))),
+  (λ paths journal e. omega (arith, ap first-letter (sym e ∙ is))),
+  (λ other n m d. omega (arith, ap first-letter (sym d.words_are ∙ is))),
+  none-drawn (codes "load") words rack count seed is none,
+)
+
+-- what was found of four words: the first is this name, and the last two are no numbers
+pub record AreUnnumbered (name : List ℕ) (words : List (String Global)) (w r t f : String Global) (first count seed : List ℕ) : Type 0 where
+  pub least : 4 ≤ length words
+  pub most : length words < 5
+  pub at_first : w ≡ get_or words 0 w
+  pub at_rack : r ≡ get_or words 1 r
+  pub at_third : t ≡ get_or words 2 t
+  pub at_fourth : f ≡ get_or words 3 f
+  pub named : first ≡ name
+  pub first_is : first ≡ string_bytes w
+  pub count_is : count ≡ string_bytes t
+  pub seed_is : seed ≡ string_bytes f
+  pub none : AreNoNumbers count seed
+
+words-of : (name : List ℕ) (words : List (String Global)) (w r t f : String Global) (first count seed : List ℕ) → AreUnnumbered name words w r t f first count seed
+    → map string_bytes words ≡ name ∷ string_bytes r ∷ count ∷ seed ∷ []
+words-of name words w r t f first count seed u =
+    let named : string_bytes w ≡ name = sym u.first_is ∙ u.named in
+    four-are words w r t f u.least u.most u.at_first u.at_rack u.at_third u.at_fourth
+    ∙ (λ i. named i ∷ string_bytes r ∷ sym u.count_is i ∷ sym u.seed_is i ∷ [])
+
+pub make-unnumbered : (words : List (String Global)) (w r t f : String Global) (first count seed : List ℕ) → AreUnnumbered (codes "make") words w r t f first count seed → IsNoForm (map string_bytes words)
+make-unnumbered words w r t f first count seed u = make-none (map string_bytes words) (string_bytes r) count seed (words-of (codes "make") words w r t f first count seed u) u.none
+
+pub load-unnumbered : (words : List (String Global)) (w r t f : String Global) (first count seed : List ℕ) → AreUnnumbered (codes "load") words w r t f first count seed → IsNoForm (map string_bytes words)
+load-unnumbered words w r t f first count seed u = load-none (map string_bytes words) (string_bytes r) count seed (words-of (codes "load") words w r t f first count seed u) u.none

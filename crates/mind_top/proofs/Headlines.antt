@@ -1,5 +1,7 @@
 -- What stands at the end of a run.
 use Rattle.std.proofs.Common.{◌≡◌, ◌∙◌, ℕ, List, length, subst, Option, Some}
+use Rattle.std.specs.List.{AllByRecursion}
+use Rattle.mind_base.specs.Fit.{IsFit}
 use Rattle.mind_base.specs.declared.images.Image.{Image}
 use Rattle.mind_base.specs.declared.events.Event.{Event}
 use Rattle.mind_base.specs.declared.notes.Note.{Note}
@@ -11,24 +13,37 @@ use Rattle.rack_core.specs.Calls.{HasSpentNumber}
 use Rattle.rack_core.specs.Rack.{RackView}
 use Rattle.rack_core.specs.Start.{IsStart}
 use Rattle.mind_top.specs.Headline.{setup_by, RunWrites, IsTextOf, IsStopped}
-use Rattle.mind_top.specs.Ran.{RanThrough, HasRun}
+use Rattle.rack_core.proofs.StandShaped.{shaped-counted}
+use Rattle.rack_settle.specs.Ran.{IsRunFor, HasRun}
+use Rattle.rack_settle.proofs.Prompts.{happens_in_log}
+use Rattle.rack_settle.proofs.Schedules.{settled_labels_of}
+use Rattle.mind_top.specs.Ran.{RanThrough}
 use Rattle.mind_top.specs.declared.words.Output.{Output}
 use Rattle.mind_top.specs.declared.words.Output.TheVariants.{Report, Journal}
-use Rattle.mind_top.proofs.Rans.{whole-run}
+use Rattle.mind_top.proofs.Rans.{whole-run, ran-events}
 
 -- the rack at the end of all events of the accepted inputs
 pub ran-through : (accepted : Accepted) (images : List Image) (es : List Event) (first last : RackView) (log : List Note) → images ≡ accepted.images → es ≡ accepted.events
-    → IsStart accepted.plan first → HasRun images es first last log → RanThrough accepted log last
-ran-through accepted images es first last log same all start has =
+    → IsFit accepted.plan → AllByRecursion (IsRunFor accepted.plan) accepted.events → IsStart accepted.plan first → HasRun images es first last log → RanThrough accepted log last
+ran-through accepted images es first last log same all fit fits start has =
     let P : List Image → Type 0 = λ xs. HasRun xs accepted.events first last log in
     let Q : List Event → Type 0 = λ xs. HasRun images xs first last log in
     let run = subst P same (subst Q all has) in
-    record { plan = run.plan ∙ start.of_plan; first = first; start = start; ran = run.ran; stands = run.stands }
+    let counted = shaped-counted last run.kept.shape in
+    record {
+      plan = run.plan ∙ start.of_plan;
+      first = first;
+      start = start;
+      ran = run.ran;
+      stands = run.stands;
+      settled = settled_labels_of accepted.images accepted.plan accepted.events first last log fit start fits run.ran counted;
+      at_once = happens_in_log accepted.images accepted.plan accepted.events first last log fit start fits run.ran counted;
+    }
 
 pub all-events : (accepted : Accepted) (images : List Image) (es : List Event) (first last : RackView) (log : List Note) → es ≡ accepted.events
     → HasRun images es first last log → events log ≡ below (length accepted.events)
 all-events accepted images es first last log all has =
-    let P : List Event → Type 0 = λ xs. events log ≡ below (length xs) in subst P all has.events
+    let P : List Event → Type 0 = λ xs. events log ≡ below (length xs) in subst P all (ran-events images es first last log has.ran)
 
 pub through-whole : (accepted : Accepted) (log : List Note) (rack : RackView) → RanThrough accepted log rack → IsWholeRun (setup_by accepted) log
 through-whole accepted log rack ran = whole-run accepted.images accepted.plan rack log ran.plan ran.stands

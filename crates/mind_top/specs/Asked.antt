@@ -1,8 +1,18 @@
 -- What the code found the words to ask for.
-use Rattle.mind_top.specs.Words.{Form, Run, Check}
+use Rattle.std.specs.Prelude.{◌≤◌}
+use Rattle.mind_top.specs.Words.{Form, Run, Check, Make, Load}
 use Rattle.mind_top.specs.declared.words.Asked.{Asked}
 use Rattle.mind_top.specs.declared.words.Asked.TheVariants as asked
 
 abbrev pub form_asked : Asked → Form
 form_asked (asked.Run output rack schedule) = Run output (record { rack = rack.now; schedule = schedule.now })
 form_asked (asked.Check rack schedule journal) = Check (record { rack = rack.now; schedule = schedule.now }) journal.now
+form_asked (asked.Make rack count seed) = Make rack.now count seed
+form_asked (asked.Load rack count seed) = Load rack.now count seed
+
+-- not too many lines are to be drawn
+abbrev pub IsFew : Asked → Type 0
+IsFew (asked.Run output rack schedule) = Unit {0}
+IsFew (asked.Check rack schedule journal) = Unit {0}
+IsFew (asked.Make rack count seed) = count ≤ 200000
+IsFew (asked.Load rack count seed) = count ≤ 200000

@@ -1,10 +1,13 @@
 -- What is due: by the form of the words and the files that they name.
 use Rattle.std.specs.Prelude.{◌≡◌, ◌⊎◌, ℕ, false, codes, List, [], ◌∷◌, ◌++◌, Option, None, Result, Ok, Err}
 use Rattle.std.specs.Fmt.{digits}
+use Rattle.std.specs.FinMap as finite
 use Rattle.mind_base.specs.Store.{Files, Rises}
+use Rattle.mind_base.specs.declared.plans.RackPlan.{RackPlan}
+use Rattle.rack_gen.specs.Generator.{generated_text}
 use Rattle.mind_inputs.specs.Words.{Paths}
 use Rattle.mind_inputs.specs.Refusal.{line_of}
-use Rattle.mind_inputs.specs.Inputs.{Ending, Missing, Refused, Judged, Ends, Accepts, Accepted, Judges, judge}
+use Rattle.mind_inputs.specs.Inputs.{Ending, Missing, Refused, Judged, Ends, Accepts, Accepted, JudgesOne, Judges, JudgesMade, rack_judged, seen_of, judge, judge_made}
 use Rattle.mind_inputs.specs.Journals.{Checkable, JudgesCheck, IsOnlyJudgement}
 use Rattle.mind_inputs.specs.declared.refusals.Refusal.{Refusal}
 use Rattle.tso_machine.specs.State.{start_state}
@@ -13,8 +16,8 @@ use Rattle.report_text.specs.Report.{report_text}
 use Rattle.mind_steps.specs.Run.{IsReportOf, IsStuckAt, Stands}
 use Rattle.mind_top.specs.Headline.{setup_by, RunWrites, IsStopped}
 use Rattle.mind_top.specs.Left.{Left, LeavesNothing}
-use Rattle.mind_top.specs.Words.{Form, Run, Check, IsForm, IsCheck, IsNoForm, usage_line}
-use Rattle.mind_top.specs.declared.words.Output.{Output}
+use Rattle.mind_top.specs.Words.{Form, Run, Check, Make, Load, IsForm, IsCheck, IsNoForm, usage_line}
+use Rattle.mind_top.specs.declared.words.Output.TheVariants.{Report}
 use Rattle.mind_top.specs.declared.statuses.Status.{Status}
 use Rattle.mind_top.specs.declared.statuses.Status.TheVariants as status
 
@@ -33,15 +36,27 @@ not_a_run_line label = codes "not a run: label " ++ digits 10 false label ++ 10 
 
 -- ---- by the form
 
--- the inputs of a form are accepted, and this is due to be left and written; a check leaves nothing
+-- the inputs of a form are accepted, and this is due to be left and written; only what runs leaves something
 abbrev pub DoneBy : Option Files → Form → Left → List ℕ → Type 0
 DoneBy holds (Run output paths) left text = (accepted : Accepted) × Judges holds paths (Accepts accepted) × RunWrites output accepted left text
 DoneBy holds (Check paths journal) left text = (inputs : Checkable) × JudgesCheck holds paths journal (Ok inputs) × IsWhole inputs text × LeavesNothing left
+DoneBy holds (Make rack count seed) left text =
+    (plan : RackPlan) × JudgesOne holds rack 65536 rack_judged (Ok plan) × (text ≡ generated_text plan count seed) × LeavesNothing left
+DoneBy holds (Load rack count seed) left text = (accepted : Accepted) × JudgesMade holds rack count seed (Accepts accepted) × RunWrites Report accepted left text
 
 -- an input of a form ends the call
 abbrev pub EndsBy : Option Files → Form → Ending → Type 0
 EndsBy holds (Run output paths) ending = Judges holds paths (Ends ending)
 EndsBy holds (Check paths journal) ending = JudgesCheck holds paths journal (Err ending)
+EndsBy holds (Make rack count seed) ending = JudgesOne holds rack 65536 rack_judged (Err ending)
+EndsBy holds (Load rack count seed) ending = JudgesMade holds rack count seed (Ends ending)
+
+-- these accepted inputs of a form are run
+abbrev pub IsRunBy : Option Files → Form → Accepted → Type 0
+IsRunBy holds (Run output paths) accepted = Judges holds paths (Accepts accepted)
+IsRunBy holds (Check paths journal) accepted = ⊥
+IsRunBy holds (Make rack count seed) accepted = ⊥
+IsRunBy holds (Load rack count seed) accepted = JudgesMade holds rack count seed (Accepts accepted)
 
 -- The status and the text that are due where the one write does not fail, and what is left then.
 abbrev pub Due : Option Files → List (List ℕ) → Left → Status → List ℕ → Type 0
@@ -60,13 +75,12 @@ Due holds words left status.Spent text = ⊥
 -- Where memory ran out, no rack is left, and the labels before the last event of the log replay, if a run took place
 -- at all.
 abbrev pub LogStands : Option Files → List (List ℕ) → Left → Type 0
-LogStands holds words left = (left.end ≡ None) × ((left.log ≡ []) ⊎ ((output : Output) × (paths : Paths) × IsForm words (Run output paths) × (accepted : Accepted)
-    × Judges holds paths (Accepts accepted) × Stands (setup_by accepted) left.log))
+LogStands holds words left = (left.end ≡ None) × ((left.log ≡ [])
+    ⊎ ((form : Form) × IsForm words form × (accepted : Accepted) × IsRunBy holds form accepted × Stands (setup_by accepted) left.log))
 
 -- the inputs of a run are accepted, and it stopped
 abbrev pub StopsRun : Option Files → List (List ℕ) → Left → Type 0
-StopsRun holds words left = (output : Output) × (paths : Paths) × IsForm words (Run output paths) × (accepted : Accepted)
-    × Judges holds paths (Accepts accepted) × IsStopped accepted left
+StopsRun holds words left = (form : Form) × IsForm words form × (accepted : Accepted) × IsRunBy holds form accepted × IsStopped accepted left
 
 -- ---- the status that the files call for
 
@@ -77,6 +91,11 @@ status_of_ending (Refused refusal) = status.Malformed
 abbrev pub status_of : Judged → Status
 status_of (Ends ending) = status_of_ending ending
 status_of (Accepts accepted) = status.Done
+
+-- where one input is all that is read
+abbrev pub status_of_one : {X : Type 0} → Result X Ending → Status
+status_of_one (Ok x) = status.Done
+status_of_one (Err ending) = status_of_ending ending
 
 abbrev pub status_of_replay : Replayed → Status
 status_of_replay (Whole state) = status.Done
@@ -90,6 +109,8 @@ status_of_check (Ok inputs) = status_of_replay (replay (setup_by inputs.accepted
 abbrev pub CallFor : Files → Form → Status → Type 0
 CallFor files (Run output paths) due = due ≡ status_of (judge files paths)
 CallFor files (Check paths journal) due = (answer : Result Checkable Ending) × IsOnlyJudgement files paths journal answer × (due ≡ status_of_check answer)
+CallFor files (Make rack count seed) due = due ≡ status_of_one (rack_judged (seen_of (finite.get files rack) 65536))
+CallFor files (Load rack count seed) due = due ≡ status_of (judge_made files rack count seed)
 
 -- something is written with this status
 abbrev pub IsSaid : Status → Type 0
@@ -106,10 +127,12 @@ IsSaid status.Spent = ⊥
 abbrev pub IsAnswered : ℕ → ℕ → Status → Status → Type 0
 IsAnswered failed failed' due result = (result ≡ due) ⊎ ((result ≡ status.WriteFault) × IsSaid due × Rises failed failed')
 
--- a run that the files call for may stop where a number would pass its last value; a check has no rack
+-- a run that the files call for may stop where a number would pass its last value; the other forms have no rack
 abbrev pub MayStop : Form → Status → Type 0
 MayStop (Run output paths) due = due ≡ status.Done
 MayStop (Check paths journal) due = ⊥
+MayStop (Make rack count seed) due = ⊥
+MayStop (Load rack count seed) due = due ≡ status.Done
 
 -- The files decide the status. It gives way to want of memory, in a run to a number at its last value, and to a
 -- failed write where the files call for one.

@@ -1,10 +1,15 @@
-ghost use Rattle.std.specs.Prelude.{◌≡◌, ℕ, List, Some, Result};
+ghost use Rattle.std.specs.Prelude.{◌≡◌, ◌↔◌, ◌≤◌, ℕ, List, Some, Result, Ok};
+ghost use Rattle.std.specs.FinMap.{get};
+ghost use Rattle.mind_base.specs.Fit.{IsFit};
 ghost use Rattle.mind_base.specs.Store.{Files};
-ghost use Rattle.mind_inputs.specs.Inputs.{Ending};
+ghost use Rattle.mind_base.specs.declared.plans.RackPlan.{RackPlan as rack_plan};
+ghost use Rattle.rack_gen.specs.Generator.{generated_text};
+ghost use Rattle.mind_inputs.specs.Inputs.{Ending, rack_judged, seen_of};
 ghost use Rattle.mind_inputs.specs.Journals.{Checkable, JudgesCheck};
 ghost use Rattle.mind_inputs.specs.Words.{Paths};
-ghost use Rattle.mind_top.specs.Words.{Form, IsCheck};
-ghost use Rattle.mind_top.specs.Due.{Due, CallFor, said_of_check};
+ghost use Rattle.mind_top.specs.Words.{Form, Run, Load, IsCheck};
+ghost use Rattle.mind_top.specs.declared.words.Output.TheVariants.{Report as report};
+ghost use Rattle.mind_top.specs.Due.{DoneBy, Due, CallFor, said_of_check};
 ghost use Rattle.mind_top.specs.Left.{Left};
 ghost use Rattle.mind_top.specs.declared.statuses.Status.{Status as status};
 
@@ -14,4 +19,12 @@ pub fn the_files_decide()
     ensures check { (files : Files) (words : List (List ℕ)) (paths : Paths) (journal : List ℕ) (answer : Result Checkable Ending)
         (left : Left) (due : status) (text : List ℕ) → IsCheck words paths journal → JudgesCheck (Some files) paths journal answer
         → Due (Some files) words left due text → (let said : status × List ℕ = (due, text) in said) ≡ said_of_check answer }
+{}
+
+/// Where the schedule that `make` writes for a rack is held, `load` leaves and writes what `run` of that file does.
+pub fn what_is_made_runs_as_it_is_loaded()
+    ensures { (files : Files) (rack schedule : List ℕ) (plan : rack_plan) (count seed : ℕ) → IsFit plan → count ≤ 200000
+        → rack_judged (seen_of (get files rack) 65536) ≡ Ok plan → get files schedule ≡ Some (generated_text plan count seed)
+        → (left : Left) (text : List ℕ) → DoneBy (Some files) (Load rack count seed) left text
+        ↔ DoneBy (Some files) (Run report (record { rack = rack; schedule = schedule })) left text }
 {}

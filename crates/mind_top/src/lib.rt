@@ -2,14 +2,15 @@
 #![tactic(auto)]
 
 mod checks;
-mod events;
 mod laws;
+mod loads;
+mod makes;
 mod runs;
 mod statuses;
 mod texts;
 mod top;
 mod words;
 
-pub use laws::the_files_decide;
+pub use laws::{the_files_decide, what_is_made_runs_as_it_is_loaded};
 pub use statuses::Status;
 pub use top::mind;

@@ -3,7 +3,7 @@ ghost use Rattle.std.specs.List.{AllByRecursion};
 ghost use Rattle.mind_base.specs.Fit.{IsFit, FitImages};
 ghost use Rattle.mind_inputs.specs.Words.{Paths};
 ghost use Rattle.mind_steps.specs.Run.{events, below, IsWholeRun};
-ghost use Rattle.rack_core.specs.Calls.{IsEventFor};
+ghost use Rattle.rack_settle.specs.Ran.{IsRunFor};
 ghost use Rattle.mind_top.specs.Words.{Run};
 ghost use Rattle.mind_top.specs.Ending.{Counts};
 ghost use Rattle.mind_top.specs.Headline.{setup_by, IsTextOf};
@@ -12,7 +12,6 @@ ghost use Rattle.mind_top.specs.Parts.{RunEnds, Answers};
 ghost use Rattle.mind_top.specs.Ran.{RanThrough};
 
 use crate::Status;
-use crate::events::run_events;
 use crate::texts::{say, stop};
 use crate::words::Output;
 use journal_text::journal;
@@ -20,6 +19,7 @@ use mind_base::{Log, NoMemory, Sink, Stop, Store};
 use mind_inputs::{Loaded, load};
 use mind_steps::report_of;
 use rack_core::Rack;
+use rack_settle::run_all;
 use std::alloc::Global;
 
 /// The text of the log of a run that is asked for.
@@ -63,7 +63,7 @@ fn finish<K: Sink>(
 }
 
 /// Runs accepted inputs on a rack from its start and writes what is asked for.
-fn run<K: Sink>(
+pub fn run<K: Sink>(
     alloc: Global,
     output: Output,
     loaded: &Loaded,
@@ -73,7 +73,7 @@ fn run<K: Sink>(
 ) -> Status
     requires fit { IsFit loaded.now.plan }
     requires images { FitImages loaded.now.plan.images loaded.now.images }
-    requires events { AllByRecursion (IsEventFor loaded.now.plan) loaded.now.events }
+    requires events { AllByRecursion (IsRunFor loaded.now.plan) loaded.now.events }
     requires few { length loaded.now.events ≤ 1000000 }
     requires empty { log.old.notes ≡ [] }
     requires none { end.old ≡ None }
@@ -85,7 +85,7 @@ fn run<K: Sink>(
         Err(NoMemory) => return Status::NoMemory,
     };
     let images = loaded.images.as_slice();
-    match run_events(alloc, &mut rack, images, loaded.events.as_slice(), log) {
+    match run_all(alloc, images, loaded.events.as_slice(), &mut rack, log) {
         Ok(()) => finish(alloc, output, loaded, rack, sink, log, end),
         Err(Stop::Spent) => {
             *end = Some(rack);

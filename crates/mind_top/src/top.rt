@@ -1,11 +1,13 @@
 ghost use Rattle.std.specs.Prelude.{◌≡◌, ◌≤◌, ◌⊎◌, ℕ, List, [], Ok, None, map, string_bytes, IfSome};
 ghost use Rattle.mind_base.specs.Store.{Rises};
 ghost use Rattle.mind_base.specs.Sink.{Appends};
+ghost use Rattle.mind_base.specs.declared.plans.RackPlan.{RackPlan as rack_plan};
+ghost use Rattle.rack_gen.specs.Generator.{generated_text};
 ghost use Rattle.mind_inputs.specs.Words.{Paths};
-ghost use Rattle.mind_inputs.specs.Inputs.{Accepted, Judges, Accepts};
+ghost use Rattle.mind_inputs.specs.Inputs.{Accepted, JudgesOne, Judges, JudgesMade, Accepts, rack_judged};
 ghost use Rattle.mind_inputs.specs.Journals.{Checkable, JudgesCheck};
 ghost use Rattle.mind_top.specs.declared.statuses.Status.{Status as status};
-ghost use Rattle.mind_top.specs.Words.{Form, IsForm, IsRun, IsJournal, IsCheck, IsNoForm};
+ghost use Rattle.mind_top.specs.Words.{Form, IsForm, IsRun, IsJournal, IsCheck, IsMake, IsLoad, IsNoForm};
 ghost use Rattle.mind_top.specs.Due.{IsWhole, IsStuck, not_a_run_line, StopsRun, IsAnswered, Decides};
 ghost use Rattle.mind_top.specs.Ending.{Counts, EndsWith};
 ghost use Rattle.mind_top.specs.Headline.{Headline, JournalHeadline};
@@ -13,6 +15,8 @@ ghost use Rattle.mind_top.specs.Left.{Left, LeavesNothing};
 
 use crate::Status;
 use crate::checks::answer_check;
+use crate::loads::answer_load;
+use crate::makes::answer_make;
 use crate::runs::answer_run;
 use crate::texts::say;
 use crate::words::{Asked, asked_of};
@@ -20,8 +24,8 @@ use mind_base::{Log, Sink, Store};
 use rack_core::Rack;
 use std::alloc::Global;
 
-const USAGE_LINE: &[u8; 84] =
-    b"usage: mind run RACK SCHEDULE | journal RACK SCHEDULE | check RACK SCHEDULE JOURNAL\n";
+const USAGE_LINE: &[u8; 130] =
+    b"usage: mind run RACK SCHEDULE | journal RACK SCHEDULE | check RACK SCHEDULE JOURNAL | make RACK COUNT SEED | load RACK COUNT SEED\n";
 
 fn top<S: Store, K: Sink>(
     alloc: Global,
@@ -58,14 +62,21 @@ fn top<S: Store, K: Sink>(
                 journal,
             },
         ) => answer_check(alloc, rack, schedule, journal, store, sink),
+        Some(Asked::Make { rack, count, seed }) => {
+            answer_make(alloc, rack, count, seed, store, sink)
+        }
+        Some(Asked::Load { rack, count, seed }) => {
+            answer_load(alloc, rack, count, seed, store, sink, log, end)
+        }
     }
 }
 
 /// The program: reads the files that the words name and writes what they ask for, all by one write.
 /// `run RACK SCHEDULE` writes the report of a run, `journal RACK SCHEDULE` the text of its log, and
-/// `check RACK SCHEDULE JOURNAL` the report of a journal whose labels the machine allows.
+/// `check RACK SCHEDULE JOURNAL` the report of a journal whose labels the machine allows. `make RACK COUNT SEED`
+/// writes a schedule that the generator makes, and `load RACK COUNT SEED` the report of a run of that schedule.
 ///
-/// A run is that of a rack, event by event of the schedule. The log gets its notes, and `end` the rack as it is
+/// A run, of a schedule that is read or made, is that of a rack, event by event of the schedule. The log gets its notes, and `end` the rack as it is
 /// at the end, also where the text could not be written. Where memory ran out there is no rack; where the
 /// status is `Spent` it is the one that stopped, since a number of it has its last value. In both cases the
 /// labels before the log's last event note still replay from the machine's start. Everywhere else the log
@@ -103,13 +114,25 @@ pub fn mind<S: Store, K: Sink>(
         → (inputs : Checkable) × JudgesCheck (S.holds store.old) paths journal (Ok inputs) × (text : List ℕ)
         × IsWhole inputs text × Appends (K.written sink.old) (K.written sink.new) text }
 
+    // A schedule is made for an accepted rack.
+    ensures make { (rack : List ℕ) (count seed : ℕ) → IsMake (map string_bytes words.now) rack count seed → result ≡ Status.Done
+        → (plan : rack_plan) × JudgesOne (S.holds store.old) rack 65536 rack_judged (Ok plan)
+        × Appends (K.written sink.old) (K.written sink.new) (generated_text plan count seed) }
+
+    // Such a schedule is run as one that is read is.
+    ensures load { (rack : List ℕ) (count seed : ℕ) → IsLoad (map string_bytes words.now) rack count seed → result ≡ Status.Done
+        → (accepted : Accepted) × JudgesMade (S.holds store.old) rack count seed (Accepts accepted) × (text : List ℕ)
+        × Headline accepted (record { log = log.new.notes; end = end.new }) text × Appends (K.written sink.old) (K.written sink.new) text }
+
     // Only a check finds a journal that is none, by its first label that is not enabled.
     ensures not_a_run { result ≡ Status.NotARun → (paths : Paths) × (journal : List ℕ) × IsCheck (map string_bytes words.now) paths journal
         × (inputs : Checkable) × JudgesCheck (S.holds store.old) paths journal (Ok inputs) × (label : ℕ) × IsStuck inputs label
         × Appends (K.written sink.old) (K.written sink.new) (not_a_run_line label) }
 
-    // A check leaves no log and no rack.
+    // A check leaves no log and no rack, and neither does the making of a schedule.
     ensures check_leaves { (paths : Paths) (journal : List ℕ) → IsCheck (map string_bytes words.now) paths journal
+        → LeavesNothing (record { log = log.new.notes; end = end.new }) }
+    ensures make_leaves { (rack : List ℕ) (count seed : ℕ) → IsMake (map string_bytes words.now) rack count seed
         → LeavesNothing (record { log = log.new.notes; end = end.new }) }
 
     // A run stops only where a number of its rack, which is left, has its last value. Nothing is written then.

@@ -1,6 +1,8 @@
-ghost use Rattle.std.specs.Prelude.{◌≡◌, ◌↔◌, map, string_bytes, IsTrue, MatchOption};
-ghost use Rattle.mind_top.specs.Words.{IsForm, IsNoForm};
-ghost use Rattle.mind_top.specs.Asked.{form_asked};
+ghost use Rattle.std.specs.Prelude.{◌≡◌, ◌↔◌, ◌≤◌, ℕ, map, string_bytes, IsTrue, IfSome, MatchOption};
+ghost use Rattle.mind_top.specs.Words.{IsNumber, IsForm, IsNoForm};
+ghost use Rattle.mind_top.specs.Asked.{form_asked, IsFew};
+
+use mind_base::number;
 
 /// What is written of a run.
 #[derive(Clone, Copy)]
@@ -21,6 +23,16 @@ pub enum Asked<'a> {
         schedule: &'a str,
         journal: &'a str,
     },
+    Make {
+        rack: &'a str,
+        count: u32,
+        seed: u32,
+    },
+    Load {
+        rack: &'a str,
+        count: u32,
+        seed: u32,
+    },
 }
 
 fn is_word(word: &str, name: &str) -> bool
@@ -29,10 +41,47 @@ fn is_word(word: &str, name: &str) -> bool
     word == name
 }
 
+/// The number that a word is, up to the limit.
+fn number_in(word: &str, limit: u32) -> Option<u32>
+    ensures number { MatchOption result ((n : ℕ) → ¬ (IsNumber word.now limit n)) (λ n. IsNumber word.now limit n) }
+    ensures within { IfSome result (λ n. n ≤ limit) }
+{
+    if word.len() > u32::MAX as usize {
+        return None;
+    }
+    match number(word.as_bytes(), u64::from(limit)) {
+        Ok(n) => Some(n as u32),
+        Err(_) => None,
+    }
+}
+
+/// How many lines are to be drawn, and from which seed.
+#[derive(Clone, Copy, Debug)]
+struct Drawn {
+    count: u32,
+    seed: u32,
+}
+
+fn drawn_in(count: &str, seed: &str) -> Option<Drawn>
+    ensures { MatchOption result ((n m : ℕ) → IsNumber count.now 200000 n → IsNumber seed.now 4294967295 m → ⊥)
+        (λ drawn. IsNumber count.now 200000 drawn.count × IsNumber seed.now 4294967295 drawn.seed × (drawn.count ≤ 200000)) }
+{
+    let count = match number_in(count, 200_000) {
+        Some(count) => count,
+        None => return None,
+    };
+    let seed = match number_in(seed, u32::MAX) {
+        Some(seed) => seed,
+        None => return None,
+    };
+    Some(Drawn { count, seed })
+}
+
 /// What the words ask for, where they are of a form.
 pub fn asked_of(words: &[String]) -> Option<Asked>
-    ensures { MatchOption result (IsNoForm (map string_bytes words.now))
+    ensures asked { MatchOption result (IsNoForm (map string_bytes words.now))
         (λ asked. IsForm (map string_bytes words.now) (form_asked asked)) }
+    ensures few { IfSome result (λ asked. IsFew asked) }
 {
     match words {
         [word, rack, schedule] => if is_word(word.as_str(), "run") {
@@ -50,12 +99,30 @@ pub fn asked_of(words: &[String]) -> Option<Asked>
         } else {
             None
         },
-        [word, rack, schedule, journal] => if is_word(word.as_str(), "check") {
+        [word, rack, third, fourth] => if is_word(word.as_str(), "check") {
             Some(Asked::Check {
                 rack: rack.as_str(),
-                schedule: schedule.as_str(),
-                journal: journal.as_str(),
+                schedule: third.as_str(),
+                journal: fourth.as_str(),
             })
+        } else if is_word(word.as_str(), "make") {
+            match drawn_in(third.as_str(), fourth.as_str()) {
+                Some(drawn) => Some(Asked::Make {
+                    rack: rack.as_str(),
+                    count: drawn.count,
+                    seed: drawn.seed,
+                }),
+                None => None,
+            }
+        } else if is_word(word.as_str(), "load") {
+            match drawn_in(third.as_str(), fourth.as_str()) {
+                Some(drawn) => Some(Asked::Load {
+                    rack: rack.as_str(),
+                    count: drawn.count,
+                    seed: drawn.seed,
+                }),
+                None => None,
+            }
         } else {
             None
         },

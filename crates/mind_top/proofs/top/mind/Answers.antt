@@ -1,5 +1,5 @@
 use Rattle.mind_top.specs.declared.words.Output.TheVariants.{Report, Journal}
-use Rattle.mind_top.proofs.Clauses.{run-done, check-done, check-leaves, run-stops, usage-answered, told-where-held}
+use Rattle.mind_top.proofs.Clauses.{run-done, check-done, make-done, load-done, check-leaves, make-leaves, run-stops, usage-answered, told-where-held}
 use Rattle.mind_top.proofs.top.mind.Goals as goal
 
 pub returns-clause-headline : goal.returns-clause-headline
@@ -22,3 +22,12 @@ returns-clause-check_leaves g c = check-leaves (g.S.Store.holds c.args.store.now
 
 pub returns-clause-spent : goal.returns-clause-spent
 returns-clause-spent g c = run-stops (g.S.Store.holds c.args.store.now) _ (record { log = c.top.new.log.notes; end = c.top.new.end }) _ _ _ _ c.top.result c.top.ensures.ends
+
+pub returns-clause-make : goal.returns-clause-make
+returns-clause-make g c = make-done (g.S.Store.holds c.args.store.now) _ (record { log = c.top.new.log.notes; end = c.top.new.end }) _ _ _ _ c.top.result c.top.ensures.ends
+
+pub returns-clause-load : goal.returns-clause-load
+returns-clause-load g c = load-done (g.S.Store.holds c.args.store.now) _ (record { log = c.top.new.log.notes; end = c.top.new.end }) _ _ _ _ c.top.result c.top.ensures.ends
+
+pub returns-clause-make_leaves : goal.returns-clause-make_leaves
+returns-clause-make_leaves g c = make-leaves (g.S.Store.holds c.args.store.now) _ (record { log = c.top.new.log.notes; end = c.top.new.end }) _ _ _ _ c.top.result c.top.ensures.ends

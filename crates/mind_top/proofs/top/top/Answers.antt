@@ -7,12 +7,20 @@ use Rattle.mind_top.proofs.top.top.Goals as goal
 
 pub returns-in-None-clause-ends : goal.returns-in-None-clause-ends
 returns-in-None-clause-ends g c =
-    said (g.S.Store.holds c.args.store.now) _ (record { log = c.args.log.now.notes; end = c.args.end.now }) _ _ _ _ usage_line status.Usage c.say.result (c.in-None.ensures, (c.requires.empty, c.requires.none), refl) c.say.ensures.says
+    said (g.S.Store.holds c.args.store.now) _ (record { log = c.args.log.now.notes; end = c.args.end.now }) _ _ _ _ usage_line status.Usage c.say.result (c.in-None.ensures.asked, (c.requires.empty, c.requires.none), refl) c.say.ensures.says
 
 pub returns-in-Some-Run-clause-ends : goal.returns-in-Some-Run-clause-ends
-returns-in-Some-Run-clause-ends g c = c.answer_run.ensures.answers _ (asked-as _ _ _ c.in-Some-Run.field-0-is c.in-Some-Run.ensures)
+returns-in-Some-Run-clause-ends g c = c.answer_run.ensures.answers _ (asked-as _ _ _ c.in-Some-Run.field-0-is c.in-Some-Run.ensures.asked)
 
 pub returns-in-Some-Check-clause-ends : goal.returns-in-Some-Check-clause-ends
 returns-in-Some-Check-clause-ends g c =
     with-nothing (g.S.Store.holds c.args.store.now) _ c.args.log.now.notes c.args.end.now _ _ _ _ c.answer_check.result c.requires.empty c.requires.none
-    (c.answer_check.ensures.answers _ (asked-as _ _ _ c.in-Some-Check.field-0-is c.in-Some-Check.ensures))
+    (c.answer_check.ensures.answers _ (asked-as _ _ _ c.in-Some-Check.field-0-is c.in-Some-Check.ensures.asked))
+
+pub returns-in-Some-Make-clause-ends : goal.returns-in-Some-Make-clause-ends
+returns-in-Some-Make-clause-ends g c =
+    with-nothing (g.S.Store.holds c.args.store.now) _ c.args.log.now.notes c.args.end.now _ _ _ _ c.answer_make.result c.requires.empty c.requires.none
+    (c.answer_make.ensures.answers _ (asked-as _ _ _ c.in-Some-Make.field-0-is c.in-Some-Make.ensures.asked))
+
+pub returns-in-Some-Load-clause-ends : goal.returns-in-Some-Load-clause-ends
+returns-in-Some-Load-clause-ends g c = c.answer_load.ensures.answers _ (asked-as _ _ _ c.in-Some-Load.field-0-is c.in-Some-Load.ensures.asked)

@@ -1,6 +1,6 @@
 use Rattle.mind_inputs.specs.Inputs.{rack_judged}
 use Rattle.mind_inputs.proofs.Chains.{reads-slice, brings-judged}
-use Rattle.mind_inputs.proofs.loading.read_rack.Goals as goal
+use Rattle.mind_inputs.proofs.loading.load_rack.Goals as goal
 
 pub returns-in-Ok-clause-brings : goal.returns-in-Ok-clause-brings
 returns-in-Ok-clause-brings g c =
