@@ -1,4 +1,5 @@
-//! Programs on racks, each message being delivered before the next access, with the reports that are expected.
+//! Programs on racks, with the reports that are expected: what an access waits for comes before the next access, where the
+//! rack settles or by deliveries one by one.
 
 mod independent_reads;
 mod memory_rows;

@@ -6,6 +6,7 @@ mod ends;
 mod faults;
 mod forms;
 mod journals;
+mod made;
 mod orders;
 mod recorders;
 mod runs;

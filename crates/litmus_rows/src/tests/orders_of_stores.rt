@@ -14,29 +14,29 @@ static STORE_BEHIND_LOAD: [Row; 4] = [
     Row {
         rack: THREE,
         programs: S,
-        schedule: "step 0\nstep 0\nstep 0\nstep 0\nstep 1\nstep 1\nstep 1\nstep 1\ndeliver u1 0\ndeliver t0 0\ndeliver f0 0\ndeliver d1 0\nstep 1\ndeliver u1 0\ndeliver t0 0\ndeliver f0 0\ndeliver d1 0\nstep 0\ndeliver u0 0\ndeliver d1 0\ndeliver u1 0\ndeliver t0 0\ndeliver f0 0\ndeliver d0 0\nstep 0\ndeliver u0 0\ndeliver d1 0\ndeliver u1 0\ndeliver t0 0\ndeliver f0 0\ndeliver d0 0\ndrain 0\ndrain 0\ndrain 1\ndeliver u1 0\ndeliver d0 0\ndeliver u0 0\ndeliver u0 0\ndeliver t0 0\ndeliver t0 0\ndeliver f0 0\ndeliver d1 0\nstep 0\nstep 0\nstep 0\nstep 1\nstep 1\nstep 1\nstep 1\nstep 1\nstep 2\nstep 2\ndeliver u2 0\ndeliver d1 0\ndeliver u1 0\ndeliver u1 0\ndeliver t0 0\ndeliver t0 0\ndeliver f0 0\ndeliver d2 0\nstep 2\nstep 2\nstep 2\nstep 2\nstep 2\n",
-        report: "mind 1\nthread 0 exit 0 out -\nthread 1 exit 0 out 00\nthread 2 exit 0 out 01\ncounts events 65 labels 29 takes 6 gives 3 downs 1 peak 2 splits 0 merges 0\n",
+        schedule: "step 0\nstep 0\nstep 0\nstep 0\nstep 1\nstep 1\nstep 1\nstep 1\nsettle\nstep 1\nsettle\nstep 0\nsettle\nstep 0\nsettle\ndrain 0\ndrain 0\ndrain 1\nsettle\nstep 0\nstep 0\nstep 0\nstep 1\nstep 1\nstep 1\nstep 1\nstep 1\nstep 2\nstep 2\nsettle\nstep 2\nstep 2\nstep 2\nstep 2\nstep 2\n",
+        report: "mind 1\nthread 0 exit 0 out -\nthread 1 exit 0 out 00\nthread 2 exit 0 out 01\ncounts events 35 labels 29 takes 6 gives 3 downs 1 peak 2 splits 0 merges 0\n",
     },
     // S, zero_two.
     Row {
         rack: THREE,
         programs: S,
-        schedule: "step 1\nstep 1\nstep 1\nstep 1\ndeliver u1 0\ndeliver t0 0\ndeliver f0 0\ndeliver d1 0\nstep 1\ndeliver u1 0\ndeliver t0 0\ndeliver f0 0\ndeliver d1 0\ndrain 1\nstep 1\nstep 1\nstep 1\nstep 1\nstep 1\nstep 0\nstep 0\nstep 0\nstep 0\nstep 0\ndeliver u0 0\ndeliver d1 0\ndeliver u1 0\ndeliver u1 0\ndeliver t0 0\ndeliver t0 0\ndeliver f0 0\ndeliver d0 0\nstep 0\ndeliver u0 0\ndeliver d1 0\ndeliver u1 0\ndeliver t0 0\ndeliver f0 0\ndeliver d0 0\ndrain 0\ndrain 0\nstep 0\nstep 0\nstep 0\nstep 2\nstep 2\ndeliver u2 0\ndeliver d0 0\ndeliver u0 0\ndeliver u0 0\ndeliver t0 0\ndeliver t0 0\ndeliver f0 0\ndeliver d2 0\nstep 2\nstep 2\nstep 2\nstep 2\nstep 2\n",
-        report: "mind 1\nthread 0 exit 0 out -\nthread 1 exit 0 out 00\nthread 2 exit 0 out 02\ncounts events 59 labels 29 takes 5 gives 2 downs 1 peak 2 splits 0 merges 0\n",
+        schedule: "step 1\nstep 1\nstep 1\nstep 1\nsettle\nstep 1\nsettle\ndrain 1\nstep 1\nstep 1\nstep 1\nstep 1\nstep 1\nstep 0\nstep 0\nstep 0\nstep 0\nstep 0\nsettle\nstep 0\nsettle\ndrain 0\ndrain 0\nstep 0\nstep 0\nstep 0\nstep 2\nstep 2\nsettle\nstep 2\nstep 2\nstep 2\nstep 2\nstep 2\n",
+        report: "mind 1\nthread 0 exit 0 out -\nthread 1 exit 0 out 00\nthread 2 exit 0 out 02\ncounts events 34 labels 29 takes 5 gives 2 downs 1 peak 2 splits 0 merges 0\n",
     },
     // S, one_one.
     Row {
         rack: THREE,
         programs: S,
-        schedule: "step 0\nstep 0\nstep 0\nstep 0\nstep 0\ndeliver u0 0\ndeliver t0 0\ndeliver f0 0\ndeliver d0 0\nstep 0\ndeliver u0 0\ndeliver t0 0\ndeliver f0 0\ndeliver d0 0\ndrain 0\ndrain 0\nstep 0\nstep 0\nstep 0\nstep 1\nstep 1\nstep 1\nstep 1\ndeliver u1 0\ndeliver d0 0\ndeliver u0 0\ndeliver u0 0\ndeliver t0 0\ndeliver t0 0\ndeliver f0 0\ndeliver d1 0\nstep 1\ndeliver u1 0\ndeliver d0 0\ndeliver u0 0\ndeliver u0 0\ndeliver t0 0\ndeliver t0 0\ndeliver f0 0\ndeliver d1 0\ndrain 1\nstep 1\nstep 1\nstep 1\nstep 1\nstep 1\nstep 2\nstep 2\ndeliver u2 0\ndeliver d1 0\ndeliver u1 0\ndeliver u1 0\ndeliver t0 0\ndeliver t0 0\ndeliver f0 0\ndeliver d2 0\nstep 2\nstep 2\nstep 2\nstep 2\nstep 2\n",
-        report: "mind 1\nthread 0 exit 0 out -\nthread 1 exit 0 out 01\nthread 2 exit 0 out 01\ncounts events 61 labels 29 takes 5 gives 1 downs 2 peak 2 splits 0 merges 0\n",
+        schedule: "step 0\nstep 0\nstep 0\nstep 0\nstep 0\nsettle\nstep 0\nsettle\ndrain 0\ndrain 0\nstep 0\nstep 0\nstep 0\nstep 1\nstep 1\nstep 1\nstep 1\nsettle\nstep 1\nsettle\ndrain 1\nstep 1\nstep 1\nstep 1\nstep 1\nstep 1\nstep 2\nstep 2\nsettle\nstep 2\nstep 2\nstep 2\nstep 2\nstep 2\n",
+        report: "mind 1\nthread 0 exit 0 out -\nthread 1 exit 0 out 01\nthread 2 exit 0 out 01\ncounts events 34 labels 29 takes 5 gives 1 downs 2 peak 2 splits 0 merges 0\n",
     },
     // S, tries_one_two.
     Row {
         rack: THREE,
         programs: S,
-        schedule: "step 0\nstep 0\nstep 0\nstep 0\nstep 1\nstep 1\nstep 1\nstep 0\ndeliver u0 0\ndeliver t0 0\ndeliver f0 0\ndeliver d0 0\nstep 0\ndeliver u0 0\ndeliver t0 0\ndeliver f0 0\ndeliver d0 0\ndrain 0\nstep 1\ndeliver u1 0\ndeliver d0 0\ndeliver u0 0\ndeliver t0 0\ndeliver f0 0\ndeliver d1 0\nstep 1\ndeliver u1 0\ndeliver d0 0\ndeliver u0 0\ndeliver u0 0\ndeliver t0 0\ndeliver t0 0\ndeliver f0 0\ndeliver d1 0\ndrain 1\ndrain 0\ndeliver u0 0\ndeliver d1 0\ndeliver u1 0\ndeliver t0 0\ndeliver f0 0\ndeliver d0 0\nstep 0\nstep 0\nstep 0\nstep 1\nstep 1\nstep 1\nstep 1\nstep 1\nstep 2\nstep 2\ndeliver u2 0\ndeliver d1 0\ndeliver u1 0\ndeliver u1 0\ndeliver t0 0\ndeliver t0 0\ndeliver f0 0\ndeliver d2 0\nstep 2\nstep 2\nstep 2\nstep 2\nstep 2\n",
-        report: "mind 1\nthread 0 exit 0 out -\nthread 1 exit 0 out 00\nthread 2 exit 0 out 01\ncounts events 65 labels 29 takes 6 gives 2 downs 2 peak 2 splits 0 merges 0\n",
+        schedule: "step 0\nstep 0\nstep 0\nstep 0\nstep 1\nstep 1\nstep 1\nstep 0\nsettle\nstep 0\nsettle\ndrain 0\nstep 1\nsettle\nstep 1\nsettle\ndrain 1\ndrain 0\nsettle\nstep 0\nstep 0\nstep 0\nstep 1\nstep 1\nstep 1\nstep 1\nstep 1\nstep 2\nstep 2\nsettle\nstep 2\nstep 2\nstep 2\nstep 2\nstep 2\n",
+        report: "mind 1\nthread 0 exit 0 out -\nthread 1 exit 0 out 00\nthread 2 exit 0 out 01\ncounts events 35 labels 29 takes 6 gives 2 downs 2 peak 2 splits 0 merges 0\n",
     },
 ];
 
@@ -51,29 +51,29 @@ static STORE_BEFORE_LOAD: [Row; 4] = [
     Row {
         rack: THREE,
         programs: R,
-        schedule: "step 1\nstep 1\nstep 1\nstep 1\ndeliver u1 0\ndeliver t0 0\ndeliver f0 0\ndeliver d1 0\nstep 1\ndeliver u1 0\ndeliver t0 0\ndeliver f0 0\ndeliver d1 0\ndrain 1\nstep 1\nstep 1\nstep 1\nstep 1\nstep 1\nstep 0\nstep 0\nstep 0\nstep 0\ndeliver u0 0\ndeliver d1 0\ndeliver u1 0\ndeliver t0 0\ndeliver f0 0\ndeliver d0 0\nstep 0\ndeliver u0 0\ndeliver d1 0\ndeliver u1 0\ndeliver u1 0\ndeliver t0 0\ndeliver t0 0\ndeliver f0 0\ndeliver d0 0\ndrain 0\ndrain 0\nstep 0\nstep 0\nstep 0\nstep 2\nstep 2\ndeliver u2 0\ndeliver d0 0\ndeliver u0 0\ndeliver u0 0\ndeliver t0 0\ndeliver t0 0\ndeliver f0 0\ndeliver d2 0\nstep 2\nstep 2\nstep 2\nstep 2\nstep 2\n",
-        report: "mind 1\nthread 0 exit 0 out -\nthread 1 exit 0 out 00\nthread 2 exit 0 out 01\ncounts events 58 labels 28 takes 5 gives 2 downs 1 peak 2 splits 0 merges 0\n",
+        schedule: "step 1\nstep 1\nstep 1\nstep 1\nsettle\nstep 1\nsettle\ndrain 1\nstep 1\nstep 1\nstep 1\nstep 1\nstep 1\nstep 0\nstep 0\nstep 0\nstep 0\nsettle\nstep 0\nsettle\ndrain 0\ndrain 0\nstep 0\nstep 0\nstep 0\nstep 2\nstep 2\nsettle\nstep 2\nstep 2\nstep 2\nstep 2\nstep 2\n",
+        report: "mind 1\nthread 0 exit 0 out -\nthread 1 exit 0 out 00\nthread 2 exit 0 out 01\ncounts events 33 labels 28 takes 5 gives 2 downs 1 peak 2 splits 0 merges 0\n",
     },
     // R, zero_two.
     Row {
         rack: THREE,
         programs: R,
-        schedule: "step 0\nstep 0\nstep 0\nstep 1\nstep 1\nstep 1\nstep 1\ndeliver u1 0\ndeliver t0 0\ndeliver f0 0\ndeliver d1 0\nstep 1\ndeliver u1 0\ndeliver t0 0\ndeliver f0 0\ndeliver d1 0\nstep 0\ndeliver u0 0\ndeliver d1 0\ndeliver u1 0\ndeliver t0 0\ndeliver f0 0\ndeliver d0 0\nstep 0\ndeliver u0 0\ndeliver d1 0\ndeliver u1 0\ndeliver t0 0\ndeliver f0 0\ndeliver d0 0\ndrain 0\ndrain 0\ndrain 1\ndeliver u1 0\ndeliver d0 0\ndeliver u0 0\ndeliver u0 0\ndeliver t0 0\ndeliver t0 0\ndeliver f0 0\ndeliver d1 0\nstep 0\nstep 0\nstep 0\nstep 1\nstep 1\nstep 1\nstep 1\nstep 1\nstep 2\nstep 2\ndeliver u2 0\ndeliver d1 0\ndeliver u1 0\ndeliver u1 0\ndeliver t0 0\ndeliver t0 0\ndeliver f0 0\ndeliver d2 0\nstep 2\nstep 2\nstep 2\nstep 2\nstep 2\n",
-        report: "mind 1\nthread 0 exit 0 out -\nthread 1 exit 0 out 00\nthread 2 exit 0 out 02\ncounts events 64 labels 28 takes 6 gives 3 downs 1 peak 2 splits 0 merges 0\n",
+        schedule: "step 0\nstep 0\nstep 0\nstep 1\nstep 1\nstep 1\nstep 1\nsettle\nstep 1\nsettle\nstep 0\nsettle\nstep 0\nsettle\ndrain 0\ndrain 0\ndrain 1\nsettle\nstep 0\nstep 0\nstep 0\nstep 1\nstep 1\nstep 1\nstep 1\nstep 1\nstep 2\nstep 2\nsettle\nstep 2\nstep 2\nstep 2\nstep 2\nstep 2\n",
+        report: "mind 1\nthread 0 exit 0 out -\nthread 1 exit 0 out 00\nthread 2 exit 0 out 02\ncounts events 34 labels 28 takes 6 gives 3 downs 1 peak 2 splits 0 merges 0\n",
     },
     // R, one_one.
     Row {
         rack: THREE,
         programs: R,
-        schedule: "step 0\nstep 0\nstep 0\nstep 1\nstep 1\nstep 1\nstep 0\ndeliver u0 0\ndeliver t0 0\ndeliver f0 0\ndeliver d0 0\ndrain 0\nstep 1\ndeliver u1 0\ndeliver t0 0\ndeliver f0 0\ndeliver d1 0\ndrain 1\nstep 1\ndeliver u1 0\ndeliver d0 0\ndeliver u0 0\ndeliver u0 0\ndeliver t0 0\ndeliver t0 0\ndeliver f0 0\ndeliver d1 0\nstep 0\ndeliver u0 0\ndeliver d1 0\ndeliver u1 0\ndeliver u1 0\ndeliver t0 0\ndeliver t0 0\ndeliver f0 0\ndeliver d0 0\ndrain 0\nstep 0\nstep 0\nstep 0\nstep 1\nstep 1\nstep 1\nstep 1\nstep 1\nstep 2\nstep 2\ndeliver u2 0\ndeliver d0 0\ndeliver u0 0\ndeliver u0 0\ndeliver t0 0\ndeliver t0 0\ndeliver f0 0\ndeliver d2 0\nstep 2\nstep 2\nstep 2\nstep 2\nstep 2\n",
-        report: "mind 1\nthread 0 exit 0 out -\nthread 1 exit 0 out 01\nthread 2 exit 0 out 01\ncounts events 60 labels 28 takes 5 gives 1 downs 2 peak 2 splits 0 merges 0\n",
+        schedule: "step 0\nstep 0\nstep 0\nstep 1\nstep 1\nstep 1\nstep 0\nsettle\ndrain 0\nstep 1\nsettle\ndrain 1\nstep 1\nsettle\nstep 0\nsettle\ndrain 0\nstep 0\nstep 0\nstep 0\nstep 1\nstep 1\nstep 1\nstep 1\nstep 1\nstep 2\nstep 2\nsettle\nstep 2\nstep 2\nstep 2\nstep 2\nstep 2\n",
+        report: "mind 1\nthread 0 exit 0 out -\nthread 1 exit 0 out 01\nthread 2 exit 0 out 01\ncounts events 33 labels 28 takes 5 gives 1 downs 2 peak 2 splits 0 merges 0\n",
     },
     // R, one_two.
     Row {
         rack: THREE,
         programs: R,
-        schedule: "step 0\nstep 0\nstep 0\nstep 0\ndeliver u0 0\ndeliver t0 0\ndeliver f0 0\ndeliver d0 0\nstep 0\ndeliver u0 0\ndeliver t0 0\ndeliver f0 0\ndeliver d0 0\ndrain 0\ndrain 0\nstep 0\nstep 0\nstep 0\nstep 1\nstep 1\nstep 1\nstep 1\ndeliver u1 0\ndeliver d0 0\ndeliver u0 0\ndeliver u0 0\ndeliver t0 0\ndeliver t0 0\ndeliver f0 0\ndeliver d1 0\nstep 1\ndeliver u1 0\ndeliver d0 0\ndeliver u0 0\ndeliver u0 0\ndeliver t0 0\ndeliver t0 0\ndeliver f0 0\ndeliver d1 0\ndrain 1\nstep 1\nstep 1\nstep 1\nstep 1\nstep 1\nstep 2\nstep 2\ndeliver u2 0\ndeliver d1 0\ndeliver u1 0\ndeliver u1 0\ndeliver t0 0\ndeliver t0 0\ndeliver f0 0\ndeliver d2 0\nstep 2\nstep 2\nstep 2\nstep 2\nstep 2\n",
-        report: "mind 1\nthread 0 exit 0 out -\nthread 1 exit 0 out 01\nthread 2 exit 0 out 02\ncounts events 60 labels 28 takes 5 gives 1 downs 2 peak 2 splits 0 merges 0\n",
+        schedule: "step 0\nstep 0\nstep 0\nstep 0\nsettle\nstep 0\nsettle\ndrain 0\ndrain 0\nstep 0\nstep 0\nstep 0\nstep 1\nstep 1\nstep 1\nstep 1\nsettle\nstep 1\nsettle\ndrain 1\nstep 1\nstep 1\nstep 1\nstep 1\nstep 1\nstep 2\nstep 2\nsettle\nstep 2\nstep 2\nstep 2\nstep 2\nstep 2\n",
+        report: "mind 1\nthread 0 exit 0 out -\nthread 1 exit 0 out 01\nthread 2 exit 0 out 02\ncounts events 33 labels 28 takes 5 gives 1 downs 2 peak 2 splits 0 merges 0\n",
     },
 ];
 
@@ -88,36 +88,36 @@ static STORES_AGAINST_STORES: [Row; 5] = [
     Row {
         rack: THREE,
         programs: TWO_AND_TWO_WRITES,
-        schedule: "step 1\nstep 1\nstep 1\nstep 1\nstep 1\ndeliver u1 0\ndeliver t0 0\ndeliver f0 0\ndeliver d1 0\nstep 1\ndeliver u1 0\ndeliver t0 0\ndeliver f0 0\ndeliver d1 0\ndrain 1\ndrain 1\nstep 1\nstep 1\nstep 1\nstep 0\nstep 0\nstep 0\nstep 0\nstep 0\ndeliver u0 0\ndeliver d1 0\ndeliver u1 0\ndeliver u1 0\ndeliver t0 0\ndeliver t0 0\ndeliver f0 0\ndeliver d0 0\nstep 0\ndeliver u0 0\ndeliver d1 0\ndeliver u1 0\ndeliver u1 0\ndeliver t0 0\ndeliver t0 0\ndeliver f0 0\ndeliver d0 0\ndrain 0\ndrain 0\nstep 0\nstep 0\nstep 0\nstep 2\nstep 2\nstep 2\ndeliver u2 0\ndeliver d0 0\ndeliver u0 0\ndeliver u0 0\ndeliver t0 0\ndeliver t0 0\ndeliver f0 0\ndeliver d2 0\nstep 2\ndeliver u2 0\ndeliver d0 0\ndeliver u0 0\ndeliver u0 0\ndeliver t0 0\ndeliver t0 0\ndeliver f0 0\ndeliver d2 0\nstep 2\nstep 2\nstep 2\nstep 2\nstep 2\nstep 2\nstep 2\nstep 2\n",
-        report: "mind 1\nthread 0 exit 0 out -\nthread 1 exit 0 out -\nthread 2 exit 0 out 0102\ncounts events 74 labels 34 takes 6 gives 2 downs 2 peak 2 splits 0 merges 0\n",
+        schedule: "step 1\nstep 1\nstep 1\nstep 1\nstep 1\nsettle\nstep 1\nsettle\ndrain 1\ndrain 1\nstep 1\nstep 1\nstep 1\nstep 0\nstep 0\nstep 0\nstep 0\nstep 0\nsettle\nstep 0\nsettle\ndrain 0\ndrain 0\nstep 0\nstep 0\nstep 0\nstep 2\nstep 2\nstep 2\nsettle\nstep 2\nsettle\nstep 2\nstep 2\nstep 2\nstep 2\nstep 2\nstep 2\nstep 2\nstep 2\n",
+        report: "mind 1\nthread 0 exit 0 out -\nthread 1 exit 0 out -\nthread 2 exit 0 out 0102\ncounts events 40 labels 34 takes 6 gives 2 downs 2 peak 2 splits 0 merges 0\n",
     },
     // 2+2W, two_one.
     Row {
         rack: THREE,
         programs: TWO_AND_TWO_WRITES,
-        schedule: "step 0\nstep 0\nstep 0\nstep 0\nstep 0\ndeliver u0 0\ndeliver t0 0\ndeliver f0 0\ndeliver d0 0\nstep 0\ndeliver u0 0\ndeliver t0 0\ndeliver f0 0\ndeliver d0 0\ndrain 0\ndrain 0\nstep 0\nstep 0\nstep 0\nstep 1\nstep 1\nstep 1\nstep 1\nstep 1\ndeliver u1 0\ndeliver d0 0\ndeliver u0 0\ndeliver u0 0\ndeliver t0 0\ndeliver t0 0\ndeliver f0 0\ndeliver d1 0\nstep 1\ndeliver u1 0\ndeliver d0 0\ndeliver u0 0\ndeliver u0 0\ndeliver t0 0\ndeliver t0 0\ndeliver f0 0\ndeliver d1 0\ndrain 1\ndrain 1\nstep 1\nstep 1\nstep 1\nstep 2\nstep 2\nstep 2\ndeliver u2 0\ndeliver d1 0\ndeliver u1 0\ndeliver u1 0\ndeliver t0 0\ndeliver t0 0\ndeliver f0 0\ndeliver d2 0\nstep 2\ndeliver u2 0\ndeliver d1 0\ndeliver u1 0\ndeliver u1 0\ndeliver t0 0\ndeliver t0 0\ndeliver f0 0\ndeliver d2 0\nstep 2\nstep 2\nstep 2\nstep 2\nstep 2\nstep 2\nstep 2\nstep 2\n",
-        report: "mind 1\nthread 0 exit 0 out -\nthread 1 exit 0 out -\nthread 2 exit 0 out 0201\ncounts events 74 labels 34 takes 6 gives 2 downs 2 peak 2 splits 0 merges 0\n",
+        schedule: "step 0\nstep 0\nstep 0\nstep 0\nstep 0\nsettle\nstep 0\nsettle\ndrain 0\ndrain 0\nstep 0\nstep 0\nstep 0\nstep 1\nstep 1\nstep 1\nstep 1\nstep 1\nsettle\nstep 1\nsettle\ndrain 1\ndrain 1\nstep 1\nstep 1\nstep 1\nstep 2\nstep 2\nstep 2\nsettle\nstep 2\nsettle\nstep 2\nstep 2\nstep 2\nstep 2\nstep 2\nstep 2\nstep 2\nstep 2\n",
+        report: "mind 1\nthread 0 exit 0 out -\nthread 1 exit 0 out -\nthread 2 exit 0 out 0201\ncounts events 40 labels 34 takes 6 gives 2 downs 2 peak 2 splits 0 merges 0\n",
     },
     // 2+2W, two_two.
     Row {
         rack: THREE,
         programs: TWO_AND_TWO_WRITES,
-        schedule: "step 0\nstep 0\nstep 0\nstep 0\nstep 1\nstep 1\nstep 1\nstep 1\nstep 0\ndeliver u0 0\ndeliver t0 0\ndeliver f0 0\ndeliver d0 0\nstep 0\ndeliver u0 0\ndeliver t0 0\ndeliver f0 0\ndeliver d0 0\nstep 1\ndeliver u1 0\ndeliver d0 0\ndeliver u0 0\ndeliver t0 0\ndeliver f0 0\ndeliver d1 0\nstep 1\ndeliver u1 0\ndeliver d0 0\ndeliver u0 0\ndeliver t0 0\ndeliver f0 0\ndeliver d1 0\ndrain 0\ndeliver u0 0\ndeliver d1 0\ndeliver u1 0\ndeliver t0 0\ndeliver f0 0\ndeliver d0 0\ndrain 1\ndrain 1\ndeliver u1 0\ndeliver d0 0\ndeliver u0 0\ndeliver u0 0\ndeliver t0 0\ndeliver t0 0\ndeliver f0 0\ndeliver d1 0\ndrain 0\ndeliver u0 0\ndeliver d1 0\ndeliver u1 0\ndeliver u1 0\ndeliver t0 0\ndeliver t0 0\ndeliver f0 0\ndeliver d0 0\nstep 0\nstep 0\nstep 0\nstep 1\nstep 1\nstep 1\nstep 2\nstep 2\nstep 2\ndeliver u2 0\ndeliver d1 0\ndeliver u1 0\ndeliver u1 0\ndeliver t0 0\ndeliver t0 0\ndeliver f0 0\ndeliver d2 0\nstep 2\ndeliver u2 0\ndeliver d0 0\ndeliver u0 0\ndeliver u0 0\ndeliver t0 0\ndeliver t0 0\ndeliver f0 0\ndeliver d2 0\nstep 2\nstep 2\nstep 2\nstep 2\nstep 2\nstep 2\nstep 2\nstep 2\n",
-        report: "mind 1\nthread 0 exit 0 out -\nthread 1 exit 0 out -\nthread 2 exit 0 out 0202\ncounts events 92 labels 34 takes 9 gives 5 downs 2 peak 2 splits 0 merges 0\n",
+        schedule: "step 0\nstep 0\nstep 0\nstep 0\nstep 1\nstep 1\nstep 1\nstep 1\nstep 0\nsettle\nstep 0\nsettle\nstep 1\nsettle\nstep 1\nsettle\ndrain 0\nsettle\ndrain 1\ndrain 1\nsettle\ndrain 0\nsettle\nstep 0\nstep 0\nstep 0\nstep 1\nstep 1\nstep 1\nstep 2\nstep 2\nstep 2\nsettle\nstep 2\nsettle\nstep 2\nstep 2\nstep 2\nstep 2\nstep 2\nstep 2\nstep 2\nstep 2\n",
+        report: "mind 1\nthread 0 exit 0 out -\nthread 1 exit 0 out -\nthread 2 exit 0 out 0202\ncounts events 43 labels 34 takes 9 gives 5 downs 2 peak 2 splits 0 merges 0\n",
     },
     // 2+2W, tries_both_one.
     Row {
         rack: THREE,
         programs: TWO_AND_TWO_WRITES,
-        schedule: "step 0\nstep 0\nstep 0\nstep 0\nstep 1\nstep 1\nstep 1\nstep 1\nstep 0\ndeliver u0 0\ndeliver t0 0\ndeliver f0 0\ndeliver d0 0\nstep 0\ndeliver u0 0\ndeliver t0 0\ndeliver f0 0\ndeliver d0 0\nstep 1\ndeliver u1 0\ndeliver d0 0\ndeliver u0 0\ndeliver t0 0\ndeliver f0 0\ndeliver d1 0\nstep 1\ndeliver u1 0\ndeliver d0 0\ndeliver u0 0\ndeliver t0 0\ndeliver f0 0\ndeliver d1 0\ndrain 1\ndrain 1\ndrain 0\ndeliver u0 0\ndeliver d1 0\ndeliver u1 0\ndeliver u1 0\ndeliver t0 0\ndeliver t0 0\ndeliver f0 0\ndeliver d0 0\ndrain 0\ndeliver u0 0\ndeliver d1 0\ndeliver u1 0\ndeliver u1 0\ndeliver t0 0\ndeliver t0 0\ndeliver f0 0\ndeliver d0 0\nstep 0\nstep 0\nstep 0\nstep 1\nstep 1\nstep 1\nstep 2\nstep 2\nstep 2\ndeliver u2 0\ndeliver d0 0\ndeliver u0 0\ndeliver u0 0\ndeliver t0 0\ndeliver t0 0\ndeliver f0 0\ndeliver d2 0\nstep 2\ndeliver u2 0\ndeliver d0 0\ndeliver u0 0\ndeliver u0 0\ndeliver t0 0\ndeliver t0 0\ndeliver f0 0\ndeliver d2 0\nstep 2\nstep 2\nstep 2\nstep 2\nstep 2\nstep 2\nstep 2\nstep 2\n",
-        report: "mind 1\nthread 0 exit 0 out -\nthread 1 exit 0 out -\nthread 2 exit 0 out 0102\ncounts events 86 labels 34 takes 8 gives 4 downs 2 peak 2 splits 0 merges 0\n",
+        schedule: "step 0\nstep 0\nstep 0\nstep 0\nstep 1\nstep 1\nstep 1\nstep 1\nstep 0\nsettle\nstep 0\nsettle\nstep 1\nsettle\nstep 1\nsettle\ndrain 1\ndrain 1\ndrain 0\nsettle\ndrain 0\nsettle\nstep 0\nstep 0\nstep 0\nstep 1\nstep 1\nstep 1\nstep 2\nstep 2\nstep 2\nsettle\nstep 2\nsettle\nstep 2\nstep 2\nstep 2\nstep 2\nstep 2\nstep 2\nstep 2\nstep 2\n",
+        report: "mind 1\nthread 0 exit 0 out -\nthread 1 exit 0 out -\nthread 2 exit 0 out 0102\ncounts events 42 labels 34 takes 8 gives 4 downs 2 peak 2 splits 0 merges 0\n",
     },
     // 2+2W, tries_both_one_in_turn.
     Row {
         rack: THREE,
         programs: TWO_AND_TWO_WRITES,
-        schedule: "step 0\nstep 0\nstep 0\nstep 0\nstep 1\nstep 1\nstep 1\nstep 1\nstep 0\ndeliver u0 0\ndeliver t0 0\ndeliver f0 0\ndeliver d0 0\nstep 0\ndeliver u0 0\ndeliver t0 0\ndeliver f0 0\ndeliver d0 0\nstep 1\ndeliver u1 0\ndeliver d0 0\ndeliver u0 0\ndeliver t0 0\ndeliver f0 0\ndeliver d1 0\nstep 1\ndeliver u1 0\ndeliver d0 0\ndeliver u0 0\ndeliver t0 0\ndeliver f0 0\ndeliver d1 0\ndrain 0\ndeliver u0 0\ndeliver d1 0\ndeliver u1 0\ndeliver t0 0\ndeliver f0 0\ndeliver d0 0\ndrain 1\ndrain 0\ndeliver u0 0\ndeliver d1 0\ndeliver u1 0\ndeliver u1 0\ndeliver t0 0\ndeliver t0 0\ndeliver f0 0\ndeliver d0 0\ndrain 1\ndeliver u1 0\ndeliver d0 0\ndeliver u0 0\ndeliver u0 0\ndeliver t0 0\ndeliver t0 0\ndeliver f0 0\ndeliver d1 0\nstep 0\nstep 0\nstep 0\nstep 1\nstep 1\nstep 1\nstep 2\nstep 2\nstep 2\ndeliver u2 0\ndeliver d1 0\ndeliver u1 0\ndeliver u1 0\ndeliver t0 0\ndeliver t0 0\ndeliver f0 0\ndeliver d2 0\nstep 2\ndeliver u2 0\ndeliver d0 0\ndeliver u0 0\ndeliver u0 0\ndeliver t0 0\ndeliver t0 0\ndeliver f0 0\ndeliver d2 0\nstep 2\nstep 2\nstep 2\nstep 2\nstep 2\nstep 2\nstep 2\nstep 2\n",
-        report: "mind 1\nthread 0 exit 0 out -\nthread 1 exit 0 out -\nthread 2 exit 0 out 0202\ncounts events 92 labels 34 takes 9 gives 5 downs 2 peak 2 splits 0 merges 0\n",
+        schedule: "step 0\nstep 0\nstep 0\nstep 0\nstep 1\nstep 1\nstep 1\nstep 1\nstep 0\nsettle\nstep 0\nsettle\nstep 1\nsettle\nstep 1\nsettle\ndrain 0\nsettle\ndrain 1\ndrain 0\nsettle\ndrain 1\nsettle\nstep 0\nstep 0\nstep 0\nstep 1\nstep 1\nstep 1\nstep 2\nstep 2\nstep 2\nsettle\nstep 2\nsettle\nstep 2\nstep 2\nstep 2\nstep 2\nstep 2\nstep 2\nstep 2\nstep 2\n",
+        report: "mind 1\nthread 0 exit 0 out -\nthread 1 exit 0 out -\nthread 2 exit 0 out 0202\ncounts events 43 labels 34 takes 9 gives 5 downs 2 peak 2 splits 0 merges 0\n",
     },
 ];
 
@@ -127,8 +127,15 @@ const N6: &[&str] = &[
     "000012b7 0002a503 00100893 00000073 00000513 00200893 00000073",
 ];
 
-static OWN_STORE_EARLY: [Row; 5] = [
+static OWN_STORE_EARLY: [Row; 6] = [
     // n6, one_zero_one.
+    Row {
+        rack: THREE,
+        programs: N6,
+        schedule: "step 0\nstep 0\nstep 0\nstep 1\nstep 1\nstep 1\nstep 0\nsettle\nstep 0\nstep 0\nsettle\nstep 1\nsettle\nstep 1\nsettle\ndrain 1\ndrain 1\ndrain 0\nsettle\nstep 0\nstep 0\nstep 0\nstep 0\nstep 0\nstep 0\nstep 0\nstep 0\nstep 1\nstep 1\nstep 1\nstep 2\nstep 2\nsettle\nstep 2\nstep 2\nstep 2\nstep 2\nstep 2\n",
+        report: "mind 1\nthread 0 exit 0 out 0100\nthread 1 exit 0 out -\nthread 2 exit 0 out 01\ncounts events 38 labels 32 takes 6 gives 3 downs 1 peak 2 splits 0 merges 0\n",
+    },
+    // n6, one_zero_one_deliveries.
     Row {
         rack: THREE,
         programs: N6,
@@ -139,29 +146,29 @@ static OWN_STORE_EARLY: [Row; 5] = [
     Row {
         rack: THREE,
         programs: N6,
-        schedule: "step 0\nstep 0\nstep 0\nstep 0\ndeliver u0 0\ndeliver t0 0\ndeliver f0 0\ndeliver d0 0\nstep 0\nstep 0\ndeliver u0 0\ndeliver t0 0\ndeliver f0 0\ndeliver d0 0\ndrain 0\nstep 0\nstep 0\nstep 0\nstep 0\nstep 0\nstep 0\nstep 0\nstep 0\nstep 1\nstep 1\nstep 1\nstep 1\ndeliver u1 0\ndeliver d0 0\ndeliver u0 0\ndeliver t0 0\ndeliver f0 0\ndeliver d1 0\nstep 1\ndeliver u1 0\ndeliver d0 0\ndeliver u0 0\ndeliver u0 0\ndeliver t0 0\ndeliver t0 0\ndeliver f0 0\ndeliver d1 0\ndrain 1\ndrain 1\nstep 1\nstep 1\nstep 1\nstep 2\nstep 2\ndeliver u2 0\ndeliver d1 0\ndeliver u1 0\ndeliver u1 0\ndeliver t0 0\ndeliver t0 0\ndeliver f0 0\ndeliver d2 0\nstep 2\nstep 2\nstep 2\nstep 2\nstep 2\n",
-        report: "mind 1\nthread 0 exit 0 out 0100\nthread 1 exit 0 out -\nthread 2 exit 0 out 02\ncounts events 62 labels 32 takes 5 gives 2 downs 1 peak 2 splits 0 merges 0\n",
+        schedule: "step 0\nstep 0\nstep 0\nstep 0\nsettle\nstep 0\nstep 0\nsettle\ndrain 0\nstep 0\nstep 0\nstep 0\nstep 0\nstep 0\nstep 0\nstep 0\nstep 0\nstep 1\nstep 1\nstep 1\nstep 1\nsettle\nstep 1\nsettle\ndrain 1\ndrain 1\nstep 1\nstep 1\nstep 1\nstep 2\nstep 2\nsettle\nstep 2\nstep 2\nstep 2\nstep 2\nstep 2\n",
+        report: "mind 1\nthread 0 exit 0 out 0100\nthread 1 exit 0 out -\nthread 2 exit 0 out 02\ncounts events 37 labels 32 takes 5 gives 2 downs 1 peak 2 splits 0 merges 0\n",
     },
     // n6, one_two_one.
     Row {
         rack: THREE,
         programs: N6,
-        schedule: "step 1\nstep 1\nstep 1\nstep 1\ndeliver u1 0\ndeliver t0 0\ndeliver f0 0\ndeliver d1 0\nstep 1\ndeliver u1 0\ndeliver t0 0\ndeliver f0 0\ndeliver d1 0\ndrain 1\ndrain 1\nstep 1\nstep 1\nstep 1\nstep 0\nstep 0\nstep 0\nstep 0\ndeliver u0 0\ndeliver d1 0\ndeliver u1 0\ndeliver u1 0\ndeliver t0 0\ndeliver t0 0\ndeliver f0 0\ndeliver d0 0\nstep 0\nstep 0\ndeliver u0 0\ndeliver d1 0\ndeliver u1 0\ndeliver u1 0\ndeliver t0 0\ndeliver t0 0\ndeliver f0 0\ndeliver d0 0\ndrain 0\nstep 0\nstep 0\nstep 0\nstep 0\nstep 0\nstep 0\nstep 0\nstep 0\nstep 2\nstep 2\ndeliver u2 0\ndeliver d0 0\ndeliver u0 0\ndeliver u0 0\ndeliver t0 0\ndeliver t0 0\ndeliver f0 0\ndeliver d2 0\nstep 2\nstep 2\nstep 2\nstep 2\nstep 2\n",
-        report: "mind 1\nthread 0 exit 0 out 0102\nthread 1 exit 0 out -\nthread 2 exit 0 out 01\ncounts events 64 labels 32 takes 5 gives 1 downs 2 peak 2 splits 0 merges 0\n",
+        schedule: "step 1\nstep 1\nstep 1\nstep 1\nsettle\nstep 1\nsettle\ndrain 1\ndrain 1\nstep 1\nstep 1\nstep 1\nstep 0\nstep 0\nstep 0\nstep 0\nsettle\nstep 0\nstep 0\nsettle\ndrain 0\nstep 0\nstep 0\nstep 0\nstep 0\nstep 0\nstep 0\nstep 0\nstep 0\nstep 2\nstep 2\nsettle\nstep 2\nstep 2\nstep 2\nstep 2\nstep 2\n",
+        report: "mind 1\nthread 0 exit 0 out 0102\nthread 1 exit 0 out -\nthread 2 exit 0 out 01\ncounts events 37 labels 32 takes 5 gives 1 downs 2 peak 2 splits 0 merges 0\n",
     },
     // n6, one_two_two.
     Row {
         rack: THREE,
         programs: N6,
-        schedule: "step 0\nstep 0\nstep 0\nstep 1\nstep 1\nstep 1\nstep 0\ndeliver u0 0\ndeliver t0 0\ndeliver f0 0\ndeliver d0 0\ndrain 0\nstep 0\nstep 1\ndeliver u1 0\ndeliver t0 0\ndeliver f0 0\ndeliver d1 0\nstep 1\ndeliver u1 0\ndeliver d0 0\ndeliver u0 0\ndeliver u0 0\ndeliver t0 0\ndeliver t0 0\ndeliver f0 0\ndeliver d1 0\ndrain 1\ndrain 1\nstep 0\ndeliver u0 0\ndeliver d1 0\ndeliver u1 0\ndeliver u1 0\ndeliver t0 0\ndeliver t0 0\ndeliver f0 0\ndeliver d0 0\nstep 0\nstep 0\nstep 0\nstep 0\nstep 0\nstep 0\nstep 0\nstep 0\nstep 1\nstep 1\nstep 1\nstep 2\nstep 2\ndeliver u2 0\ndeliver d1 0\ndeliver u1 0\ndeliver u1 0\ndeliver t0 0\ndeliver t0 0\ndeliver f0 0\ndeliver d2 0\nstep 2\nstep 2\nstep 2\nstep 2\nstep 2\n",
-        report: "mind 1\nthread 0 exit 0 out 0102\nthread 1 exit 0 out -\nthread 2 exit 0 out 02\ncounts events 64 labels 32 takes 5 gives 1 downs 2 peak 2 splits 0 merges 0\n",
+        schedule: "step 0\nstep 0\nstep 0\nstep 1\nstep 1\nstep 1\nstep 0\nsettle\ndrain 0\nstep 0\nstep 1\nsettle\nstep 1\nsettle\ndrain 1\ndrain 1\nstep 0\nsettle\nstep 0\nstep 0\nstep 0\nstep 0\nstep 0\nstep 0\nstep 0\nstep 0\nstep 1\nstep 1\nstep 1\nstep 2\nstep 2\nsettle\nstep 2\nstep 2\nstep 2\nstep 2\nstep 2\n",
+        report: "mind 1\nthread 0 exit 0 out 0102\nthread 1 exit 0 out -\nthread 2 exit 0 out 02\ncounts events 37 labels 32 takes 5 gives 1 downs 2 peak 2 splits 0 merges 0\n",
     },
     // n6, two_two_two.
     Row {
         rack: THREE,
         programs: N6,
-        schedule: "step 0\nstep 0\nstep 0\nstep 1\nstep 1\nstep 1\nstep 0\ndeliver u0 0\ndeliver t0 0\ndeliver f0 0\ndeliver d0 0\ndrain 0\nstep 1\ndeliver u1 0\ndeliver t0 0\ndeliver f0 0\ndeliver d1 0\nstep 1\ndeliver u1 0\ndeliver d0 0\ndeliver u0 0\ndeliver u0 0\ndeliver t0 0\ndeliver t0 0\ndeliver f0 0\ndeliver d1 0\ndrain 1\ndrain 1\nstep 0\ndeliver u0 0\ndeliver d1 0\ndeliver u1 0\ndeliver u1 0\ndeliver t0 0\ndeliver t0 0\ndeliver f0 0\ndeliver d0 0\nstep 0\ndeliver u0 0\ndeliver d1 0\ndeliver u1 0\ndeliver u1 0\ndeliver t0 0\ndeliver t0 0\ndeliver f0 0\ndeliver d0 0\nstep 0\nstep 0\nstep 0\nstep 0\nstep 0\nstep 0\nstep 0\nstep 0\nstep 1\nstep 1\nstep 1\nstep 2\nstep 2\ndeliver u2 0\ndeliver t0 0\ndeliver f0 0\ndeliver d2 0\nstep 2\nstep 2\nstep 2\nstep 2\nstep 2\n",
-        report: "mind 1\nthread 0 exit 0 out 0202\nthread 1 exit 0 out -\nthread 2 exit 0 out 02\ncounts events 68 labels 32 takes 6 gives 1 downs 2 peak 2 splits 0 merges 0\n",
+        schedule: "step 0\nstep 0\nstep 0\nstep 1\nstep 1\nstep 1\nstep 0\nsettle\ndrain 0\nstep 1\nsettle\nstep 1\nsettle\ndrain 1\ndrain 1\nstep 0\nsettle\nstep 0\nsettle\nstep 0\nstep 0\nstep 0\nstep 0\nstep 0\nstep 0\nstep 0\nstep 0\nstep 1\nstep 1\nstep 1\nstep 2\nstep 2\nsettle\nstep 2\nstep 2\nstep 2\nstep 2\nstep 2\n",
+        report: "mind 1\nthread 0 exit 0 out 0202\nthread 1 exit 0 out -\nthread 2 exit 0 out 02\ncounts events 38 labels 32 takes 6 gives 1 downs 2 peak 2 splits 0 merges 0\n",
     },
 ];
 

@@ -9,8 +9,15 @@ const SB: &[&str] = &[
     "000012b7 00002337 00100393 00732023 0002a503 00100893 00000073 00000513 00200893 00000073",
 ];
 
-static STORE_BUFFERING: [Row; 4] = [
+static STORE_BUFFERING: [Row; 5] = [
     // SB, both_zero.
+    Row {
+        rack: TWO,
+        programs: SB,
+        schedule: "step 0\nstep 0\nstep 0\nstep 1\nstep 1\nstep 1\nstep 0\nsettle\nstep 1\nsettle\nstep 0\nsettle\nstep 1\nsettle\ndrain 0\nsettle\ndrain 1\nsettle\nstep 0\nstep 0\nstep 0\nstep 0\nstep 0\nstep 1\nstep 1\nstep 1\nstep 1\nstep 1\n",
+        report: "mind 1\nthread 0 exit 0 out 00\nthread 1 exit 0 out 00\ncounts events 28 labels 22 takes 6 gives 2 downs 2 peak 2 splits 0 merges 0\n",
+    },
+    // SB, both_zero_deliveries.
     Row {
         rack: TWO,
         programs: SB,
@@ -21,22 +28,22 @@ static STORE_BUFFERING: [Row; 4] = [
     Row {
         rack: TWO,
         programs: SB,
-        schedule: "step 0\nstep 0\nstep 0\nstep 0\ndeliver u0 0\ndeliver t0 0\ndeliver f0 0\ndeliver d0 0\nstep 0\ndeliver u0 0\ndeliver t0 0\ndeliver f0 0\ndeliver d0 0\ndrain 0\nstep 0\nstep 0\nstep 0\nstep 0\nstep 0\nstep 1\nstep 1\nstep 1\nstep 1\ndeliver u1 0\ndeliver d0 0\ndeliver u0 0\ndeliver t0 0\ndeliver f0 0\ndeliver d1 0\nstep 1\ndeliver u1 0\ndeliver d0 0\ndeliver u0 0\ndeliver u0 0\ndeliver t0 0\ndeliver t0 0\ndeliver f0 0\ndeliver d1 0\ndrain 1\nstep 1\nstep 1\nstep 1\nstep 1\nstep 1\n",
-        report: "mind 1\nthread 0 exit 0 out 00\nthread 1 exit 0 out 01\ncounts events 44 labels 22 takes 4 gives 1 downs 1 peak 2 splits 0 merges 0\n",
+        schedule: "step 0\nstep 0\nstep 0\nstep 0\nsettle\nstep 0\nsettle\ndrain 0\nstep 0\nstep 0\nstep 0\nstep 0\nstep 0\nstep 1\nstep 1\nstep 1\nstep 1\nsettle\nstep 1\nsettle\ndrain 1\nstep 1\nstep 1\nstep 1\nstep 1\nstep 1\n",
+        report: "mind 1\nthread 0 exit 0 out 00\nthread 1 exit 0 out 01\ncounts events 26 labels 22 takes 4 gives 1 downs 1 peak 2 splits 0 merges 0\n",
     },
     // SB, one_zero.
     Row {
         rack: TWO,
         programs: SB,
-        schedule: "step 1\nstep 1\nstep 1\nstep 1\ndeliver u1 0\ndeliver t0 0\ndeliver f0 0\ndeliver d1 0\nstep 1\ndeliver u1 0\ndeliver t0 0\ndeliver f0 0\ndeliver d1 0\ndrain 1\nstep 1\nstep 1\nstep 1\nstep 1\nstep 1\nstep 0\nstep 0\nstep 0\nstep 0\ndeliver u0 0\ndeliver d1 0\ndeliver u1 0\ndeliver t0 0\ndeliver f0 0\ndeliver d0 0\nstep 0\ndeliver u0 0\ndeliver d1 0\ndeliver u1 0\ndeliver u1 0\ndeliver t0 0\ndeliver t0 0\ndeliver f0 0\ndeliver d0 0\ndrain 0\nstep 0\nstep 0\nstep 0\nstep 0\nstep 0\n",
-        report: "mind 1\nthread 0 exit 0 out 01\nthread 1 exit 0 out 00\ncounts events 44 labels 22 takes 4 gives 1 downs 1 peak 2 splits 0 merges 0\n",
+        schedule: "step 1\nstep 1\nstep 1\nstep 1\nsettle\nstep 1\nsettle\ndrain 1\nstep 1\nstep 1\nstep 1\nstep 1\nstep 1\nstep 0\nstep 0\nstep 0\nstep 0\nsettle\nstep 0\nsettle\ndrain 0\nstep 0\nstep 0\nstep 0\nstep 0\nstep 0\n",
+        report: "mind 1\nthread 0 exit 0 out 01\nthread 1 exit 0 out 00\ncounts events 26 labels 22 takes 4 gives 1 downs 1 peak 2 splits 0 merges 0\n",
     },
     // SB, both_one.
     Row {
         rack: TWO,
         programs: SB,
-        schedule: "step 0\nstep 0\nstep 0\nstep 1\nstep 1\nstep 1\nstep 0\ndeliver u0 0\ndeliver t0 0\ndeliver f0 0\ndeliver d0 0\nstep 1\ndeliver u1 0\ndeliver t0 0\ndeliver f0 0\ndeliver d1 0\ndrain 0\ndrain 1\nstep 0\ndeliver u0 0\ndeliver d1 0\ndeliver u1 0\ndeliver u1 0\ndeliver t0 0\ndeliver t0 0\ndeliver f0 0\ndeliver d0 0\nstep 1\ndeliver u1 0\ndeliver d0 0\ndeliver u0 0\ndeliver u0 0\ndeliver t0 0\ndeliver t0 0\ndeliver f0 0\ndeliver d1 0\nstep 0\nstep 0\nstep 0\nstep 0\nstep 0\nstep 1\nstep 1\nstep 1\nstep 1\nstep 1\n",
-        report: "mind 1\nthread 0 exit 0 out 01\nthread 1 exit 0 out 01\ncounts events 46 labels 22 takes 4 gives 0 downs 2 peak 2 splits 0 merges 0\n",
+        schedule: "step 0\nstep 0\nstep 0\nstep 1\nstep 1\nstep 1\nstep 0\nsettle\nstep 1\nsettle\ndrain 0\ndrain 1\nstep 0\nsettle\nstep 1\nsettle\nstep 0\nstep 0\nstep 0\nstep 0\nstep 0\nstep 1\nstep 1\nstep 1\nstep 1\nstep 1\n",
+        report: "mind 1\nthread 0 exit 0 out 01\nthread 1 exit 0 out 01\ncounts events 26 labels 22 takes 4 gives 0 downs 2 peak 2 splits 0 merges 0\n",
     },
 ];
 
@@ -50,29 +57,29 @@ static ONE_FENCE: [Row; 4] = [
     Row {
         rack: TWO,
         programs: SB_ONE_FENCE,
-        schedule: "step 0\nstep 0\nstep 0\nstep 1\nstep 1\nstep 1\nstep 1\ndeliver u1 0\ndeliver t0 0\ndeliver f0 0\ndeliver d1 0\nstep 1\ndeliver u1 0\ndeliver t0 0\ndeliver f0 0\ndeliver d1 0\nstep 0\ndeliver u0 0\ndeliver d1 0\ndeliver u1 0\ndeliver t0 0\ndeliver f0 0\ndeliver d0 0\nstep 0\nstep 0\nstep 0\ndeliver u0 0\ndeliver d1 0\ndeliver u1 0\ndeliver t0 0\ndeliver f0 0\ndeliver d0 0\ndrain 1\ndeliver u1 0\ndeliver d0 0\ndeliver u0 0\ndeliver t0 0\ndeliver f0 0\ndeliver d1 0\nstep 0\nstep 0\nstep 0\nstep 0\nstep 0\nstep 1\nstep 1\nstep 1\nstep 1\nstep 1\n",
-        report: "mind 1\nthread 0 exit 0 out 00\nthread 1 exit 0 out 00\ncounts events 49 labels 23 takes 5 gives 2 downs 1 peak 2 splits 0 merges 0\n",
+        schedule: "step 0\nstep 0\nstep 0\nstep 1\nstep 1\nstep 1\nstep 1\nsettle\nstep 1\nsettle\nstep 0\nsettle\nstep 0\nstep 0\nstep 0\nsettle\ndrain 1\nsettle\nstep 0\nstep 0\nstep 0\nstep 0\nstep 0\nstep 1\nstep 1\nstep 1\nstep 1\nstep 1\n",
+        report: "mind 1\nthread 0 exit 0 out 00\nthread 1 exit 0 out 00\ncounts events 28 labels 23 takes 5 gives 2 downs 1 peak 2 splits 0 merges 0\n",
     },
     // SB_one_fence, zero_one.
     Row {
         rack: TWO,
         programs: SB_ONE_FENCE,
-        schedule: "step 0\nstep 0\nstep 0\nstep 0\ndeliver u0 0\ndeliver t0 0\ndeliver f0 0\ndeliver d0 0\nstep 0\nstep 0\nstep 0\ndeliver u0 0\ndeliver t0 0\ndeliver f0 0\ndeliver d0 0\nstep 0\nstep 0\nstep 0\nstep 0\nstep 0\nstep 1\nstep 1\nstep 1\nstep 1\ndeliver u1 0\ndeliver d0 0\ndeliver u0 0\ndeliver t0 0\ndeliver f0 0\ndeliver d1 0\nstep 1\ndeliver u1 0\ndeliver d0 0\ndeliver u0 0\ndeliver u0 0\ndeliver t0 0\ndeliver t0 0\ndeliver f0 0\ndeliver d1 0\ndrain 1\nstep 1\nstep 1\nstep 1\nstep 1\nstep 1\n",
-        report: "mind 1\nthread 0 exit 0 out 00\nthread 1 exit 0 out 01\ncounts events 45 labels 23 takes 4 gives 1 downs 1 peak 2 splits 0 merges 0\n",
+        schedule: "step 0\nstep 0\nstep 0\nstep 0\nsettle\nstep 0\nstep 0\nstep 0\nsettle\nstep 0\nstep 0\nstep 0\nstep 0\nstep 0\nstep 1\nstep 1\nstep 1\nstep 1\nsettle\nstep 1\nsettle\ndrain 1\nstep 1\nstep 1\nstep 1\nstep 1\nstep 1\n",
+        report: "mind 1\nthread 0 exit 0 out 00\nthread 1 exit 0 out 01\ncounts events 27 labels 23 takes 4 gives 1 downs 1 peak 2 splits 0 merges 0\n",
     },
     // SB_one_fence, one_zero.
     Row {
         rack: TWO,
         programs: SB_ONE_FENCE,
-        schedule: "step 1\nstep 1\nstep 1\nstep 1\ndeliver u1 0\ndeliver t0 0\ndeliver f0 0\ndeliver d1 0\nstep 1\ndeliver u1 0\ndeliver t0 0\ndeliver f0 0\ndeliver d1 0\ndrain 1\nstep 1\nstep 1\nstep 1\nstep 1\nstep 1\nstep 0\nstep 0\nstep 0\nstep 0\ndeliver u0 0\ndeliver d1 0\ndeliver u1 0\ndeliver t0 0\ndeliver f0 0\ndeliver d0 0\nstep 0\nstep 0\nstep 0\ndeliver u0 0\ndeliver d1 0\ndeliver u1 0\ndeliver u1 0\ndeliver t0 0\ndeliver t0 0\ndeliver f0 0\ndeliver d0 0\nstep 0\nstep 0\nstep 0\nstep 0\nstep 0\n",
-        report: "mind 1\nthread 0 exit 0 out 01\nthread 1 exit 0 out 00\ncounts events 45 labels 23 takes 4 gives 1 downs 1 peak 2 splits 0 merges 0\n",
+        schedule: "step 1\nstep 1\nstep 1\nstep 1\nsettle\nstep 1\nsettle\ndrain 1\nstep 1\nstep 1\nstep 1\nstep 1\nstep 1\nstep 0\nstep 0\nstep 0\nstep 0\nsettle\nstep 0\nstep 0\nstep 0\nsettle\nstep 0\nstep 0\nstep 0\nstep 0\nstep 0\n",
+        report: "mind 1\nthread 0 exit 0 out 01\nthread 1 exit 0 out 00\ncounts events 27 labels 23 takes 4 gives 1 downs 1 peak 2 splits 0 merges 0\n",
     },
     // SB_one_fence, both_one.
     Row {
         rack: TWO,
         programs: SB_ONE_FENCE,
-        schedule: "step 0\nstep 0\nstep 0\nstep 1\nstep 1\nstep 1\nstep 0\ndeliver u0 0\ndeliver t0 0\ndeliver f0 0\ndeliver d0 0\nstep 1\ndeliver u1 0\ndeliver t0 0\ndeliver f0 0\ndeliver d1 0\nstep 0\ndrain 1\nstep 0\nstep 0\ndeliver u0 0\ndeliver d1 0\ndeliver u1 0\ndeliver u1 0\ndeliver t0 0\ndeliver t0 0\ndeliver f0 0\ndeliver d0 0\nstep 1\ndeliver u1 0\ndeliver d0 0\ndeliver u0 0\ndeliver u0 0\ndeliver t0 0\ndeliver t0 0\ndeliver f0 0\ndeliver d1 0\nstep 0\nstep 0\nstep 0\nstep 0\nstep 0\nstep 1\nstep 1\nstep 1\nstep 1\nstep 1\n",
-        report: "mind 1\nthread 0 exit 0 out 01\nthread 1 exit 0 out 01\ncounts events 47 labels 23 takes 4 gives 0 downs 2 peak 2 splits 0 merges 0\n",
+        schedule: "step 0\nstep 0\nstep 0\nstep 1\nstep 1\nstep 1\nstep 0\nsettle\nstep 1\nsettle\nstep 0\ndrain 1\nstep 0\nstep 0\nsettle\nstep 1\nsettle\nstep 0\nstep 0\nstep 0\nstep 0\nstep 0\nstep 1\nstep 1\nstep 1\nstep 1\nstep 1\n",
+        report: "mind 1\nthread 0 exit 0 out 01\nthread 1 exit 0 out 01\ncounts events 27 labels 23 takes 4 gives 0 downs 2 peak 2 splits 0 merges 0\n",
     },
 ];
 
@@ -86,29 +93,29 @@ static FENCES: [Row; 4] = [
     Row {
         rack: TWO,
         programs: SB_FENCES,
-        schedule: "step 0\nstep 0\nstep 0\nstep 0\ndeliver u0 0\ndeliver t0 0\ndeliver f0 0\ndeliver d0 0\nstep 0\nstep 0\nstep 0\ndeliver u0 0\ndeliver t0 0\ndeliver f0 0\ndeliver d0 0\nstep 0\nstep 0\nstep 0\nstep 0\nstep 0\nstep 1\nstep 1\nstep 1\nstep 1\ndeliver u1 0\ndeliver d0 0\ndeliver u0 0\ndeliver t0 0\ndeliver f0 0\ndeliver d1 0\nstep 1\nstep 1\nstep 1\ndeliver u1 0\ndeliver d0 0\ndeliver u0 0\ndeliver u0 0\ndeliver t0 0\ndeliver t0 0\ndeliver f0 0\ndeliver d1 0\nstep 1\nstep 1\nstep 1\nstep 1\nstep 1\n",
-        report: "mind 1\nthread 0 exit 0 out 00\nthread 1 exit 0 out 01\ncounts events 46 labels 24 takes 4 gives 1 downs 1 peak 2 splits 0 merges 0\n",
+        schedule: "step 0\nstep 0\nstep 0\nstep 0\nsettle\nstep 0\nstep 0\nstep 0\nsettle\nstep 0\nstep 0\nstep 0\nstep 0\nstep 0\nstep 1\nstep 1\nstep 1\nstep 1\nsettle\nstep 1\nstep 1\nstep 1\nsettle\nstep 1\nstep 1\nstep 1\nstep 1\nstep 1\n",
+        report: "mind 1\nthread 0 exit 0 out 00\nthread 1 exit 0 out 01\ncounts events 28 labels 24 takes 4 gives 1 downs 1 peak 2 splits 0 merges 0\n",
     },
     // SB_fences, one_zero.
     Row {
         rack: TWO,
         programs: SB_FENCES,
-        schedule: "step 1\nstep 1\nstep 1\nstep 1\ndeliver u1 0\ndeliver t0 0\ndeliver f0 0\ndeliver d1 0\nstep 1\nstep 1\nstep 1\ndeliver u1 0\ndeliver t0 0\ndeliver f0 0\ndeliver d1 0\nstep 1\nstep 1\nstep 1\nstep 1\nstep 1\nstep 0\nstep 0\nstep 0\nstep 0\ndeliver u0 0\ndeliver d1 0\ndeliver u1 0\ndeliver t0 0\ndeliver f0 0\ndeliver d0 0\nstep 0\nstep 0\nstep 0\ndeliver u0 0\ndeliver d1 0\ndeliver u1 0\ndeliver u1 0\ndeliver t0 0\ndeliver t0 0\ndeliver f0 0\ndeliver d0 0\nstep 0\nstep 0\nstep 0\nstep 0\nstep 0\n",
-        report: "mind 1\nthread 0 exit 0 out 01\nthread 1 exit 0 out 00\ncounts events 46 labels 24 takes 4 gives 1 downs 1 peak 2 splits 0 merges 0\n",
+        schedule: "step 1\nstep 1\nstep 1\nstep 1\nsettle\nstep 1\nstep 1\nstep 1\nsettle\nstep 1\nstep 1\nstep 1\nstep 1\nstep 1\nstep 0\nstep 0\nstep 0\nstep 0\nsettle\nstep 0\nstep 0\nstep 0\nsettle\nstep 0\nstep 0\nstep 0\nstep 0\nstep 0\n",
+        report: "mind 1\nthread 0 exit 0 out 01\nthread 1 exit 0 out 00\ncounts events 28 labels 24 takes 4 gives 1 downs 1 peak 2 splits 0 merges 0\n",
     },
     // SB_fences, both_one.
     Row {
         rack: TWO,
         programs: SB_FENCES,
-        schedule: "step 0\nstep 0\nstep 0\nstep 1\nstep 1\nstep 1\nstep 0\ndeliver u0 0\ndeliver t0 0\ndeliver f0 0\ndeliver d0 0\nstep 1\ndeliver u1 0\ndeliver t0 0\ndeliver f0 0\ndeliver d1 0\nstep 0\nstep 1\nstep 0\nstep 1\nstep 0\ndeliver u0 0\ndeliver d1 0\ndeliver u1 0\ndeliver u1 0\ndeliver t0 0\ndeliver t0 0\ndeliver f0 0\ndeliver d0 0\nstep 1\ndeliver u1 0\ndeliver d0 0\ndeliver u0 0\ndeliver u0 0\ndeliver t0 0\ndeliver t0 0\ndeliver f0 0\ndeliver d1 0\nstep 0\nstep 0\nstep 0\nstep 0\nstep 0\nstep 1\nstep 1\nstep 1\nstep 1\nstep 1\n",
-        report: "mind 1\nthread 0 exit 0 out 01\nthread 1 exit 0 out 01\ncounts events 48 labels 24 takes 4 gives 0 downs 2 peak 2 splits 0 merges 0\n",
+        schedule: "step 0\nstep 0\nstep 0\nstep 1\nstep 1\nstep 1\nstep 0\nsettle\nstep 1\nsettle\nstep 0\nstep 1\nstep 0\nstep 1\nstep 0\nsettle\nstep 1\nsettle\nstep 0\nstep 0\nstep 0\nstep 0\nstep 0\nstep 1\nstep 1\nstep 1\nstep 1\nstep 1\n",
+        report: "mind 1\nthread 0 exit 0 out 01\nthread 1 exit 0 out 01\ncounts events 28 labels 24 takes 4 gives 0 downs 2 peak 2 splits 0 merges 0\n",
     },
     // SB_fences, tries_both_zero.
     Row {
         rack: TWO,
         programs: SB_FENCES,
-        schedule: "step 0\nstep 0\nstep 0\nstep 1\nstep 1\nstep 1\nstep 0\ndeliver u0 0\ndeliver t0 0\ndeliver f0 0\ndeliver d0 0\nstep 1\ndeliver u1 0\ndeliver t0 0\ndeliver f0 0\ndeliver d1 0\nstep 0\nstep 0\nstep 0\ndeliver u0 0\ndeliver d1 0\ndeliver u1 0\ndeliver t0 0\ndeliver f0 0\ndeliver d0 0\nstep 1\ndeliver u1 0\ndeliver d0 0\ndeliver u0 0\ndeliver t0 0\ndeliver f0 0\ndeliver d1 0\nstep 1\nstep 1\ndeliver u1 0\ndeliver d0 0\ndeliver u0 0\ndeliver u0 0\ndeliver t0 0\ndeliver t0 0\ndeliver f0 0\ndeliver d1 0\nstep 0\nstep 0\nstep 0\nstep 0\nstep 0\nstep 1\nstep 1\nstep 1\nstep 1\nstep 1\n",
-        report: "mind 1\nthread 0 exit 0 out 00\nthread 1 exit 0 out 01\ncounts events 52 labels 24 takes 5 gives 1 downs 2 peak 2 splits 0 merges 0\n",
+        schedule: "step 0\nstep 0\nstep 0\nstep 1\nstep 1\nstep 1\nstep 0\nsettle\nstep 1\nsettle\nstep 0\nstep 0\nstep 0\nsettle\nstep 1\nsettle\nstep 1\nstep 1\nsettle\nstep 0\nstep 0\nstep 0\nstep 0\nstep 0\nstep 1\nstep 1\nstep 1\nstep 1\nstep 1\n",
+        report: "mind 1\nthread 0 exit 0 out 00\nthread 1 exit 0 out 01\ncounts events 29 labels 24 takes 5 gives 1 downs 2 peak 2 splits 0 merges 0\n",
     },
 ];
 
@@ -122,29 +129,29 @@ static LOCKED_STORES: [Row; 4] = [
     Row {
         rack: TWO,
         programs: SB_AMOS,
-        schedule: "step 0\nstep 0\nstep 0\nstep 0\ndeliver u0 0\ndeliver t0 0\ndeliver f0 0\ndeliver d0 0\nstep 0\ndeliver u0 0\ndeliver t0 0\ndeliver f0 0\ndeliver d0 0\nstep 0\nstep 0\nstep 0\nstep 0\nstep 0\nstep 1\nstep 1\nstep 1\nstep 1\ndeliver u1 0\ndeliver d0 0\ndeliver u0 0\ndeliver t0 0\ndeliver f0 0\ndeliver d1 0\nstep 1\ndeliver u1 0\ndeliver d0 0\ndeliver u0 0\ndeliver u0 0\ndeliver t0 0\ndeliver t0 0\ndeliver f0 0\ndeliver d1 0\nstep 1\nstep 1\nstep 1\nstep 1\nstep 1\n",
-        report: "mind 1\nthread 0 exit 0 out 00\nthread 1 exit 0 out 01\ncounts events 42 labels 20 takes 4 gives 1 downs 1 peak 2 splits 0 merges 0\n",
+        schedule: "step 0\nstep 0\nstep 0\nstep 0\nsettle\nstep 0\nsettle\nstep 0\nstep 0\nstep 0\nstep 0\nstep 0\nstep 1\nstep 1\nstep 1\nstep 1\nsettle\nstep 1\nsettle\nstep 1\nstep 1\nstep 1\nstep 1\nstep 1\n",
+        report: "mind 1\nthread 0 exit 0 out 00\nthread 1 exit 0 out 01\ncounts events 24 labels 20 takes 4 gives 1 downs 1 peak 2 splits 0 merges 0\n",
     },
     // SB_amos, one_zero.
     Row {
         rack: TWO,
         programs: SB_AMOS,
-        schedule: "step 1\nstep 1\nstep 1\nstep 1\ndeliver u1 0\ndeliver t0 0\ndeliver f0 0\ndeliver d1 0\nstep 1\ndeliver u1 0\ndeliver t0 0\ndeliver f0 0\ndeliver d1 0\nstep 1\nstep 1\nstep 1\nstep 1\nstep 1\nstep 0\nstep 0\nstep 0\nstep 0\ndeliver u0 0\ndeliver d1 0\ndeliver u1 0\ndeliver t0 0\ndeliver f0 0\ndeliver d0 0\nstep 0\ndeliver u0 0\ndeliver d1 0\ndeliver u1 0\ndeliver u1 0\ndeliver t0 0\ndeliver t0 0\ndeliver f0 0\ndeliver d0 0\nstep 0\nstep 0\nstep 0\nstep 0\nstep 0\n",
-        report: "mind 1\nthread 0 exit 0 out 01\nthread 1 exit 0 out 00\ncounts events 42 labels 20 takes 4 gives 1 downs 1 peak 2 splits 0 merges 0\n",
+        schedule: "step 1\nstep 1\nstep 1\nstep 1\nsettle\nstep 1\nsettle\nstep 1\nstep 1\nstep 1\nstep 1\nstep 1\nstep 0\nstep 0\nstep 0\nstep 0\nsettle\nstep 0\nsettle\nstep 0\nstep 0\nstep 0\nstep 0\nstep 0\n",
+        report: "mind 1\nthread 0 exit 0 out 01\nthread 1 exit 0 out 00\ncounts events 24 labels 20 takes 4 gives 1 downs 1 peak 2 splits 0 merges 0\n",
     },
     // SB_amos, both_one.
     Row {
         rack: TWO,
         programs: SB_AMOS,
-        schedule: "step 0\nstep 0\nstep 0\nstep 1\nstep 1\nstep 1\nstep 0\ndeliver u0 0\ndeliver t0 0\ndeliver f0 0\ndeliver d0 0\nstep 1\ndeliver u1 0\ndeliver t0 0\ndeliver f0 0\ndeliver d1 0\nstep 0\ndeliver u0 0\ndeliver d1 0\ndeliver u1 0\ndeliver u1 0\ndeliver t0 0\ndeliver t0 0\ndeliver f0 0\ndeliver d0 0\nstep 1\ndeliver u1 0\ndeliver d0 0\ndeliver u0 0\ndeliver u0 0\ndeliver t0 0\ndeliver t0 0\ndeliver f0 0\ndeliver d1 0\nstep 0\nstep 0\nstep 0\nstep 0\nstep 0\nstep 1\nstep 1\nstep 1\nstep 1\nstep 1\n",
-        report: "mind 1\nthread 0 exit 0 out 01\nthread 1 exit 0 out 01\ncounts events 44 labels 20 takes 4 gives 0 downs 2 peak 2 splits 0 merges 0\n",
+        schedule: "step 0\nstep 0\nstep 0\nstep 1\nstep 1\nstep 1\nstep 0\nsettle\nstep 1\nsettle\nstep 0\nsettle\nstep 1\nsettle\nstep 0\nstep 0\nstep 0\nstep 0\nstep 0\nstep 1\nstep 1\nstep 1\nstep 1\nstep 1\n",
+        report: "mind 1\nthread 0 exit 0 out 01\nthread 1 exit 0 out 01\ncounts events 24 labels 20 takes 4 gives 0 downs 2 peak 2 splits 0 merges 0\n",
     },
     // SB_amos, tries_both_zero.
     Row {
         rack: TWO,
         programs: SB_AMOS,
-        schedule: "step 0\nstep 0\nstep 0\nstep 1\nstep 1\nstep 1\nstep 0\ndeliver u0 0\ndeliver t0 0\ndeliver f0 0\ndeliver d0 0\nstep 0\ndeliver u0 0\ndeliver t0 0\ndeliver f0 0\ndeliver d0 0\ndrain 0\ndrain 1\nstep 1\ndeliver u1 0\ndeliver d0 0\ndeliver u0 0\ndeliver t0 0\ndeliver f0 0\ndeliver d1 0\nstep 1\ndeliver u1 0\ndeliver d0 0\ndeliver u0 0\ndeliver u0 0\ndeliver t0 0\ndeliver t0 0\ndeliver f0 0\ndeliver d1 0\nstep 0\nstep 0\nstep 0\nstep 0\nstep 0\nstep 1\nstep 1\nstep 1\nstep 1\nstep 1\n",
-        report: "mind 1\nthread 0 exit 0 out 00\nthread 1 exit 0 out 01\ncounts events 44 labels 20 takes 4 gives 1 downs 1 peak 2 splits 0 merges 0\n",
+        schedule: "step 0\nstep 0\nstep 0\nstep 1\nstep 1\nstep 1\nstep 0\nsettle\nstep 0\nsettle\ndrain 0\ndrain 1\nstep 1\nsettle\nstep 1\nsettle\nstep 0\nstep 0\nstep 0\nstep 0\nstep 0\nstep 1\nstep 1\nstep 1\nstep 1\nstep 1\n",
+        report: "mind 1\nthread 0 exit 0 out 00\nthread 1 exit 0 out 01\ncounts events 26 labels 20 takes 4 gives 1 downs 1 peak 2 splits 0 merges 0\n",
     },
 ];
 
@@ -158,29 +165,29 @@ static LOCKED_FENCES: [Row; 4] = [
     Row {
         rack: TWO,
         programs: SB_AMO_FENCES,
-        schedule: "step 0\nstep 0\nstep 0\nstep 0\nstep 0\ndeliver u0 0\ndeliver t0 0\ndeliver f0 0\ndeliver d0 0\nstep 0\nstep 0\nstep 0\ndeliver u0 0\ndeliver t0 0\ndeliver f0 0\ndeliver d0 0\nstep 0\nstep 0\nstep 0\nstep 0\nstep 0\nstep 1\nstep 1\nstep 1\nstep 1\nstep 1\ndeliver u1 0\ndeliver d0 0\ndeliver u0 0\ndeliver t0 0\ndeliver f0 0\ndeliver d1 0\nstep 1\nstep 1\nstep 1\ndeliver u1 0\ndeliver d0 0\ndeliver u0 0\ndeliver u0 0\ndeliver t0 0\ndeliver t0 0\ndeliver f0 0\ndeliver d1 0\nstep 1\nstep 1\nstep 1\nstep 1\nstep 1\n",
-        report: "mind 1\nthread 0 exit 0 out 00\nthread 1 exit 0 out 01\ncounts events 48 labels 26 takes 4 gives 1 downs 1 peak 2 splits 0 merges 0\n",
+        schedule: "step 0\nstep 0\nstep 0\nstep 0\nstep 0\nsettle\nstep 0\nstep 0\nstep 0\nsettle\nstep 0\nstep 0\nstep 0\nstep 0\nstep 0\nstep 1\nstep 1\nstep 1\nstep 1\nstep 1\nsettle\nstep 1\nstep 1\nstep 1\nsettle\nstep 1\nstep 1\nstep 1\nstep 1\nstep 1\n",
+        report: "mind 1\nthread 0 exit 0 out 00\nthread 1 exit 0 out 01\ncounts events 30 labels 26 takes 4 gives 1 downs 1 peak 2 splits 0 merges 0\n",
     },
     // SB_amo_fences, one_zero.
     Row {
         rack: TWO,
         programs: SB_AMO_FENCES,
-        schedule: "step 1\nstep 1\nstep 1\nstep 1\nstep 1\ndeliver u1 0\ndeliver t0 0\ndeliver f0 0\ndeliver d1 0\nstep 1\nstep 1\nstep 1\ndeliver u1 0\ndeliver t0 0\ndeliver f0 0\ndeliver d1 0\nstep 1\nstep 1\nstep 1\nstep 1\nstep 1\nstep 0\nstep 0\nstep 0\nstep 0\nstep 0\ndeliver u0 0\ndeliver d1 0\ndeliver u1 0\ndeliver t0 0\ndeliver f0 0\ndeliver d0 0\nstep 0\nstep 0\nstep 0\ndeliver u0 0\ndeliver d1 0\ndeliver u1 0\ndeliver u1 0\ndeliver t0 0\ndeliver t0 0\ndeliver f0 0\ndeliver d0 0\nstep 0\nstep 0\nstep 0\nstep 0\nstep 0\n",
-        report: "mind 1\nthread 0 exit 0 out 01\nthread 1 exit 0 out 00\ncounts events 48 labels 26 takes 4 gives 1 downs 1 peak 2 splits 0 merges 0\n",
+        schedule: "step 1\nstep 1\nstep 1\nstep 1\nstep 1\nsettle\nstep 1\nstep 1\nstep 1\nsettle\nstep 1\nstep 1\nstep 1\nstep 1\nstep 1\nstep 0\nstep 0\nstep 0\nstep 0\nstep 0\nsettle\nstep 0\nstep 0\nstep 0\nsettle\nstep 0\nstep 0\nstep 0\nstep 0\nstep 0\n",
+        report: "mind 1\nthread 0 exit 0 out 01\nthread 1 exit 0 out 00\ncounts events 30 labels 26 takes 4 gives 1 downs 1 peak 2 splits 0 merges 0\n",
     },
     // SB_amo_fences, both_one.
     Row {
         rack: TWO,
         programs: SB_AMO_FENCES,
-        schedule: "step 0\nstep 0\nstep 0\nstep 0\nstep 1\nstep 1\nstep 1\nstep 1\nstep 0\ndeliver u0 0\ndeliver t0 0\ndeliver f0 0\ndeliver d0 0\nstep 1\ndeliver u1 0\ndeliver t0 0\ndeliver f0 0\ndeliver d1 0\nstep 0\nstep 1\nstep 0\nstep 1\nstep 0\ndeliver u0 0\ndeliver d1 0\ndeliver u1 0\ndeliver u1 0\ndeliver t0 0\ndeliver t0 0\ndeliver f0 0\ndeliver d0 0\nstep 1\ndeliver u1 0\ndeliver d0 0\ndeliver u0 0\ndeliver u0 0\ndeliver t0 0\ndeliver t0 0\ndeliver f0 0\ndeliver d1 0\nstep 0\nstep 0\nstep 0\nstep 0\nstep 0\nstep 1\nstep 1\nstep 1\nstep 1\nstep 1\n",
-        report: "mind 1\nthread 0 exit 0 out 01\nthread 1 exit 0 out 01\ncounts events 50 labels 26 takes 4 gives 0 downs 2 peak 2 splits 0 merges 0\n",
+        schedule: "step 0\nstep 0\nstep 0\nstep 0\nstep 1\nstep 1\nstep 1\nstep 1\nstep 0\nsettle\nstep 1\nsettle\nstep 0\nstep 1\nstep 0\nstep 1\nstep 0\nsettle\nstep 1\nsettle\nstep 0\nstep 0\nstep 0\nstep 0\nstep 0\nstep 1\nstep 1\nstep 1\nstep 1\nstep 1\n",
+        report: "mind 1\nthread 0 exit 0 out 01\nthread 1 exit 0 out 01\ncounts events 30 labels 26 takes 4 gives 0 downs 2 peak 2 splits 0 merges 0\n",
     },
     // SB_amo_fences, tries_both_zero.
     Row {
         rack: TWO,
         programs: SB_AMO_FENCES,
-        schedule: "step 0\nstep 0\nstep 0\nstep 0\nstep 1\nstep 1\nstep 1\nstep 1\nstep 0\ndeliver u0 0\ndeliver t0 0\ndeliver f0 0\ndeliver d0 0\nstep 1\ndeliver u1 0\ndeliver t0 0\ndeliver f0 0\ndeliver d1 0\nstep 0\nstep 0\nstep 0\ndeliver u0 0\ndeliver d1 0\ndeliver u1 0\ndeliver t0 0\ndeliver f0 0\ndeliver d0 0\nstep 1\ndeliver u1 0\ndeliver d0 0\ndeliver u0 0\ndeliver t0 0\ndeliver f0 0\ndeliver d1 0\nstep 1\nstep 1\ndeliver u1 0\ndeliver d0 0\ndeliver u0 0\ndeliver u0 0\ndeliver t0 0\ndeliver t0 0\ndeliver f0 0\ndeliver d1 0\nstep 0\nstep 0\nstep 0\nstep 0\nstep 0\nstep 1\nstep 1\nstep 1\nstep 1\nstep 1\n",
-        report: "mind 1\nthread 0 exit 0 out 00\nthread 1 exit 0 out 01\ncounts events 54 labels 26 takes 5 gives 1 downs 2 peak 2 splits 0 merges 0\n",
+        schedule: "step 0\nstep 0\nstep 0\nstep 0\nstep 1\nstep 1\nstep 1\nstep 1\nstep 0\nsettle\nstep 1\nsettle\nstep 0\nstep 0\nstep 0\nsettle\nstep 1\nsettle\nstep 1\nstep 1\nsettle\nstep 0\nstep 0\nstep 0\nstep 0\nstep 0\nstep 1\nstep 1\nstep 1\nstep 1\nstep 1\n",
+        report: "mind 1\nthread 0 exit 0 out 00\nthread 1 exit 0 out 01\ncounts events 31 labels 26 takes 5 gives 1 downs 2 peak 2 splits 0 merges 0\n",
     },
 ];
 

@@ -56,7 +56,7 @@ static CHECKS: [Check; 7] = [
         text: "refused schedule range 1\n",
     },
     Check {
-        schedule: "settle\n",
+        schedule: "map 0 3 1 rw\n",
         journal: EMPTY,
         status: Status::Malformed,
         text: "refused schedule early\n",

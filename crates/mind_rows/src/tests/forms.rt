@@ -9,7 +9,7 @@ struct NoForm {
     words: &'static [&'static str],
 }
 
-static NO_FORMS: [NoForm; 9] = [
+static NO_FORMS: [NoForm; 15] = [
     NoForm { words: &[] },
     NoForm { words: &["run"] },
     NoForm {
@@ -33,16 +33,34 @@ static NO_FORMS: [NoForm; 9] = [
     NoForm {
         words: &["", "r.toml", "s.txt", "j.txt"],
     },
+    NoForm {
+        words: &["make", "r.toml", "x", "0"],
+    },
+    NoForm {
+        words: &["make", "r.toml", "0", ""],
+    },
+    NoForm {
+        words: &["make", "r.toml", "3"],
+    },
+    NoForm {
+        words: &["make", "r.toml", "200001", "0"],
+    },
+    NoForm {
+        words: &["load", "r.toml", "0", "4294967296"],
+    },
+    NoForm {
+        words: &["load", "r.toml", "3", "0", "0"],
+    },
 ];
 
 const USAGE: &str =
-    "usage: mind run RACK SCHEDULE | journal RACK SCHEDULE | check RACK SCHEDULE JOURNAL\n";
+    "usage: mind run RACK SCHEDULE | journal RACK SCHEDULE | check RACK SCHEDULE JOURNAL | make RACK COUNT SEED | load RACK COUNT SEED\n";
 
 #[test]
 fn words_of_no_form(rt: HostRuntime) -> Result<(), Fail> {
     for row in &NO_FORMS {
         let mut store = MemStore::new(files_with(&rt, "", EMPTY)?, Vec::new(rt.alloc()));
-        let _log = expect(&rt, row.words, &mut store, 128, Status::Usage, USAGE)?;
+        let _log = expect(&rt, row.words, &mut store, 256, Status::Usage, USAGE)?;
     }
     Ok(())
 }

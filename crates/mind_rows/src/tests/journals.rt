@@ -11,7 +11,7 @@ struct Journal {
     text: &'static str,
 }
 
-static JOURNALS: [Journal; 4] = [
+static JOURNALS: [Journal; 6] = [
     Journal {
         schedule: SIX_STEPS,
         status: Status::Done,
@@ -28,8 +28,20 @@ static JOURNALS: [Journal; 4] = [
         status: Status::Done,
         text: "mind journal 1\ne 0\ne 1\nx 0\ne 2\n",
     },
+    // Nothing is under way that could settle.
     Journal {
         schedule: "settle\n",
+        status: Status::Done,
+        text: "mind journal 1\ne 0\n",
+    },
+    // A round is a step, a settling, a drain and a settling.
+    Journal {
+        schedule: "run 1\n",
+        status: Status::Done,
+        text: "mind journal 1\ne 0\nx 0\ne 1\ne 2\ne 3\n",
+    },
+    Journal {
+        schedule: "map 0 3 1 rw\n",
         status: Status::Malformed,
         text: "refused schedule early\n",
     },

@@ -28,7 +28,7 @@ struct Row {
 const NOTHING_RAN: &str =
     "mind 1\nthread 0 running 00000000 out -\ncounts events 0 labels 0 takes 0 gives 0 downs 0 peak 0 splits 0 merges 0\n";
 
-static ROWS: [Row; 10] = [
+static ROWS: [Row; 13] = [
     Row {
         words: &RUN,
         left_out: "",
@@ -132,6 +132,41 @@ static ROWS: [Row; 10] = [
         text: "refused journal head\n",
         pieces: 1,
     },
+    // A schedule is made of the rack alone.
+    Row {
+        words: &["make", "r.toml", "0", "0"],
+        left_out: "a.bin",
+        rack: RACK,
+        image: PUTS_A,
+        schedule: "",
+        journal: "",
+        asked: "r.toml 65536\n",
+        text: "settle\n",
+        pieces: 1,
+    },
+    // No schedule is read where one is made and run.
+    Row {
+        words: &["load", "r.toml", "0", "0"],
+        left_out: "s.txt",
+        rack: RACK,
+        image: PUTS_A,
+        schedule: "",
+        journal: "",
+        asked: "r.toml 65536\na.bin 65536\nb.bin 65536\n",
+        text: "mind 1\nthread 0 running 00000000 out -\ncounts events 1 labels 0 takes 0 gives 0 downs 0 peak 0 splits 0 merges 0\n",
+        pieces: 1,
+    },
+    Row {
+        words: &["load", "r.toml", "0", "0"],
+        left_out: "b.bin",
+        rack: RACK,
+        image: PUTS_A,
+        schedule: "",
+        journal: "",
+        asked: "r.toml 65536\na.bin 65536\nb.bin 65536\n",
+        text: "",
+        pieces: 0,
+    },
     // Words of no form read nothing.
     Row {
         words: &["run", "r.toml"],
@@ -141,7 +176,7 @@ static ROWS: [Row; 10] = [
         schedule: "",
         journal: "",
         asked: "",
-        text: "usage: mind run RACK SCHEDULE | journal RACK SCHEDULE | check RACK SCHEDULE JOURNAL\n",
+        text: "usage: mind run RACK SCHEDULE | journal RACK SCHEDULE | check RACK SCHEDULE JOURNAL | make RACK COUNT SEED | load RACK COUNT SEED\n",
         pieces: 1,
     },
 ];

@@ -14,10 +14,10 @@ struct Row {
     text: &'static str,
 }
 
-const TWO_THREADS: &str =
+pub const TWO_THREADS: &str =
     "format = 1\nslots = 4\nprotect = 8\noutliers = 2\nregion = 0\nmost = 9\nthreshold = 0\n[[blade]]\nframes = 2\n[[blade]]\nframes = 2\n[[memory]]\nspare = 4\nhomes = [{ domain = 0, page = 0, pages = 16 }]\n[[memory]]\nspare = 4\nhomes = [{ domain = 0, page = 16, pages = 16 }]\n[[image]]\nname = \"a.bin\"\nat = 0\n[[thread]]\nblade = 0\ndomain = 0\nimage = 0\nqueue = 2\n[[thread]]\nblade = 1\ndomain = 0\nimage = 0\nqueue = 2\n[[map]]\ndomain = 0\npage = 1\npages = 2\nperm = \"rw\"\n";
 
-static RUNS: [Row; 7] = [
+static RUNS: [Row; 8] = [
     // A byte is put.
     Row {
         rack: RACK,
@@ -25,6 +25,14 @@ static RUNS: [Row; 7] = [
         schedule: SIX_STEPS,
         status: Status::Done,
         text: "mind 1\nthread 0 exit 0 out 41\ncounts events 6 labels 6 takes 0 gives 0 downs 0 peak 0 splits 0 merges 0\n",
+    },
+    // The same in rounds, of four events each.
+    Row {
+        rack: RACK,
+        image: PUTS_A,
+        schedule: "run 6\n",
+        status: Status::Done,
+        text: "mind 1\nthread 0 exit 0 out 41\ncounts events 24 labels 6 takes 0 gives 0 downs 0 peak 0 splits 0 merges 0\n",
     },
     // Nothing runs under an empty schedule.
     Row {
@@ -76,7 +84,7 @@ static RUNS: [Row; 7] = [
     },
 ];
 
-static REFUSALS: [Row; 9] = [
+static REFUSALS: [Row; 8] = [
     // No TOML; the rack is judged before all else.
     Row {
         rack: "format =",
@@ -132,14 +140,6 @@ static REFUSALS: [Row; 9] = [
         schedule: "step 64\n",
         status: Status::Malformed,
         text: "refused schedule range 1\n",
-    },
-    // An event that is not there yet.
-    Row {
-        rack: RACK,
-        image: PUTS_A,
-        schedule: "settle\n",
-        status: Status::Malformed,
-        text: "refused schedule early\n",
     },
     // A command, which is not there yet.
     Row {
