@@ -1,0 +1,2 @@
+# Has a word that is no instruction. The word of illegal.bin, at address 0:
+    .word 0xffffffff        # ffffffff
