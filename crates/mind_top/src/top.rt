@@ -76,11 +76,11 @@ fn top<S: Store, K: Sink>(
 /// `check RACK SCHEDULE JOURNAL` the report of a journal whose labels the machine allows. `make RACK COUNT SEED`
 /// writes a schedule that the generator makes, and `load RACK COUNT SEED` the report of a run of that schedule.
 ///
-/// A run, of a schedule that is read or made, is that of a rack, event by event of the schedule. The log gets its notes, and `end` the rack as it is
-/// at the end, also where the text could not be written. Where memory ran out there is no rack; where the
-/// status is `Spent` it is the one that stopped, since a number of it has its last value. In both cases the
-/// labels before the log's last event note still replay from the machine's start. Everywhere else the log
-/// stays empty and `end` None.
+/// A run, of a schedule that is read or made, is that of a rack, event by event of the schedule. The log gets
+/// its notes, and `end` the rack as it is at the end, also where the text could not be written. Where memory ran
+/// out there is no rack; where the status is `Spent` it is the one that stopped, since a number of it has its
+/// last value. In both cases the labels before the log's last event note still replay from the machine's start.
+/// Everywhere else the log stays empty and `end` None.
 pub fn mind<S: Store, K: Sink>(
     alloc: Global,
     words: &[String],

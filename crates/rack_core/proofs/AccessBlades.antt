@@ -40,8 +40,9 @@ use Rattle.coherence.specs.Held.{Holdings}
 use Rattle.coherence.proofs.TellingNotes.{writable_of}
 use Rattle.tso_machine.specs.State.{Setup, State}
 use Rattle.tso_machine.specs.Step.{after_exec, around_in, done_by, thread_off}
-use Rattle.rack_core.specs.Accesses.{AreAccessesHeld, DrainHolds, ExecHolds, IsPerformed, is_fault, is_held_as}
-use Rattle.rack_core.specs.AtOnce.{access_at, access_in, is_held_for, next_access}
+use Rattle.rack_core.specs.Accesses.{AreAccessesHeld, DrainHolds, ExecHolds, IsPerformed, is_fault}
+use Rattle.rack_core.specs.AtOnce.{access_at, access_in, is_held_as, next_access}
+use Rattle.rack_core.proofs.AtHand.{is_held_for, for-held}
 use Rattle.rack_core.specs.Rack.{RackView}
 use Rattle.rack_core.specs.StandRuns.{GoesWith}
 use Rattle.rack_core.specs.Stands.{IsHartAt, machine_thread}
@@ -56,14 +57,6 @@ abbrev pub Holds : Setup → State → ℕ → BladeView → List Note → Type 
 Holds setup m c blade noted = (held : Holdings) → HoldsAs c blade held → AreAccessesHeld setup m held noted
 
 -- ---- what is held, and the frames
-
-held-as : (kind : AccessKind) (frame : Option Frame) → is_held_for kind frame ≡ true → is_held_as kind (writable_of frame) ≡ true
-held-as Reads None e = e
-held-as Reads (Some frame) e = e
-held-as WritesLater None e = e
-held-as WritesLater (Some frame) e = e
-held-as WritesAtOnce None e = e
-held-as WritesAtOnce (Some frame) e = e
 
 to-write : (frame : Option Frame) → steps.is_writable frame ≡ true → writable_of frame ≡ Some true
 to-write None e = absurd (false≢true e)
@@ -137,7 +130,7 @@ module _ (images : List Image) (setup : Setup) (old : RackView) (flat : PageView
         let page : PageView = page_at (place_of access.domain access.address) in
         let same : at.plan ≡ plan = same_Some _ _ (sym planned ∙ is) in
         subst (λ (p : ThreadPlan). is_held_as access.kind (held p.blade page) ≡ true) same
-        (ap (is_held_as access.kind) (holds page) ∙ held-as access.kind (frame_of page at.blade.cache.entries) (exec-held suits access (sym accesses ∙ next) performed))
+        (ap (is_held_as access.kind) (holds page) ∙ for-held access.kind (frame_of page at.blade.cache.entries) ∙ exec-held suits access (sym accesses ∙ next) performed)
 
     -- a thread that the instruction ends by a fault performs no access
     faults-hold : (held : Holdings) (next : State) (deed : Deed) → after_exec setup m h ≡ Some next → next ≡ done_by h at.plan.domain m deed → is_fault (end_of deed) ≡ true → ExecHolds setup m held h

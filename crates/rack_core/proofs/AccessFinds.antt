@@ -23,7 +23,8 @@ use Rattle.compute_blade.specs.Steps.{need_in, serves, writes_at_once}
 use Rattle.compute_blade.specs.declared.kept.Need.{Need}
 use Rattle.coherence.specs.Facts.{is_writable}
 use Rattle.rack_core.specs.Accesses.{is_fault}
-use Rattle.rack_core.specs.AtOnce.{access_in, is_held_for}
+use Rattle.rack_core.specs.AtOnce.{access_in}
+use Rattle.rack_core.proofs.AtHand.{is_held_for}
 
 -- how the thread of a deed ends
 abbrev pub end_of : Deed → End

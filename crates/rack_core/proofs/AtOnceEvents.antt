@@ -26,7 +26,9 @@ use Rattle.tso_machine.specs.Scheduled.{label_at, running_label, step_label}
 use Rattle.tso_machine.specs.State.{Setup, State}
 use Rattle.tso_machine.specs.declared.labels.Label.{Label}
 use Rattle.tso_machine.specs.declared.labels.Label.TheVariants as label
-use Rattle.rack_core.specs.AtOnce.{access_at, next_access, is_at_hand, ExecutesAtOnce, HoldsOldest, IsAtMostOne}
+use Rattle.rack_core.specs.AtOnce.{access_at, next_access, AreHeldIn, ExecutesAtOnce, HoldsOldest, IsAtMostOne}
+use Rattle.rack_core.proofs.AtHand.{frames_at_hand, ExecutesThere, HoldsThere, executes-there, holds-there}
+use Rattle.coherence.specs.Held.{Holdings}
 use Rattle.rack_core.specs.BladeMoves.{hart_in}
 use Rattle.rack_core.specs.Events.{HartDoes, Leads}
 use Rattle.rack_core.specs.Rack.{RackView}
@@ -136,7 +138,7 @@ drain_is images setup h old new noted flat m goes plan planned given =
 -- ---- what the machine's rule says of it
 
 -- what is looked up of a thread of the machine, by the setup, is that of the hart
-looked-up : {X : Type 0} (look : Image → Thread → ThreadPlan → Option X) (setup : Setup) (threads : List Thread) (h : ℕ) (plan : ThreadPlan) (image : Image) (thread : Thread)
+pub looked-up : {X : Type 0} (look : Image → Thread → ThreadPlan → Option X) (setup : Setup) (threads : List Thread) (h : ℕ) (plan : ThreadPlan) (image : Image) (thread : Thread)
     → slice_get setup.plan.threads h ≡ Some plan → slice_get setup.images plan.image ≡ Some image → slice_get threads h ≡ Some thread
     → option_and_then (λ plan. option_and_then (λ image. option_and_then (λ thread. look image thread plan) (slice_get threads h)) (slice_get setup.images plan.image)) (slice_get setup.plan.threads h)
     ≡ look image thread plan
@@ -168,9 +170,9 @@ ended l e = cc
 
 -- ---- an instruction
 
-pub executes_at_once : (images : List Image) (setup : Setup) (h : ℕ) (old new : RackView) (noted : List Note) (flat : PageView → PageImageView) (m : State) → GoesWith images setup old flat m
-    → AreNeeded images old → ExecutesAtOnce setup old m h → Leads images (Step h) old new noted → labels noted ≡ label.Exec h ∷ []
-executes_at_once images setup h old new noted flat m goes all now given =
+executes-now : (images : List Image) (setup : Setup) (h : ℕ) (old new : RackView) (noted : List Note) (flat : PageView → PageImageView) (m : State) → GoesWith images setup old flat m
+    → AreNeeded images old → ExecutesThere setup old m h → Leads images (Step h) old new noted → labels noted ≡ label.Exec h ∷ []
+executes-now images setup h old new noted flat m goes all now given =
     let plan = now.plan in
     let s = step_is images setup h old new noted flat m goes plan now.planned given in
     let set = set_up images setup old flat m goes h plan s.image now.planned s.code in
@@ -180,12 +182,12 @@ executes_at_once images setup h old new noted flat m goes all now given =
     let access : next_access setup m.threads h ≡ access_at s.hart.end s.image thread plan.domain =
     looked-up (λ image thread plan. access_at thread.end image thread plan.domain) setup m.threads h plan s.image thread set.planned set.code s.at.thread in
     let held : (λ page. frame_at old.blades plan.blade page) ≡ (λ page. frame_of page s.blade.cache.entries) = ap (λ o page. option_and_then (λ (b : BladeView). frame_of page b.cache.entries) o) s.at.there in
-    let hand : is_at_hand (λ page. frame_of page s.blade.cache.entries) (access_at s.hart.end s.image thread plan.domain) ≡ true = (λ i. is_at_hand (sym held i) (sym access i)) ∙ now.at_hand in
+    let hand : frames_at_hand (λ page. frame_of page s.blade.cache.entries) (access_at s.hart.end s.image thread plan.domain) ≡ true = (λ i. frames_at_hand (sym held i) (sym access i)) ∙ now.at_hand in
     ap labels s.notes ∙ ap labels (by s.blade s.hart s.image s.at s.code s.hart.end refl rule hand)
   where
     by : (blade : BladeView) (hart : HartView) (image : Image) → IsAtBlade old flat m h now.plan blade hart → slice_get images now.plan.image ≡ Some image → (end : End) → hart.end ≡ end
         → label_at end image (machine_thread flat hart) now.plan.queue h ≡ Some (label.Exec h)
-        → is_at_hand (λ page. frame_of page blade.cache.entries) (access_at end image (machine_thread flat hart) now.plan.domain) ≡ true
+        → frames_at_hand (λ page. frame_of page blade.cache.entries) (access_at end image (machine_thread flat hart) now.plan.domain) ≡ true
         → (step_at end h now.plan image blade hart).noted ≡ note.Exec h ∷ []
     by blade hart image at code (Exit value) runs rule hand = absurd (ended (label.Exec h) rule)
     by blade hart image at code (Fault kind value pc) runs rule hand = absurd (ended (label.Exec h) rule)
@@ -214,7 +216,7 @@ unasked images setup old flat m goes c page held = by (frame_at old.blades c pag
   by None e w = let never : ⊥ = cc in absurd never
   by (Some frame) e w = (goes.frames c page frame e).alone w
 
-free_to_drain : (images : List Image) (setup : Setup) (old : RackView) (flat : PageView → PageImageView) (m : State) (h : ℕ) → GoesWith images setup old flat m → (held : HoldsOldest old m h)
+free_to_drain : (images : List Image) (setup : Setup) (old : RackView) (flat : PageView → PageImageView) (m : State) (h : ℕ) → GoesWith images setup old flat m → (held : HoldsThere old m h)
     → (blade : BladeView) (hart : HartView) → IsAtBlade old flat m h held.plan blade hart → IsFreeToDrain blade held.plan hart held.oldest held.newer
 free_to_drain images setup old flat m h goes held blade hart at =
     let page = page_at (place_of held.plan.domain held.oldest.address) in
@@ -227,16 +229,16 @@ free_to_drain images setup old flat m h goes held blade hart at =
           ∙ unasked images setup old flat m goes held.plan.blade page held.held);
     }
 
-pub drains_at_once : (images : List Image) (setup : Setup) (h : ℕ) (old new : RackView) (noted : List Note) (flat : PageView → PageImageView) (m : State) → GoesWith images setup old flat m
-    → HoldsOldest old m h → Leads images (Drain h) old new noted → labels noted ≡ label.Drain h ∷ []
-drains_at_once images setup h old new noted flat m goes held given =
+drains-now : (images : List Image) (setup : Setup) (h : ℕ) (old new : RackView) (noted : List Note) (flat : PageView → PageImageView) (m : State) → GoesWith images setup old flat m
+    → HoldsThere old m h → Leads images (Drain h) old new noted → labels noted ≡ label.Drain h ∷ []
+drains-now images setup h old new noted flat m goes held given =
     let d = drain_is images setup h old new noted flat m goes held.plan held.planned given in
     ap labels d.notes ∙ ap labels (drains (permission_at old.switch.protect) d.blade h held.plan d.hart held.oldest held.newer (goes.sound held.plan.blade d.blade d.at.there)
     d.at.planned d.at.own (free_to_drain images setup old flat m h goes held d.blade d.hart d.at))
 
-pub step_drains_at_once : (images : List Image) (setup : Setup) (h : ℕ) (old new : RackView) (noted : List Note) (flat : PageView → PageImageView) (m : State) → GoesWith images setup old flat m
-    → AreNeeded images old → step_label setup m.threads h ≡ Some (label.Drain h) → HoldsOldest old m h → Leads images (Step h) old new noted → labels noted ≡ label.Drain h ∷ []
-step_drains_at_once images setup h old new noted flat m goes all step held given =
+step-drains-now : (images : List Image) (setup : Setup) (h : ℕ) (old new : RackView) (noted : List Note) (flat : PageView → PageImageView) (m : State) → GoesWith images setup old flat m
+    → AreNeeded images old → step_label setup m.threads h ≡ Some (label.Drain h) → HoldsThere old m h → Leads images (Step h) old new noted → labels noted ≡ label.Drain h ∷ []
+step-drains-now images setup h old new noted flat m goes all step held given =
     let plan = held.plan in
     let s = step_is images setup h old new noted flat m goes plan held.planned given in
     let set = set_up images setup old flat m goes h plan s.image held.planned s.code in
@@ -260,3 +262,20 @@ step_drains_at_once images setup h old new noted flat m goes all step held given
           (record { planned = at.planned; own = at.own; code = code; runs = runs })
           (ap (drains_first (found image hart.regs pc) hart.queue.stores) (is.queues h held.plan hart at.planned at.own).places ∙ e)
           (free_to_drain images setup old flat m h goes held blade hart at)
+
+-- ---- by what is held in the rack
+
+pub executes_at_once : (images : List Image) (setup : Setup) (h : ℕ) (old new : RackView) (noted : List Note) (flat : PageView → PageImageView) (m : State) (held : Holdings) → GoesWith images setup old flat m
+    → AreNeeded images old → AreHeldIn old held → ExecutesAtOnce setup held m h → Leads images (Step h) old new noted → labels noted ≡ label.Exec h ∷ []
+executes_at_once images setup h old new noted flat m held goes all are now given =
+    executes-now images setup h old new noted flat m goes all (executes-there setup old held m h goes.plan are now) given
+
+pub step_drains_at_once : (images : List Image) (setup : Setup) (h : ℕ) (old new : RackView) (noted : List Note) (flat : PageView → PageImageView) (m : State) (held : Holdings) → GoesWith images setup old flat m
+    → AreNeeded images old → step_label setup m.threads h ≡ Some (label.Drain h) → AreHeldIn old held → HoldsOldest setup held m h → Leads images (Step h) old new noted
+    → labels noted ≡ label.Drain h ∷ []
+step_drains_at_once images setup h old new noted flat m held goes all step are now given =
+    step-drains-now images setup h old new noted flat m goes all step (holds-there setup old held m h goes.plan are now) given
+
+pub drains_at_once : (images : List Image) (setup : Setup) (h : ℕ) (old new : RackView) (noted : List Note) (flat : PageView → PageImageView) (m : State) (held : Holdings) → GoesWith images setup old flat m
+    → AreHeldIn old held → HoldsOldest setup held m h → Leads images (Drain h) old new noted → labels noted ≡ label.Drain h ∷ []
+drains_at_once images setup h old new noted flat m held goes are now given = drains-now images setup h old new noted flat m goes (holds-there setup old held m h goes.plan are now) given

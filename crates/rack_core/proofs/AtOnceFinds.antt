@@ -21,7 +21,8 @@ use Rattle.compute_blade.specs.declared.kept.Asked.{Asked}
 use Rattle.compute_blade.specs.declared.kept.Need.{Need}
 use Rattle.compute_blade.specs.declared.kept.Waits.{Waits}
 use Rattle.coherence.specs.Facts.{is_writable}
-use Rattle.rack_core.specs.AtOnce.{access_in, is_at_hand}
+use Rattle.rack_core.specs.AtOnce.{access_in}
+use Rattle.rack_core.proofs.AtHand.{frames_at_hand}
 use Rattle.rack_core.specs.BladeMoves.{IsOut}
 
 -- ---- an access whose page is held as it needs it is served
@@ -44,7 +45,7 @@ needed : (held : PageView → Option Frame) (serving : Option Frame → Bool) (w
 needed held serving write true page need e at = ap (λ (n : Need). serving (held n.page)) (sym (same_Some _ _ e)) ∙ at
 needed held serving write false page need e at = let never : ⊥ = cc in absurd never
 
-act-serves : (held : PageView → Option Frame) (asked : Act) (domain : ℕ) (need : Need) → is_at_hand held (access_in (Asks asked) domain) ≡ true → need_in (Asks asked) domain ≡ Some need
+act-serves : (held : PageView → Option Frame) (asked : Act) (domain : ℕ) (need : Need) → frames_at_hand held (access_in (Asks asked) domain) ≡ true → need_in (Asks asked) domain ≡ Some need
     → serves (Asks asked) (held need.page) ≡ true
 act-serves held (act.Load kind rd address) domain need at e = some-serves (Asks (act.Load kind rd address)) (held need.page) refl
     (needed held is_some false (address % load_size kind == 0) (page_at (place_of domain address)) need e at)
@@ -62,7 +63,7 @@ act-serves held act.Call domain need at e = let never : ⊥ = cc in absurd never
 act-serves held (act.Jumped target) domain need at e = let never : ⊥ = cc in absurd never
 act-serves held act.Broke domain need at e = let never : ⊥ = cc in absurd never
 
-pub at-hand-serves : (held : PageView → Option Frame) (found : Found) (domain : ℕ) (need : Need) → is_at_hand held (access_in found domain) ≡ true → need_in found domain ≡ Some need
+pub at-hand-serves : (held : PageView → Option Frame) (found : Found) (domain : ℕ) (need : Need) → frames_at_hand held (access_in found domain) ≡ true → need_in found domain ≡ Some need
     → serves found (held need.page) ≡ true
 at-hand-serves held Outside domain need at e = let never : ⊥ = cc in absurd never
 at-hand-serves held (Unknown word) domain need at e = let never : ⊥ = cc in absurd never

@@ -28,7 +28,8 @@ use Rattle.compute_blade.specs.declared.kept.Need.{Need}
 use Rattle.compute_blade.specs.declared.kept.Waits.{Waits}
 use Rattle.compute_blade.specs.declared.kept.Waits.TheVariants.{Step, Drain}
 use Rattle.coherence.specs.Facts.{is_writable}
-use Rattle.rack_core.specs.AtOnce.{access_in, is_at_hand}
+use Rattle.rack_core.specs.AtOnce.{access_in}
+use Rattle.rack_core.proofs.AtHand.{frames_at_hand}
 use Rattle.rack_core.specs.BladeMoves.{hart_in, IsDrainRequest, IsRequest, IsRequestBy, IsSoundBlade}
 use Rattle.rack_core.specs.Waits.{IsNeeded, IsNeededBy, IsNeededFor, IsNeededStep}
 use Rattle.rack_core.proofs.AtOnceFinds.{found_out, at-hand-serves}
@@ -147,7 +148,7 @@ performs h plan found pc blade hart ready =
 
 pub executes : (images : List Image) (perms : PageView → Perm) (blade : BladeView) (h : ℕ) (plan : ThreadPlan) (image : Image) (pc : ℕ) (hart : HartView) → IsSoundBlade perms blade → IsNeeded images blade
     → Runs images blade h plan image pc hart → drains_first (found image hart.regs pc) hart.queue.stores hart.queue.capacity ≡ false
-    → is_at_hand (λ page. frame_of page blade.cache.entries) (access_in (found image hart.regs pc) plan.domain) ≡ true
+    → frames_at_hand (λ page. frame_of page blade.cache.entries) (access_in (found image hart.regs pc) plan.domain) ≡ true
     → (step_at (Running pc) h plan image blade hart).noted ≡ note.Exec h ∷ []
 executes images perms blade h plan image pc hart sound is at ready hand = by hart.stepping refl where
   finds : Found

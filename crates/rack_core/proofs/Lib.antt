@@ -3,6 +3,7 @@ pub mod AccessEvents
 pub mod AccessFinds
 pub mod AccessLogs
 pub mod AccessMessages
+pub mod AtHand
 pub mod AtOnceEvents
 pub mod AtOnceFinds
 pub mod AtOnceSteps

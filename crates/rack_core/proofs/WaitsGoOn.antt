@@ -46,6 +46,7 @@ use Rattle.rack_core.specs.Waits.{IsNeeded, IsNeededBy, IsNeededFor, IsNeededSte
 use Rattle.rack_core.proofs.BladeFills.{Ends, awaking, resumed-is}
 use Rattle.rack_core.proofs.BladeSound.{of_found}
 use Rattle.rack_core.proofs.Lookups.{Entries}
+use Rattle.rack_core.proofs.StandMids.{taken-silent}
 
 -- ---- what may be done is done
 
@@ -143,12 +144,6 @@ resumes answer images perms blade page asked entries sound is out step = by aske
 
 -- ---- messages
 
--- a page that comes is no label
-silent : (number : ℕ) (page : PageView) (writable : Bool) (put : Put) → labels (noted_out number put ++ note.Take number page writable ∷ []) ≡ []
-silent number page writable Fresh = refl
-silent number page writable (Replaced old) = refl
-silent number page writable (Pushed out old) = refl
-
 pub fill_performs : (images : List Image) (perms : PageView → Perm) (blade : BladeView) (page : PageView) (perm : Perm) (writable : Bool) (image : PageImageView) (asked : Asked) → IsSoundBlade perms blade
     → IsNeeded images blade → request_for page blade.requests ≡ Some asked → asked.waits ≡ Step → labels (after_message images (Fill page perm writable image) blade).noted ≡ label.Exec asked.hart ∷ []
 fill_performs images perms blade page perm writable image asked sound is out step =
@@ -157,7 +152,7 @@ fill_performs images perms blade page perm writable image asked sound is out ste
     let first = noted_out blade.number (put_of blade.cache page) ++ note.Take blade.number page writable ∷ [] in
     let goes = resumes Filled images perms blade page asked (entries_after_put blade.cache page frame) sound is out step in
     filter_map-append label_of first (resumed_for Filled images (request_for page blade.requests) mid).noted
-    ∙ ap (λ front. front ++ labels (resumed_for Filled images (request_for page blade.requests) mid).noted) (silent blade.number page writable (put_of blade.cache page))
+    ∙ ap (λ front. front ++ labels (resumed_for Filled images (request_for page blade.requests) mid).noted) (taken-silent blade.number page writable (put_of blade.cache page))
     ∙ ap (λ o. labels (resumed_for Filled images o mid).noted) out
     ∙ ap labels goes.label
 

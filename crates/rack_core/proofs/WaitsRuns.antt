@@ -56,7 +56,7 @@ blade_set images c blade e old new noted there acts its all n other is = by (n =
   by false s = all n other (sym (slice_get-set_other old.blades c e.blade n s) ∙ now)
 
 -- what a blade does keeps what each blade needs, where it does so at the blade
-blade_keeps : (images : List Image) (c : ℕ) (act : BladeView → Option Effect) (old new : RackView) (noted : List Note)
+pub blade_keeps : (images : List Image) (c : ℕ) (act : BladeView → Option Effect) (old new : RackView) (noted : List Note)
     → ((blade : BladeView) (e : Effect) → slice_get old.blades c ≡ Some blade → IsNeeded images blade → act blade ≡ Some e → IsNeeded images e.blade)
     → AreNeeded images old → BladeDoes c act old new noted → AreNeeded images new
 blade_keeps images c act old new noted keeps all does =

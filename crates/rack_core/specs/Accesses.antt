@@ -9,14 +9,12 @@ use Rattle.mind_base.specs.declared.notes.Note.TheVariants as note
 use Rattle.mind_base.specs.declared.plans.ThreadPlan.{ThreadPlan}
 use Rattle.hart_effect.specs.Access.{AccessView}
 use Rattle.hart_effect.specs.Thread.{Thread}
-use Rattle.hart_effect.specs.declared.accesses.AccessKind.{AccessKind}
-use Rattle.hart_effect.specs.declared.accesses.AccessKind.TheVariants.{Reads, WritesLater, WritesAtOnce}
 use Rattle.coherence.specs.Held.{Holdings, held_after}
 use Rattle.tso_machine.specs.Replay.{label_of}
 use Rattle.tso_machine.specs.State.{Setup, State}
 use Rattle.tso_machine.specs.Step.{after}
 use Rattle.tso_machine.specs.declared.labels.Label.TheVariants as label
-use Rattle.rack_core.specs.AtOnce.{next_access}
+use Rattle.rack_core.specs.AtOnce.{is_held_as, next_access}
 
 -- ---- at one point
 
@@ -32,13 +30,6 @@ pub record IsPerformed (setup : Setup) (m : State) (h : ℕ) : Type 0 where
   pub enabled : after setup m (label.Exec h) ≡ Some next
   pub there : slice_get next.threads h ≡ Some thread
   pub fine : is_fault thread.end ≡ false
-
--- a page that is held, or not, is held as an access needs it: to write where it writes at once (SC and AMO), in any way
--- where it reads (loads and LR) or writes later (stores)
-abbrev pub is_held_as : AccessKind → Option Bool → Bool
-is_held_as Reads held = is_some held
-is_held_as WritesLater held = is_some held
-is_held_as WritesAtOnce held = unwrap_or held false
 
 -- where thread h performs an access, its blade holds the page as the access needs it
 abbrev pub ExecHolds : Setup → State → Holdings → ℕ → Type 0

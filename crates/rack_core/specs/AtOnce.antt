@@ -1,5 +1,5 @@
 -- What happens at once: in the very event that asks for it, with no message of the switch.
-use Rattle.std.specs.Prelude.{◌≡◌, ◌⊎◌, ℕ, Bool, true, not, ◌||◌, List, [], ◌∷◌, slice_get, Option, Some, None, is_some, option_and_then}
+use Rattle.std.specs.Prelude.{◌≡◌, ◌⊎◌, ℕ, Bool, true, false, not, ◌||◌, List, [], ◌∷◌, slice_get, Option, Some, None, is_some, option_map, option_and_then, unwrap_or}
 use Rattle.mind_base.specs.Page.{PageView}
 use Rattle.mind_base.specs.Pending.{PendingView}
 use Rattle.mind_base.specs.Place.{place_of, page_at}
@@ -14,8 +14,7 @@ use Rattle.hart_effect.specs.declared.accesses.AccessKind.{AccessKind}
 use Rattle.hart_effect.specs.declared.accesses.AccessKind.TheVariants.{Reads, WritesLater, WritesAtOnce}
 use Rattle.hart_effect.specs.declared.finds.Found.{Found}
 use Rattle.hart_effect.specs.declared.finds.Found.TheVariants.{Outside, Unknown, Asks}
-use Rattle.page_cache.specs.declared.frames.Frame.{Frame}
-use Rattle.coherence.specs.Facts.{is_writable}
+use Rattle.coherence.specs.Held.{Holdings}
 use Rattle.tso_machine.specs.Scheduled.{step_label}
 use Rattle.tso_machine.specs.State.{Setup, State}
 use Rattle.tso_machine.specs.declared.labels.Label.{Label}
@@ -44,36 +43,41 @@ next_access setup threads h =
 
 -- ---- pages that are held
 
--- the page is held as the access needs it: to write where it writes at once, in any way where it reads or writes later
-abbrev pub is_held_for : AccessKind → Option Frame → Bool
-is_held_for Reads held = is_some held
-is_held_for WritesLater held = is_some held
-is_held_for WritesAtOnce held = is_writable held
+-- a page that is held, or not, is held as an access needs it: to write where it writes at once (SC and AMO), in any way
+-- where it reads (loads and LR) or writes later (stores)
+abbrev pub is_held_as : AccessKind → Option Bool → Bool
+is_held_as Reads held = is_some held
+is_held_as WritesLater held = is_some held
+is_held_as WritesAtOnce held = unwrap_or held false
 
 -- it is no access; or it is denied, at no multiple of its size; or its page is held as it needs it
-abbrev pub is_at_hand : (PageView → Option Frame) → Option AccessView → Bool
+abbrev pub is_at_hand : (PageView → Option Bool) → Option AccessView → Bool
 is_at_hand held None = true
-is_at_hand held (Some access) = not (is_aligned access) || is_held_for access.kind (held (page_at (place_of access.domain access.address)))
+is_at_hand held (Some access) = not (is_aligned access) || is_held_as access.kind (held (page_at (place_of access.domain access.address)))
+
+-- these holdings are what the rack's blades hold
+abbrev pub AreHeldIn : RackView → Holdings → Type 0
+AreHeldIn rack held = (blade : ℕ) (page : PageView) → held blade page ≡ option_map (λ frame. frame.writable) (frame_at rack.blades blade page)
 
 -- ---- what a step and a drain do at once
 
 -- A step of thread h executes its instruction in the machine's state, and what the instruction needs is at hand.
-pub record ExecutesAtOnce (setup : Setup) (rack : RackView) (m : State) (h : ℕ) : Type 0 where
+pub record ExecutesAtOnce (setup : Setup) (held : Holdings) (m : State) (h : ℕ) : Type 0 where
   pub plan : ThreadPlan
-  pub planned : slice_get rack.plan.threads h ≡ Some plan
+  pub planned : slice_get setup.plan.threads h ≡ Some plan
   pub step : step_label setup m.threads h ≡ Some (label.Exec h)
-  pub at_hand : is_at_hand (frame_at rack.blades plan.blade) (next_access setup m.threads h) ≡ true
+  pub at_hand : is_at_hand (held plan.blade) (next_access setup m.threads h) ≡ true
 
 -- Thread h buffers stores, and its blade holds the page of the oldest one to write.
-pub record HoldsOldest (rack : RackView) (m : State) (h : ℕ) : Type 0 where
+pub record HoldsOldest (setup : Setup) (held : Holdings) (m : State) (h : ℕ) : Type 0 where
   pub plan : ThreadPlan
   pub thread : Thread
   pub oldest : PendingView
   pub newer : List PendingView
-  pub planned : slice_get rack.plan.threads h ≡ Some plan
+  pub planned : slice_get setup.plan.threads h ≡ Some plan
   pub there : slice_get m.threads h ≡ Some thread
   pub buffer : thread.buffer ≡ oldest ∷ newer
-  pub held : is_writable (frame_at rack.blades plan.blade (page_at (place_of plan.domain oldest.address))) ≡ true
+  pub to_write : held plan.blade (page_at (place_of plan.domain oldest.address)) ≡ Some true
 
 -- no label, or one of thread h
 abbrev pub IsAtMostOne : ℕ → List Label → Type 0

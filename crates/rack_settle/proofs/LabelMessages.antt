@@ -46,6 +46,7 @@ use Rattle.rack_core.proofs.Lookups.{Entries, found-put_fresh, found-put_replace
 use Rattle.rack_core.proofs.WaitsGoOn.{resumes}
 use Rattle.rack_core.proofs.WaitsMessages.{out_for}
 use Rattle.rack_settle.specs.Labels.{owed_by, owed_for, waiting_label}
+use Rattle.rack_core.proofs.StandMids.{taken-silent}
 
 -- ---- what a blade owes
 
@@ -223,18 +224,12 @@ filled-drains images perms blade page asked frame sound out fits drain = record 
 
 -- ---- messages
 
--- a page that comes is no label
-comes-silent : (number : ℕ) (page : PageView) (writable : Bool) (put : Put) → labels (noted_out number put ++ note.Take number page writable ∷ []) ≡ []
-comes-silent number page writable Fresh = refl
-comes-silent number page writable (Replaced old) = refl
-comes-silent number page writable (Pushed out old) = refl
-
 pub message-pays : (images : List Image) (perms : PageView → Perm) (blade : BladeView) (message : Msg) → IsSoundBlade perms blade → IsNeeded images blade → MayCome blade message
     → Pays blade (after_message images message blade)
 message-pays images perms blade (Fill page perm writable image) sound is may =
     ended-pays page asked blade (after_message images (Fill page perm writable image) blade) sound.apart out (record {
       label = filter_map-append label_of first (resumed_for Filled images (request_for page blade.requests) mid).noted
-          ∙ (λ i. comes-silent blade.number page writable (put_of blade.cache page) i ++ labels (resumed_for Filled images (out i) mid).noted)
+          ∙ (λ i. taken-silent blade.number page writable (put_of blade.cache page) i ++ labels (resumed_for Filled images (out i) mid).noted)
           ∙ (ended asked.waits refl).label;
       left = ap (λ o. (resumed_for Filled images o mid).blade.requests) out ∙ (ended asked.waits refl).left;
     })

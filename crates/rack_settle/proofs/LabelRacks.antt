@@ -41,7 +41,9 @@ use Rattle.rack_core.specs.Safe.{IsSafe}
 use Rattle.rack_core.specs.Seen.{seen}
 use Rattle.rack_core.specs.Stands.{machine_thread}
 use Rattle.rack_core.specs.Waits.{IsNeeded, AreNeeded}
-use Rattle.rack_core.proofs.BladeHanded.{Did, did, blade_handed, handed_may_come}
+use Rattle.rack_core.proofs.AtOnceEvents.{looked-up}
+use Rattle.rack_core.proofs.WaitsRuns.{blade_keeps}
+use Rattle.rack_core.proofs.BladeHanded.{did, blade_handed, handed_may_come}
 use Rattle.rack_core.proofs.BladeSteps.{OfHart, for_hart-some}
 use Rattle.rack_core.proofs.Delivering.{gave_on}
 use Rattle.rack_core.proofs.Lookups.{slice_get-set, slice_get-set_other}
@@ -120,22 +122,6 @@ pays-does n act old new noted each does =
 
 -- ---- messages
 
--- what each blade needs is needed still, where what this one does keeps it
-needs-still : (images : List Image) (n : ℕ) (act : BladeView → Option Effect) (old new : RackView) (noted : List Note)
-    → ((blade : BladeView) (e : Effect) → slice_get old.blades n ≡ Some blade → act blade ≡ Some e → IsNeeded images e.blade) → AreNeeded images old → BladeDoes n act old new noted → AreNeeded images new
-needs-still images n act old new noted keeps all does c now is = by (c == n) refl where
-  d : Did n act old new noted
-  d = did n act old new noted does
-
-  set : slice_get (slice_set old.blades n d.effect.blade) c ≡ Some now
-  set = ap (λ (r : RackView). slice_get r.blades c) (sym d.acts.after) ∙ is
-
-  by : (b : Bool) → (c == n) ≡ b → IsNeeded images now
-  by true s = subst (IsNeeded images)
-      (same_Some _ _ (sym (slice_get-set old.blades n d.blade d.effect.blade d.there) ∙ ap (slice_get (slice_set old.blades n d.effect.blade)) (sym (eqb-true c n s)) ∙ set))
-      (keeps d.blade d.effect d.there d.does)
-  by false s = all c now (sym (slice_get-set_other old.blades n d.effect.blade c s) ∙ set)
-
 blade-hears : (images : List Image) (n : ℕ) (taken : List Msg) (old new : RackView) (flat : PageView → PageImageView) (noted : List Note)
     → IsCoherent (handing n taken (seen old flat)) → AreBladesSound old → AreNeeded images old → HandsAll images (record { kind = Down; number = n }) taken old new noted → Does [] Any old new noted
 blade-hears images n [] old new flat noted coherent sound all hands = does-nothing old new noted (ap (λ (r : RackView). r.plan) hands.0) (ap (λ (r : RackView). r.blades) hands.0) (ap labels hands.1)
@@ -146,8 +132,8 @@ blade-hears images n (message ∷ rest) old new flat noted coherent sound all ha
     let first = pays-does n act old mid hands.1
     (λ blade e there does. subst (Pays blade) (same_Some _ _ does) (message-pays images (permission_at old.switch.protect) blade message (sound n blade there) (all n blade there)
     (handed_may_come images old flat n blade message rest coherent sound there))) hands.3 in
-    let needed = needs-still images n act old mid hands.1
-    (λ blade e there does. subst (λ (x : Effect). IsNeeded images x.blade) (same_Some _ _ does) (message_keeps images (permission_at old.switch.protect) blade message (sound n blade there)
+    let needed = blade_keeps images n act old mid hands.1
+    (λ blade e there its does. subst (λ (x : Effect). IsNeeded images x.blade) (same_Some _ _ does) (message_keeps images (permission_at old.switch.protect) blade message (sound n blade there)
     (handed_may_come images old flat n blade message rest coherent sound there) (all n blade there))) all hands.3 in
     let later = blade-hears images n rest mid new led.leads.flat hands.2
     (run_keeps (handing n (message ∷ rest) (seen old flat)) (handing n rest (seen mid led.leads.flat)) led.leads.moves coherent led.leads.run) led.leads.sound needed hands.4 in
@@ -233,16 +219,6 @@ hart-does event h act asked old new noted its comes does = by (slice_get old.pla
       acts-does asked (NotOf old event) thread.blade d.blade d.effect old new noted d.there d.acts
       (subst (λ l. IsPermutation l (asked ++ owed_by d.blade)) (sym (c.0 ∙ nothing)) (IsPermutation-refl (asked ++ owed_by d.blade)))
       (λ apart free. absurd (apart (its ∙ ap (option_map (λ (t : ThreadPlan). t.blade)) planned)))
-
--- what is looked up of a thread of the machine, by the setup
-looked-up : {X : Type 0} (look : Image → Thread → ThreadPlan → Option X) (setup : Setup) (threads : List Thread) (h : ℕ) (plan : ThreadPlan) (image : Image) (thread : Thread)
-    → slice_get setup.plan.threads h ≡ Some plan → slice_get setup.images plan.image ≡ Some image → slice_get threads h ≡ Some thread
-    → option_and_then (λ plan. option_and_then (λ image. option_and_then (λ thread. look image thread plan) (slice_get threads h)) (slice_get setup.images plan.image)) (slice_get setup.plan.threads h)
-    ≡ look image thread plan
-looked-up look setup threads h plan image thread planned code there =
-    ap (option_and_then (λ plan. option_and_then (λ image. option_and_then (λ thread. look image thread plan) (slice_get threads h)) (slice_get setup.images plan.image))) planned
-    ∙ ap (option_and_then (λ image. option_and_then (λ thread. look image thread plan) (slice_get threads h))) code
-    ∙ ap (option_and_then (λ thread. look image thread plan)) there
 
 step-label : (images : List Image) (setup : Setup) (threads : List Thread) (flat : PageView → PageImageView) (old : RackView) (h : ℕ) (thread : ThreadPlan) (blade : BladeView) (e : Effect)
     → FitsSetup images setup old → AreBladesSound old → AreNeeded images old → slice_get old.blades thread.blade ≡ Some blade → IsReadyAt threads flat old h blade

@@ -28,9 +28,8 @@ use Rattle.rack_core.specs.Calls.{IsQuiet}
 use Rattle.rack_core.specs.Events.{Leads}
 use Rattle.rack_core.specs.Rack.{RackView}
 use Rattle.rack_core.specs.Safe.{IsSafe, IsOfRack, AreOfRack, Reaches}
-use Rattle.rack_core.specs.Shape.{IsShaped}
 use Rattle.rack_core.specs.StandLog.{StandsForLog, made_from}
-use Rattle.rack_core.specs.StandRuns.{AreCounted, GoesWith}
+use Rattle.rack_core.specs.StandRuns.{GoesWith}
 use Rattle.rack_core.specs.Start.{IsStart}
 use Rattle.rack_core.specs.Waits.{AreNeeded}
 use Rattle.rack_core.proofs.StandLogs.{runs-log}
@@ -338,9 +337,3 @@ pub settles-same : (images : List Image) (plan : RackPlan) (events : List Event)
     → IsStart plan first → SettlesEach images events first last noted → IsStart plan other → SettlesEach images events other last_other noted_other → labels noted ≡ labels noted_other
 settles-same images plan events first other last last_other noted noted_other fit fits start settles start_other settles_other =
     settles-start images plan events first last noted fit start fits settles ∙ sym (settles-start images plan events other last_other noted_other fit start_other fits settles_other)
-
--- a rack of its plan's shape has no hart of which more stores took effect than have tags
-pub shaped-counted : (rack : RackView) → IsShaped rack → AreCounted rack
-shaped-counted rack shaped h hart at =
-    let its = shaped.each at.plan.blade at.blade at.there in
-    (its.shape.harts h at.plan hart (ap (λ p. slice_get p.threads h) its.plan ∙ at.thread) at.own).stores

@@ -1,58 +1,26 @@
 -- What happens at once: labels that stand in the very event that asks for them, by what the log before it tells is held.
-use Rattle.std.specs.Prelude.{◌≡◌, ◌⊎◌, ℕ, ◌+◌, Bool, true, not, ◌||◌, List, [], ◌∷◌, ◌++◌, slice_get, Option, Some, None}
-use Rattle.mind_base.specs.Page.{PageView}
-use Rattle.mind_base.specs.Pending.{PendingView}
-use Rattle.mind_base.specs.Place.{place_of, page_at}
+use Rattle.std.specs.Prelude.{◌≡◌, ◌⊎◌, ℕ, ◌+◌, List, [], ◌∷◌, ◌++◌, slice_get, Some}
 use Rattle.mind_base.specs.declared.events.Event.{Event}
 use Rattle.mind_base.specs.declared.events.Event.TheVariants.{Step, Drain}
 use Rattle.mind_base.specs.declared.notes.Note.{Note}
 use Rattle.mind_base.specs.declared.notes.Note.TheVariants as note
-use Rattle.mind_base.specs.declared.plans.ThreadPlan.{ThreadPlan}
-use Rattle.hart_effect.specs.Access.{AccessView, is_aligned}
-use Rattle.hart_effect.specs.Thread.{Thread}
 use Rattle.coherence.specs.Held.{Holdings, held_by}
 use Rattle.tso_machine.specs.Replay.{Whole, labels, replay}
 use Rattle.tso_machine.specs.Scheduled.{step_label}
 use Rattle.tso_machine.specs.State.{Setup, State, start_state}
 use Rattle.tso_machine.specs.declared.labels.Label.TheVariants as label
-use Rattle.rack_core.specs.Accesses.{is_held_as}
-use Rattle.rack_core.specs.AtOnce.{next_access, IsAtMostOne}
-
--- ---- what is at hand
-
--- it is no access; or it is denied, at no multiple of its size; or its page is held as it needs it
-abbrev pub has_at_hand : (PageView → Option Bool) → Option AccessView → Bool
-has_at_hand held None = true
-has_at_hand held (Some access) = not (is_aligned access) || is_held_as access.kind (held (page_at (place_of access.domain access.address)))
-
--- A step of thread h executes its instruction in the machine's state, and what the instruction needs is at hand.
-pub record ExecutesNow (setup : Setup) (held : Holdings) (m : State) (h : ℕ) : Type 0 where
-  pub plan : ThreadPlan
-  pub planned : slice_get setup.plan.threads h ≡ Some plan
-  pub step : step_label setup m.threads h ≡ Some (label.Exec h)
-  pub at_hand : has_at_hand (held plan.blade) (next_access setup m.threads h) ≡ true
-
--- Thread h buffers stores, and its blade holds the page of the oldest one to write.
-pub record DrainsNow (setup : Setup) (held : Holdings) (m : State) (h : ℕ) : Type 0 where
-  pub plan : ThreadPlan
-  pub thread : Thread
-  pub oldest : PendingView
-  pub newer : List PendingView
-  pub planned : slice_get setup.plan.threads h ≡ Some plan
-  pub there : slice_get m.threads h ≡ Some thread
-  pub buffer : thread.buffer ≡ oldest ∷ newer
-  pub to_write : held plan.blade (page_at (place_of plan.domain oldest.address)) ≡ Some true
+use Rattle.rack_core.specs.AtOnce.{ExecutesAtOnce, HoldsOldest, IsAtMostOne}
 
 -- ---- the labels of one event
 
 -- a step's label stands in it where what it needs is at hand: its execution, or the drain that must come first
 pub record IsPromptStep (setup : Setup) (held : Holdings) (m : State) (h : ℕ) (noted : List Note) : Type 0 where
-  pub executes : ExecutesNow setup held m h → labels noted ≡ label.Exec h ∷ []
-  pub drains : step_label setup m.threads h ≡ Some (label.Drain h) → DrainsNow setup held m h → labels noted ≡ label.Drain h ∷ []
+  pub executes : ExecutesAtOnce setup held m h → labels noted ≡ label.Exec h ∷ []
+  pub drains : step_label setup m.threads h ≡ Some (label.Drain h) → HoldsOldest setup held m h → labels noted ≡ label.Drain h ∷ []
   pub one : IsAtMostOne h (labels noted)
 
 pub record IsPromptDrain (setup : Setup) (held : Holdings) (m : State) (h : ℕ) (noted : List Note) : Type 0 where
-  pub drains : DrainsNow setup held m h → labels noted ≡ label.Drain h ∷ []
+  pub drains : HoldsOldest setup held m h → labels noted ≡ label.Drain h ∷ []
   pub one : IsAtMostOne h (labels noted)
 
 abbrev pub IsPrompt : Setup → Holdings → State → Event → List Note → Type 0
