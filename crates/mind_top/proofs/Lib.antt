@@ -3,4 +3,5 @@ pub mod Decided
 pub mod Ends
 pub mod Forms
 pub mod Headlines
+pub mod Outcomes
 pub mod Rans

@@ -1,15 +1,19 @@
-ghost use Rattle.std.specs.Prelude.{◌≡◌, ◌↔◌, ◌≤◌, ℕ, List, Some, Result, Ok};
+ghost use Rattle.std.specs.Prelude.{◌≡◌, ◌↔◌, ◌≤◌, ◌++◌, ℕ, List, Some, Result, Ok};
 ghost use Rattle.std.specs.FinMap.{get};
 ghost use Rattle.mind_base.specs.Fit.{IsFit};
 ghost use Rattle.mind_base.specs.Store.{Files};
 ghost use Rattle.mind_base.specs.declared.plans.RackPlan.{RackPlan as rack_plan};
 ghost use Rattle.rack_gen.specs.Generator.{generated_text};
-ghost use Rattle.mind_inputs.specs.Inputs.{Ending, rack_judged, seen_of};
+ghost use Rattle.mind_base.specs.declared.events.Event.{Event as event};
+ghost use Rattle.report_text.specs.Counts.{counts_line};
+ghost use Rattle.rack_settle.specs.Stretches.{AreSettledEach};
+ghost use Rattle.mind_inputs.specs.Inputs.{Accepted, Ending, rack_judged, seen_of};
 ghost use Rattle.mind_inputs.specs.Journals.{Checkable, JudgesCheck};
 ghost use Rattle.mind_inputs.specs.Words.{Paths};
 ghost use Rattle.mind_top.specs.Words.{Form, Run, Load, IsCheck};
 ghost use Rattle.mind_top.specs.declared.words.Output.TheVariants.{Report as report};
 ghost use Rattle.mind_top.specs.Due.{DoneBy, Due, CallFor, said_of_check};
+ghost use Rattle.mind_top.specs.Headline.{Headline};
 ghost use Rattle.mind_top.specs.Left.{Left};
 ghost use Rattle.mind_top.specs.declared.statuses.Status.{Status as status};
 
@@ -27,4 +31,12 @@ pub fn what_is_made_runs_as_it_is_loaded()
         → rack_judged (seen_of (get files rack) 65536) ≡ Ok plan → get files schedule ≡ Some (generated_text plan count seed)
         → (left : Left) (text : List ℕ) → DoneBy (Some files) (Load rack count seed) left text
         ↔ DoneBy (Some files) (Run report (record { rack = rack; schedule = schedule })) left text }
+{}
+
+/// Where each event of a schedule is followed by a settling, the accepted files decide the report but for its line of
+/// counts: two runs of them, whatever their links did, write the same lines before it.
+pub fn settled_schedules_have_one_outcome()
+    ensures { (accepted : Accepted) (each : List event) (a b : Left) (text other : List ℕ) → AreSettledEach each accepted.events
+        → Headline accepted a text → Headline accepted b other
+        → (front : List ℕ) × (text ≡ front ++ counts_line a.log) × (other ≡ front ++ counts_line b.log) }
 {}

@@ -11,6 +11,8 @@ mod texts;
 mod top;
 mod words;
 
-pub use laws::{the_files_decide, what_is_made_runs_as_it_is_loaded};
+pub use laws::{
+    settled_schedules_have_one_outcome, the_files_decide, what_is_made_runs_as_it_is_loaded,
+};
 pub use statuses::Status;
 pub use top::mind;
