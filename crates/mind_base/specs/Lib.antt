@@ -6,10 +6,12 @@ pub mod MemSink
 pub mod MemStore
 pub mod Name
 pub mod Number
+pub mod OutcomeWord
 pub mod Page
 pub mod Pending
 pub mod Permission
 pub mod Place
+pub mod Plan
 pub mod Range
 pub mod Sink
 pub mod Span

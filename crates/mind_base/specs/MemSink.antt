@@ -17,6 +17,6 @@ abbrev pub with_bytes : List ℕ → MemSinkView → MemSinkView
 with_bytes bytes sink = record sink { bytes = sink.bytes ++ take (room_left sink) bytes }
 
 -- a write takes what there is room for, and fails exactly where that is not all of it
-abbrev pub Takes : MemSinkView → MemSinkView → List ℕ → Result (Unit {0}) WriteError → Type 0
-Takes old new bytes (Ok done) = (length bytes ≤ room_left old) × (new ≡ with_bytes bytes old)
-Takes old new bytes (Err failure) = (room_left old < length bytes) × (new ≡ record (with_bytes bytes old) { faults = risen old.faults })
+abbrev pub SinkTakes : MemSinkView → MemSinkView → List ℕ → Result (Unit {0}) WriteError → Type 0
+SinkTakes old new bytes (Ok done) = (length bytes ≤ room_left old) × (new ≡ with_bytes bytes old)
+SinkTakes old new bytes (Err failure) = (room_left old < length bytes) × (new ≡ record (with_bytes bytes old) { faults = risen old.faults })

@@ -43,5 +43,5 @@ abbrev pub ReadsUnless : Bool → MemStoreView → MemStoreView → List ℕ →
 ReadsUnless true old new name limit result = (result ≡ Err read.Failed) × (new ≡ record old { faults = risen old.faults })
 ReadsUnless false old new name limit result = ReadsName (get (file_map old.files) name) old new limit result
 
-abbrev pub Reads : MemStoreView → MemStoreView → List ℕ → ℕ → Result (Vec ℕ) ReadError → Type 0
-Reads old new name limit result = ReadsUnless (fails_next old) (one_call_more old) new name limit result
+abbrev pub StoreReads : MemStoreView → MemStoreView → List ℕ → ℕ → Result (Vec ℕ) ReadError → Type 0
+StoreReads old new name limit result = ReadsUnless (fails_next old) (one_call_more old) new name limit result

@@ -22,6 +22,10 @@ pub record InRange (range : RangeView) (page : PageView) : Type 0 where
 abbrev pub in_range : RangeView → PageView → Bool
 in_range range page = page.domain == range.domain && nat_le range.base page.number && nat_lt page.number (range.base + 2 ^ range.log)
 
+-- the test whether two blocks are one
+abbrev pub same_range : RangeView → RangeView → Bool
+same_range a b = a.domain == b.domain && a.base == b.base && a.log == b.log
+
 -- the two halves of a block, the lower one first; one page has none
 abbrev pub halves_of : RangeView → Option (RangeView × RangeView)
 halves_of r = if r.log == 0 then None else Some (

@@ -1,3 +1,5 @@
+//! A store over the files of a folder.
+
 ghost use Rattle.std.specs.Prelude.{◌≡◌, ◌<◌, ◌≤◌, None, IfOk, IfErr, vec_len};
 ghost use Rattle.mind_base.specs.Store.{IsPiecewise};
 

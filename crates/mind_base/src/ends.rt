@@ -1,3 +1,5 @@
+//! Where a hart stands: running, ended, or at a fault.
+
 /// Why a thread was stopped by its own step.
 #[derive(Clone, Copy, Debug, PartialEq, Eq)]
 pub enum FaultKind {

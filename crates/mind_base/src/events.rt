@@ -1,3 +1,5 @@
+//! The events of a schedule.
+
 use crate::{Command, LinkName, Page, Side};
 
 /// One event of a schedule. `k` names a frame of a wire, modulo the wire's length.

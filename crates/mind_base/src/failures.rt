@@ -1,3 +1,5 @@
+//! Want of memory, and a number that has its last value.
+
 ghost use Rattle.std.specs.Prelude.{◌≡◌};
 ghost use Rattle.mind_base.specs.declared.failures.NoMemory.{NoMemory as the_failure};
 ghost use Rattle.mind_base.specs.declared.failures.Stop.TheVariants.{NoMemory as no_memory};

@@ -1,3 +1,5 @@
+//! A granule: the aligned 64 bytes that a reservation covers.
+
 ghost use Rattle.std.specs.Prelude.{◌≡◌};
 ghost use Rattle.mind_base.specs.Place.{page_with, index_in_page};
 

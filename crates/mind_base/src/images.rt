@@ -1,3 +1,5 @@
+//! The image of a program: the words that it starts with.
+
 ghost use Rattle.std.specs.Prelude.{◌≡◌, IfOk};
 
 use crate::{NoMemory, Sequence};

@@ -44,7 +44,7 @@ pub use output_sinks::OutSink;
 pub use pages::Page;
 pub use pendings::Pending;
 pub use places::Place;
-pub use plans::{ImagePlan, MapPlan, MemoryPlan, PolicyKind, RackPlan, ThreadPlan};
+pub use plans::{ImagePlan, MapPlan, MemoryPlan, PolicyKind, RackPlan, ThreadPlan, image_place};
 pub use ranges::Range;
 pub use sequences::Sequence;
 pub use sinks::{Sink, WriteError};

@@ -1,3 +1,5 @@
+//! The names of links and of their two wires.
+
 /// From a blade up to the switch, down from it to a blade, to a memory blade, or from one.
 #[derive(Clone, Copy, Debug, PartialEq, Eq)]
 pub enum LinkKind {

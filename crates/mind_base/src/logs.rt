@@ -1,3 +1,5 @@
+//! A log of notes, to which notes are added alone.
+
 ghost use Rattle.std.specs.Prelude.{◌≡◌, ◌<◌, ◌≤◌, ◌+◌, [], ◌∷◌, ◌++◌, length, slice_get, Some, IsOk, OnOk, OnErr};
 
 use crate::{NoMemory, Note};

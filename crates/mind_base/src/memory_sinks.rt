@@ -1,6 +1,8 @@
+//! A sink in memory, for tests, with room for so many bytes.
+
 ghost use Rattle.std.specs.Prelude.{◌≡◌, ◌≤◌, [], Some, IfOk};
 ghost use Rattle.mind_base.specs.Sink.{Writes};
-ghost use Rattle.mind_base.specs.MemSink.{Takes};
+ghost use Rattle.mind_base.specs.MemSink.{SinkTakes};
 
 use crate::{NoMemory, Sink, WriteError};
 use std::alloc::Global;
@@ -54,7 +56,7 @@ impl Sink for MemSink {
 
     /// Takes the bytes that there is room for; fails exactly where they do not all fit.
     fn write_all(&mut self, bytes: &[u8]) -> Result<(), WriteError>
-        ensures takes { Takes self.old self.new bytes.now result }
+        ensures takes { SinkTakes self.old self.new bytes.now result }
         ensures written { Writes (Some self.old.bytes) (Some self.new.bytes) self.old.faults self.new.faults bytes.now result }
         ensures counts { self.old.faults ≤ self.new.faults }
     {

@@ -1,7 +1,9 @@
+//! A store in memory, for tests, of which listed calls fail.
+
 ghost use Rattle.std.specs.Prelude.{◌≡◌, ◌≤◌, map, [], Some, option_map, IfOk, vec_len};
 ghost use Rattle.std.specs.FinMap.{get};
 ghost use Rattle.mind_base.specs.Store.{file_map, held, ReadHasCause, ReadTells};
-ghost use Rattle.mind_base.specs.MemStore.{contents, Reads};
+ghost use Rattle.mind_base.specs.MemStore.{contents, StoreReads};
 
 use crate::{Name, ReadError, Store};
 use std::alloc::Global;
@@ -62,7 +64,7 @@ impl Store for MemStore {
     /// Fails exactly at the listed calls, where `faults` rises, and at a name that it lacks, where `missed`
     /// rises; else the file is given, but for want of memory or more bytes than the limit.
     fn read_all(&mut self, alloc: Global, name: &str, limit: u64) -> Result<Vec<u8>, ReadError>
-        ensures reads { Reads self.old self.new name.now limit result }
+        ensures reads { StoreReads self.old self.new name.now limit result }
         ensures keeps { Some (file_map self.new.files) ≡ Some (file_map self.old.files) }
         ensures short { IfOk result (λ bytes. vec_len bytes ≤ limit) }
         ensures cause { ReadHasCause (held (Some (file_map self.old.files)) name.now)

@@ -1,3 +1,5 @@
+//! The name of a file: 1 to 64 printing bytes.
+
 ghost use Rattle.std.specs.Prelude.{◌≡◌, IfOk, string_bytes};
 ghost use Rattle.mind_base.specs.Name.{name_of, each_prints, is_name};
 

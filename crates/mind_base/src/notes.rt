@@ -1,3 +1,5 @@
+//! The states of a directory entry, and the notes of a log.
+
 use crate::{Outcome, Page, Range};
 
 /// What a directory entry says of its block: nobody holds a page of it, these blades may hold some to

@@ -1,3 +1,5 @@
+//! A sink over standard output.
+
 ghost use Rattle.std.specs.Prelude.{None};
 
 use crate::{Sink, WriteError};

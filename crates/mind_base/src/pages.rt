@@ -1,3 +1,5 @@
+//! A page: 4096 bytes of a domain.
+
 ghost use Rattle.std.specs.Prelude.{◌≡◌, ◌<◌};
 ghost use Rattle.mind_base.specs.Page.{page_of, page_number_at, page_offset_at};
 

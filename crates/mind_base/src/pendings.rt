@@ -1,3 +1,5 @@
+//! A store that waits in a buffer.
+
 use std::marker::Model;
 
 /// A store that waits in a thread's queue: `size` bytes, 1, 2 or 4, at an address that is a multiple

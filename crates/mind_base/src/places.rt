@@ -1,3 +1,5 @@
+//! A byte of memory: a domain and an address in it.
+
 ghost use Rattle.std.specs.Prelude.{◌≡◌, ◌<◌};
 ghost use Rattle.mind_base.specs.Place.{place_of, page_at, offset_at, granule_at};
 

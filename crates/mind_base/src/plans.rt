@@ -1,4 +1,7 @@
+//! The plan of a rack, as its file describes it.
+
 ghost use Rattle.std.specs.Prelude.{◌≡◌, IfOk};
+ghost use Rattle.mind_base.specs.Plan.{image_place};
 
 use crate::{Name, NoMemory, Perm, Sequence, Span};
 use std::alloc::Global;
@@ -107,6 +110,16 @@ impl RackPlan {
             threads,
             maps,
         })
+    }
+}
+
+/// Where image number `i` of a plan stands; 0 for one that the plan does not have.
+pub fn image_place(images: &[ImagePlan], i: u8) -> u32
+    ensures { result ≡ image_place images.now i }
+{
+    match images.get(usize::from(i)) {
+        Some(image) => image.at,
+        None => 0,
     }
 }
 

@@ -1,3 +1,5 @@
+//! An aligned block of pages.
+
 ghost use Rattle.std.specs.Prelude.{◌≡◌, ◌↔◌, IsTrue};
 ghost use Rattle.mind_base.specs.Range.{InRange, in_range, halves_of, parent_of};
 

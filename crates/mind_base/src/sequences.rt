@@ -1,3 +1,5 @@
+//! A list whose length and copies are exact.
+
 ghost use Rattle.std.specs.Prelude.{◌≡◌, [], ◌∷◌, ◌++◌, ◌↔◌, length, IsTrue, IfOk, OnOk, OnErr};
 
 use std::alloc::{AllocError, AllocFailed, Global};

@@ -1,3 +1,5 @@
+//! What takes the text of a call.
+
 ghost use Rattle.std.specs.Prelude.{◌≤◌, ℕ, List, Option};
 ghost use Rattle.mind_base.specs.Sink.{Writes};
 

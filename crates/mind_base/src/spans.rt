@@ -1,3 +1,5 @@
+//! A run of pages.
+
 ghost use Rattle.std.specs.Prelude.{◌≡◌, ◌↔◌, IsTrue};
 ghost use Rattle.mind_base.specs.Span.{InSpan, in_span};
 

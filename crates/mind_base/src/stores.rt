@@ -1,3 +1,5 @@
+//! What holds the files that a call reads.
+
 ghost use Rattle.std.specs.Prelude.{◌≡◌, ◌≤◌, ℕ, Option, IfOk, vec_len};
 ghost use Rattle.mind_base.specs.Store.{Files, held, ReadHasCause, ReadTells};
 

@@ -1,0 +1,10 @@
+use Rattle.std.proofs.Common.{◌==◌, ◌∙◌, rules, tests}
+use Rattle.std.proofs.lemmas.Iterator.{YieldsList-from_slice}
+use Rattle.std.proofs.lemmas.Iterator.Search.{position_from_yields_List}
+use Rattle.plain_text.proofs.Places.{place_or_end}
+use Rattle.plain_text.proofs.lines.place_of.Goals as goal
+
+pub returns-clause-place : goal.returns-clause-place
+returns-clause-place c =
+    c.unwrap_or.ensures
+    ∙ place_or_end (λ b. b == c.args.byte) c.args.text.now c.position.result (position_from_yields_List _ _ _ _ c.position.ensures.ran (YieldsList-from_slice c.args.text.now cc) (λ x b q k. search (rules, tests)))
