@@ -7,7 +7,7 @@ use Rattle.hart_core.specs.declared.outcome.Act.TheVariants.{Next, Load, Store, 
 use Rattle.hart_core.specs.declared.outcome.LockedKind.TheVariants.{Lr, Sc, Amo}
 use Rattle.hart_core.specs.Registers.{register}
 use Rattle.hart_core.specs.Memory.{store_size, IsAccessSize}
-use Rattle.hart_core.specs.Values.{word_sum, word_of, op_value, register_kind, is_taken, is_ordering}
+use Rattle.hart_core.specs.Values.{word_sum, word_from, op_value, register_kind, is_taken, is_ordering}
 
 -- register rd takes the value, and the hart goes on at the next word
 abbrev pub continues : ℕ → ℕ → ℕ → Act
@@ -18,25 +18,25 @@ abbrev pub goes_to : ℕ → ℕ → ℕ → Act
 goes_to rd value target = if target % 4 == 0 then Next rd value target else Jumped target
 
 -- bit 0 is cleared
-abbrev pub cleared : ℕ → ℕ
-cleared target = target / 2 * 2
+abbrev pub bit_cleared : ℕ → ℕ
+bit_cleared target = target / 2 * 2
 
 -- what the instruction asks of a hart with these registers at this pc
 unfoldable pub act_of : Instr → List ℕ → ℕ → Act
 act_of (instr.Lui rd imm) regs pc = continues rd imm pc
 act_of (instr.Auipc rd imm) regs pc = continues rd (word_sum pc imm) pc
-act_of (instr.Jal rd offset) regs pc = goes_to rd (word_sum pc 4) (word_sum pc (word_of offset))
+act_of (instr.Jal rd offset) regs pc = goes_to rd (word_sum pc 4) (word_sum pc (word_from offset))
 act_of (instr.Jalr rd rs1 offset) regs pc =
-    goes_to rd (word_sum pc 4) (cleared (word_sum (register regs rs1) (word_of offset)))
+    goes_to rd (word_sum pc 4) (bit_cleared (word_sum (register regs rs1) (word_from offset)))
 act_of (instr.Branch kind rs1 rs2 offset) regs pc =
     if is_taken kind (register regs rs1) (register regs rs2)
-    then goes_to 0 0 (word_sum pc (word_of offset))
+    then goes_to 0 0 (word_sum pc (word_from offset))
     else continues 0 0 pc
-act_of (instr.Load kind rd rs1 offset) regs pc = Load kind rd (word_sum (register regs rs1) (word_of offset))
+act_of (instr.Load kind rd rs1 offset) regs pc = Load kind rd (word_sum (register regs rs1) (word_from offset))
 act_of (instr.Store kind rs1 rs2 offset) regs pc =
-    Store (store_size kind) (word_sum (register regs rs1) (word_of offset)) (register regs rs2)
+    Store (store_size kind) (word_sum (register regs rs1) (word_from offset)) (register regs rs2)
 act_of (instr.OpImm kind rd rs1 imm) regs pc =
-    continues rd (op_value (register_kind kind) (register regs rs1) (word_of imm)) pc
+    continues rd (op_value (register_kind kind) (register regs rs1) (word_from imm)) pc
 act_of (instr.Op kind rd rs1 rs2) regs pc = continues rd (op_value kind (register regs rs1) (register regs rs2)) pc
 act_of (instr.Fence fm pred succ rd rs1) regs pc = Fence (is_ordering fm pred succ)
 act_of instr.Ecall regs pc = Call
@@ -47,15 +47,15 @@ act_of (instr.Amo kind rd rs1 rs2 aq rl) regs pc =
     Locked (Amo kind) rd (register regs rs1) (register regs rs2)
 
 -- the register that is named is one of the 32, and a store writes 1, 2 or 4 bytes
-abbrev pub IsWellFormed : Act → Type 0
-IsWellFormed (Next rd value pc) = rd < 32
-IsWellFormed (Load kind rd address) = rd < 32
-IsWellFormed (Store size address value) = IsAccessSize size
-IsWellFormed (Locked kind rd address operand) = rd < 32
-IsWellFormed (Fence drains) = Unit {0}
-IsWellFormed Call = Unit {0}
-IsWellFormed (Jumped target) = Unit {0}
-IsWellFormed Broke = Unit {0}
+abbrev pub IsWellFormedAct : Act → Type 0
+IsWellFormedAct (Next rd value pc) = rd < 32
+IsWellFormedAct (Load kind rd address) = rd < 32
+IsWellFormedAct (Store size address value) = IsAccessSize size
+IsWellFormedAct (Locked kind rd address operand) = rd < 32
+IsWellFormedAct (Fence drains) = Unit {0}
+IsWellFormedAct Call = Unit {0}
+IsWellFormedAct (Jumped target) = Unit {0}
+IsWellFormedAct Broke = Unit {0}
 
 -- the hart goes on at a multiple of 4, and only another target is a fault
 abbrev pub IsAligned : Act → Type 0

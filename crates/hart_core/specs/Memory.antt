@@ -7,7 +7,7 @@ use Rattle.rv32_decode.specs.declared.instruction.StoreKind.TheVariants.{Sb, Sh,
 use Rattle.rv32_decode.specs.declared.instruction.AmoKind.{AmoKind}
 use Rattle.rv32_decode.specs.declared.instruction.AmoKind.TheVariants.{Swap, Add, Xor, And, Or, Min, Max, Minu, Maxu}
 use Rattle.rv32_decode.specs.Fields.{sign_extended}
-use Rattle.hart_core.specs.Values.{word_sum, signed, word_of}
+use Rattle.hart_core.specs.Values.{word_sum, signed, word_from}
 
 -- how many bytes a load reads, and a store writes
 unfoldable pub load_size : LoadKind → ℕ
@@ -39,8 +39,8 @@ combined Maxu old operand = max old operand
 
 -- the low bytes of what was read, extended to a word by the sign or by zeros
 unfoldable pub extended : LoadKind → ℕ → ℕ
-extended Lb raw = word_of (sign_extended (2 ^ 7) (raw % 2 ^ 8))
-extended Lh raw = word_of (sign_extended (2 ^ 15) (raw % 2 ^ 16))
+extended Lb raw = word_from (sign_extended (2 ^ 7) (raw % 2 ^ 8))
+extended Lh raw = word_from (sign_extended (2 ^ 15) (raw % 2 ^ 16))
 extended Lw raw = raw
 extended Lbu raw = raw % 2 ^ 8
 extended Lhu raw = raw % 2 ^ 16

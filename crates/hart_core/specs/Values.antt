@@ -16,8 +16,8 @@ word_sum a b = (a + b) % 2 ^ 32
 abbrev pub signed : ℕ → ℤ
 signed a = cast_signed w32 a
 
-abbrev pub word_of : ℤ → ℕ
-word_of z = cast_unsigned w32 z
+abbrev pub word_from : ℤ → ℕ
+word_from z = cast_unsigned w32 z
 
 -- what an operation makes of two words; shifts are by the low five bits of the second
 abbrev pub op_value : OpKind → ℕ → ℕ → ℕ
@@ -30,7 +30,7 @@ op_value Srl a b = a / 2 ^ (b % 32)
 op_value Or a b = bit_or a b
 op_value And a b = bit_and a b
 op_value Sub a b = (a + 2 ^ 32 - b) % 2 ^ 32
-op_value Sra a b = word_of (int_shr (signed a) (b % 32))
+op_value Sra a b = word_from (int_shr (signed a) (b % 32))
 
 -- an operation with an immediate is one of two registers, with the immediate's word as the second
 abbrev pub register_kind : OpImmKind → OpKind

@@ -2,7 +2,7 @@
 
 ghost use Rattle.std.specs.Prelude.{◌≡◌, ◌<◌, ◌≤◌, ◌*◌, ◌^◌};
 ghost use Rattle.rv32_decode.specs.Fields.{sign_extended};
-ghost use Rattle.hart_core.specs.Values.{word_of};
+ghost use Rattle.hart_core.specs.Values.{word_from};
 ghost use Rattle.hart_core.specs.Memory.{combined, extended, load_size as load_size_of, store_size as store_size_of, IsAccessSize};
 
 use rv32_decode::{AmoKind, LoadKind, StoreKind};
@@ -70,7 +70,7 @@ pub(crate) fn store_size(kind: StoreKind) -> u8
 fn by_sign(value: u32, sign: u32) -> u32
     requires sign { sign ≤ 2 ^ 15 }
     requires below { value < 2 * sign }
-    ensures { result ≡ word_of (sign_extended sign value) }
+    ensures { result ≡ word_from (sign_extended sign value) }
 {
     if value < sign {
         value

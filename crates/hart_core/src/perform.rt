@@ -2,22 +2,21 @@
 
 ghost use Rattle.std.specs.Prelude.{◌≡◌, ◌%◌};
 ghost use Rattle.rv32_decode.specs.Instr.{Fits};
-ghost use Rattle.hart_core.specs.Memory.{store_size as store_size_of};
-ghost use Rattle.hart_core.specs.Values.{word_sum, word_of};
-ghost use Rattle.hart_core.specs.Act.{act_of, continues, goes_to, IsWellFormed, IsAligned};
+ghost use Rattle.hart_core.specs.Values.{word_sum, word_from};
+ghost use Rattle.hart_core.specs.Act.{act_of, continues, goes_to, IsWellFormedAct, IsAligned};
 
 use crate::memory::store_size;
 use crate::outcome::{Act, LockedKind};
 use crate::registers::Regs;
 use crate::values::{op, ordering, register_kind, taken};
-use rv32_decode::{Instr, LoadKind, StoreKind};
+use rv32_decode::Instr;
 
 /// What the instruction asks of a hart with these registers at this pc.
 #[tactic(auto, unfolding(crate::specs::Act::act_of, rv32_decode::specs::Instr::Fits))]
 pub fn act(instr: &Instr, regs: &Regs, pc: u32) -> Act
     requires { Fits instr.now }
     ensures asked { result ≡ act_of instr.now regs.now pc }
-    ensures well_formed { IsWellFormed result }
+    ensures well_formed { IsWellFormedAct result }
     ensures aligned { pc % 4 ≡ 0 → IsAligned result }
 {
     match *instr {
@@ -45,13 +44,21 @@ pub fn act(instr: &Instr, regs: &Regs, pc: u32) -> Act
             rd,
             rs1,
             offset,
-        } => load(kind, rd, sum(regs.get(rs1), offset)),
+        } => Act::Load {
+            kind,
+            rd,
+            address: sum(regs.get(rs1), offset),
+        },
         Instr::Store {
             kind,
             rs1,
             rs2,
             offset,
-        } => store(kind, sum(regs.get(rs1), offset), regs.get(rs2)),
+        } => Act::Store {
+            size: store_size(kind),
+            address: sum(regs.get(rs1), offset),
+            value: regs.get(rs2),
+        },
         Instr::OpImm { kind, rd, rs1, imm } => {
             let value = op(register_kind(kind), regs.get(rs1), imm.cast_unsigned());
             next(rd, value, pc)
@@ -101,26 +108,9 @@ fn jump(rd: u8, value: u32, target: u32) -> Act
 
 /// A word and an offset, which wraps at 32 bits.
 fn sum(word: u32, offset: i32) -> u32
-    ensures { result ≡ word_sum word (word_of offset) }
+    ensures { result ≡ word_sum word (word_from offset) }
 {
     word.wrapping_add(offset.cast_unsigned())
-}
-
-fn load(kind: LoadKind, rd: u8, address: u32) -> Act
-    ensures { result ≡ Act.Load kind rd address }
-{
-    Act::Load { kind, rd, address }
-}
-
-fn store(kind: StoreKind, address: u32, value: u32) -> Act
-    ensures { result ≡ Act.Store (store_size_of kind) address value }
-{
-    let size = store_size(kind);
-    Act::Store {
-        size,
-        address,
-        value,
-    }
 }
 
 fn locked(kind: LockedKind, rd: u8, address: u32, operand: u32) -> Act

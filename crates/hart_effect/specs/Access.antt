@@ -3,10 +3,10 @@ use Rattle.std.specs.Prelude.{ℕ, zero, suc, ◌+◌, ◌*◌, ◌%◌, Bool, t
 use Rattle.mind_base.specs.Page.{PageView}
 use Rattle.mind_base.specs.Pending.{PendingView, newest_byte}
 use Rattle.mind_base.specs.declared.commands.Perm.{Perm}
-use Rattle.mind_base.specs.declared.commands.Perm.TheVariants.{No, R, Rw}
 use Rattle.mind_base.specs.declared.ends.FaultKind.{FaultKind}
 use Rattle.mind_base.specs.declared.ends.FaultKind.TheVariants as fault
 use Rattle.mind_base.specs.Place.{place_of, page_at}
+use Rattle.mind_base.specs.Permission.{may_read, may_write}
 use Rattle.hart_core.specs.Memory.{load_size}
 use Rattle.hart_core.specs.declared.outcome.Act.{Act}
 use Rattle.hart_core.specs.declared.outcome.Act.TheVariants as act
@@ -32,19 +32,9 @@ abbrev pub seen_byte : (ℕ → ℕ → ℕ) → ℕ → List PendingView → �
 seen_byte byte domain buffer address = unwrap_or (newest_byte buffer address) (memory_byte byte domain address)
 
 -- the number that so many bytes from an address on spell, the lowest first
-abbrev pub number_of : (ℕ → ℕ) → ℕ → ℕ → ℕ
-number_of byte address zero = 0
-number_of byte address (suc size) = byte address + 256 * number_of byte (address + 1) size
-
-abbrev pub may_read : Perm → Bool
-may_read No = false
-may_read R = true
-may_read Rw = true
-
-abbrev pub may_write : Perm → Bool
-may_write No = false
-may_write R = false
-may_write Rw = true
+abbrev pub spelled_number : (ℕ → ℕ) → ℕ → ℕ → ℕ
+spelled_number byte address zero = 0
+spelled_number byte address (suc size) = byte address + 256 * spelled_number byte (address + 1) size
 
 -- An access: what it does, the domain of the thread that makes it, the address of its lowest byte there, and
 -- how many bytes it has.
@@ -61,30 +51,27 @@ is_aligned access = access.address % access.size == 0
 -- it writes, now or later
 abbrev pub writes : AccessKind → Bool
 writes Reads = false
-writes WritesLater = true
-writes WritesAtOnce = true
+writes kind = true
 
 -- what an access of a kind wants of its page, and the fault that it ends by where that is not allowed
-abbrev pub allows : AccessKind → Perm → Bool
-allows Reads = may_read
-allows WritesLater = may_write
-allows WritesAtOnce = may_write
+abbrev pub access_allowed : AccessKind → Perm → Bool
+access_allowed Reads = may_read
+access_allowed kind = may_write
 
 abbrev pub fault_of : AccessKind → FaultKind
 fault_of Reads = fault.Load
-fault_of WritesLater = fault.Store
-fault_of WritesAtOnce = fault.Store
+fault_of kind = fault.Store
 
 -- Why an access of so many bytes is denied: it stands at no multiple of its size; else its page may not
 -- be read, or written.
 abbrev pub denied : FaultKind → (Perm → Bool) → (PageView → Perm) → ℕ → ℕ → ℕ → Option FaultKind
-denied kind allows perm domain address size =
+denied kind access_allowed perm domain address size =
     if address % size == 0
-    then (if allows (perm (page_at (place_of domain address))) then None else Some kind)
+    then (if access_allowed (perm (page_at (place_of domain address))) then None else Some kind)
     else Some fault.Align
 
 abbrev pub access_denied : (PageView → Perm) → AccessView → Option FaultKind
-access_denied perm access = denied (fault_of access.kind) (allows access.kind) perm access.domain access.address access.size
+access_denied perm access = denied (fault_of access.kind) (access_allowed access.kind) perm access.domain access.address access.size
 
 abbrev pub read_denied : (PageView → Perm) → ℕ → ℕ → ℕ → Option FaultKind
 read_denied perm domain address size = access_denied perm (record { kind = Reads; domain = domain; address = address; size = size })
@@ -102,11 +89,7 @@ locked_kind (locked.Amo kind) = WritesAtOnce
 
 -- the access that an instruction of a thread of a domain makes, if it makes one
 abbrev pub access_of : Act → ℕ → Option AccessView
-access_of (act.Next rd value pc) domain = None
 access_of (act.Load kind rd address) domain = Some (record { kind = Reads; domain = domain; address = address; size = load_size kind })
 access_of (act.Store size address value) domain = Some (record { kind = WritesLater; domain = domain; address = address; size = size })
 access_of (act.Locked kind rd address operand) domain = Some (record { kind = locked_kind kind; domain = domain; address = address; size = 4 })
-access_of (act.Fence drains) domain = None
-access_of act.Call domain = None
-access_of (act.Jumped target) domain = None
-access_of act.Broke domain = None
+access_of asked domain = None

@@ -5,7 +5,7 @@ use Rattle.rv32_decode.specs.Instr.{instr_of}
 use Rattle.rv32_decode.specs.declared.instruction.Instr.{Instr}
 use Rattle.rv32_decode.specs.declared.instruction.AmoKind.{AmoKind}
 use Rattle.rv32_decode.specs.declared.instruction.LoadKind.{LoadKind}
-use Rattle.hart_core.specs.Act.{act_of, IsWellFormed}
+use Rattle.hart_core.specs.Act.{act_of, IsWellFormedAct}
 use Rattle.hart_core.specs.Memory.{combined, extended, load_size}
 use Rattle.hart_core.specs.Registers.{register}
 use Rattle.hart_core.specs.Values.{word_sum}
@@ -22,7 +22,7 @@ use Rattle.mind_base.specs.declared.ends.FaultKind.TheVariants as fault
 use Rattle.mind_base.specs.declared.images.Image.{Image}
 use Rattle.hart_effect.specs.Core.{core_continued, core_put_out, core_exited, core_faulted}
 use Rattle.hart_effect.specs.Thread.{Thread, with_core}
-use Rattle.hart_effect.specs.Access.{Around, memory_byte, seen_byte, number_of, read_denied, write_denied}
+use Rattle.hart_effect.specs.Access.{Around, memory_byte, seen_byte, spelled_number, read_denied, write_denied}
 use Rattle.hart_effect.specs.declared.finds.Found.{Found}
 use Rattle.hart_effect.specs.declared.finds.Found.TheVariants.{Outside, Unknown, Asks}
 
@@ -72,7 +72,7 @@ unless_denied (Some kind) address pc thread deed = Alone (faulted kind address p
 -- a load takes the bytes that the thread sees
 abbrev pub loaded : LoadKind → ℕ → ℕ → Around → ℕ → Thread → Deed
 loaded kind rd address around pc thread = unless_denied (read_denied around.perm around.domain address (load_size kind)) address pc thread
-    (Alone (continued rd (extended kind (number_of (seen_byte around.byte around.domain thread.buffer) address (load_size kind))) (word_sum pc 4) thread))
+    (Alone (continued rd (extended kind (spelled_number (seen_byte around.byte around.domain thread.buffer) address (load_size kind))) (word_sum pc 4) thread))
 
 -- a store waits in the buffer
 abbrev pub stored_later : ℕ → ℕ → ℕ → Around → ℕ → Thread → Deed
@@ -81,7 +81,7 @@ stored_later size address value around pc thread = unless_denied (write_denied a
 
 -- the word that memory holds at an address, without any buffer
 abbrev pub memory_word : Around → ℕ → ℕ
-memory_word around address = number_of (memory_byte around.byte around.domain) address 4
+memory_word around address = spelled_number (memory_byte around.byte around.domain) address 4
 
 -- a register takes a value, and in the same step a word takes effect in memory
 abbrev pub exchanged : ℕ → ℕ → ℕ → ℕ → ℕ → Thread → Deed
@@ -133,14 +133,9 @@ acted act.Broke around pc thread = Alone (faulted fault.Break 0 pc thread)
 
 -- a locked operation and an ordering fence want the thread's buffer empty
 abbrev pub wants_empty : Act → Bool
-wants_empty (act.Next rd value next) = false
-wants_empty (act.Load kind rd address) = false
-wants_empty (act.Store size address value) = false
 wants_empty (act.Locked kind rd address operand) = true
 wants_empty (act.Fence drains) = drains
-wants_empty act.Call = false
-wants_empty (act.Jumped target) = false
-wants_empty act.Broke = false
+wants_empty asked = false
 
 abbrev pub holds_stores : List PendingView → Bool
 holds_stores [] = false
@@ -173,17 +168,11 @@ found image regs pc = found_word (word_at image pc) regs pc
 abbrev pub AsksWellFormed : Found → Type 0
 AsksWellFormed Outside = Unit {0}
 AsksWellFormed (Unknown word) = Unit {0}
-AsksWellFormed (Asks asked) = IsWellFormed asked
+AsksWellFormed (Asks asked) = IsWellFormedAct asked
 
 abbrev pub is_store : Act → Bool
-is_store (act.Next rd value next) = false
-is_store (act.Load kind rd address) = false
 is_store (act.Store size address value) = true
-is_store (act.Locked kind rd address operand) = false
-is_store (act.Fence drains) = false
-is_store act.Call = false
-is_store (act.Jumped target) = false
-is_store act.Broke = false
+is_store asked = false
 
 -- the thread's oldest store must drain first: the instruction must wait for an empty buffer, or it is a
 -- store and the buffer is as long as the thread's queue
@@ -214,5 +203,5 @@ abbrev pub drained_of : List PendingView → Thread → Option Deed
 drained_of [] thread = None
 drained_of (oldest ∷ newer) thread = Some (Storing (record thread { buffer = newer }) oldest)
 
-abbrev pub drained : Thread → Option Deed
-drained thread = drained_of thread.buffer thread
+abbrev pub drain_deed : Thread → Option Deed
+drain_deed thread = drained_of thread.buffer thread

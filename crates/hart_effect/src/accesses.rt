@@ -1,9 +1,10 @@
+//! An access of memory: what it does, where, and which permission it wants.
+
 ghost use Rattle.std.specs.Prelude.{◌≡◌, ◌<◌, IfSome};
-ghost use Rattle.hart_core.specs.Act.{IsWellFormed};
-ghost use Rattle.hart_effect.specs.Access.{access_of, is_aligned, writes, locked_kind, allows, fault_of};
+ghost use Rattle.hart_core.specs.Act.{IsWellFormedAct};
+ghost use Rattle.hart_effect.specs.Access.{access_of, is_aligned, writes, locked_kind, access_allowed, fault_of};
 ghost use Rattle.mind_base.specs.Place.{place_of};
 
-use crate::permissions::{may_read, may_write};
 use hart_core::{Act, LockedKind, load_size};
 use mind_base::{FaultKind, Perm, Place};
 use std::marker::Model;
@@ -45,7 +46,7 @@ impl Access {
     /// The access that an instruction of a thread of a domain makes, if it makes one.
     pub fn of(asked: Act, domain: u8) -> Option<Access>
         requires domain { domain < 16 }
-        requires well_formed { IsWellFormed asked }
+        requires well_formed { IsWellFormedAct asked }
         ensures { result ≡ access_of asked domain }
     {
         match asked {
@@ -101,12 +102,12 @@ impl AccessKind {
 
     /// Whether a page of this permission allows it.
     pub(crate) fn is_allowed(self, perm: Perm) -> bool
-        ensures { result ≡ allows self perm }
+        ensures { result ≡ access_allowed self perm }
     {
         match self {
-            AccessKind::Reads => may_read(perm),
-            AccessKind::WritesLater => may_write(perm),
-            AccessKind::WritesAtOnce => may_write(perm),
+            AccessKind::Reads => perm.may_read(),
+            AccessKind::WritesLater => perm.may_write(),
+            AccessKind::WritesAtOnce => perm.may_write(),
         }
     }
 

@@ -1,3 +1,5 @@
+//! The core of a hart: its registers, where it stands, and its output.
+
 ghost use Rattle.std.specs.Prelude.{◌≡◌, OnOk, OnErr};
 ghost use Rattle.hart_effect.specs.Core.{first_core, core_continued};
 ghost use Rattle.hart_effect.specs.Work.{core_changed, PutsOutByte};

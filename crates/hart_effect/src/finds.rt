@@ -1,3 +1,5 @@
+//! What a hart comes upon at its pc.
+
 ghost use Rattle.std.specs.Prelude.{◌≡◌};
 ghost use Rattle.rv32_decode.specs.Instr.{instr_of};
 ghost use Rattle.hart_effect.specs.Deed.{word_at, found, found_word, found_instr, AsksWellFormed};

@@ -1,10 +1,13 @@
+//! What an instruction does to its hart and to memory, over what the hart finds around it.
+
 ghost use Rattle.std.specs.Prelude.{◌≡◌, ◌<◌, ◌%◌, List, Option, IfSome, IfNone, option_map};
-ghost use Rattle.hart_core.specs.Act.{IsWellFormed};
+ghost use Rattle.hart_core.specs.Act.{IsWellFormedAct};
 ghost use Rattle.hart_core.specs.Memory.{IsAccessSize};
 ghost use Rattle.hart_core.specs.Registers.{register};
+ghost use Rattle.hart_core.specs.Values.{word_sum};
 ghost use Rattle.hart_core.specs.declared.outcome.Act.TheVariants as act_of;
 ghost use Rattle.hart_core.specs.declared.outcome.LockedKind.TheVariants as locked;
-ghost use Rattle.hart_effect.specs.Access.{access_denied, number_of};
+ghost use Rattle.hart_effect.specs.Access.{access_denied, spelled_number};
 ghost use Rattle.hart_effect.specs.Deed.{acted, Alone, called, loaded, stored_later, load_reserved, store_conditional, atomic_done, locked_done, exchanged, carried_out, AsksWellFormed};
 ghost use Rattle.hart_effect.specs.Thread.{Thread, thread_with};
 ghost use Rattle.mind_base.specs.Pending.{PendingView};
@@ -54,14 +57,14 @@ impl Work {
 /// What an instruction asks.
 fn acting<S: Surroundings>(asked: Act, here: Here, core: &Core, around: &S) -> Work
     requires domain { here.domain < 16 }
-    requires well_formed { IsWellFormed asked }
+    requires well_formed { IsWellFormedAct asked }
     ensures deed { deed_of result (thread_with core.now (S.stores around.now) (S.reserved around.now))
         ≡ acted asked (around_of here.hart here.domain (S.bytes around.now) (S.perms around.now)) here.pc
         (thread_with core.now (S.stores around.now) (S.reserved around.now)) }
     ensures fits { WorkFits asked here.domain result }
 {
     match asked {
-        Act::Next { rd, value, pc } => going_on(rd, value, pc),
+        Act::Next { rd, value, pc } => going_on(Continued { rd, value, pc }),
         Act::Load { kind, rd, address } => loading(kind, rd, address, here, around),
         Act::Store {
             size,
@@ -73,23 +76,41 @@ fn acting<S: Surroundings>(asked: Act, here: Here, core: &Core, around: &S) -> W
             rd,
             address,
             operand,
-        } => locking(kind, rd, address, operand, here, around),
-        Act::Fence { .. } => going_on(0, 0, here.pc.wrapping_add(4)),
+        } => locking(
+            kind,
+            Operands {
+                rd,
+                address,
+                operand,
+            },
+            here,
+            around,
+        ),
+        Act::Fence { .. } => going_on(next_word(0, 0, here.pc)),
         Act::Call => calling(here, core),
         Act::Jumped { target } => faulting(FaultKind::Target, target, here.pc),
         Act::Broke => faulting(FaultKind::Break, 0, here.pc),
     }
 }
 
-/// Register `rd` takes the value, and the core goes on at `pc`.
-fn going_on(rd: u8, value: u32, pc: u32) -> Work
-    requires { rd < 32 }
-    ensures { result ≡ Work.Alone (Change.Continues (record { rd = rd; value = value; pc = pc })) }
+/// The core goes on, and nothing else changes.
+fn going_on(next: Continued) -> Work
+    ensures { result ≡ Work.Alone (Change.Continues next) }
 {
     Work::Alone {
-        change: Change::Continues {
-            next: Continued { rd, value, pc },
-        },
+        change: Change::Continues { next },
+    }
+}
+
+/// Register `rd` takes the value, and the core goes on at the word behind `pc`.
+fn next_word(rd: u8, value: u32, pc: u32) -> Continued
+    requires { rd < 32 }
+    ensures { result ≡ record { rd = rd; value = value; pc = word_sum pc 4 } }
+{
+    Continued {
+        rd,
+        value,
+        pc: pc.wrapping_add(4),
     }
 }
 
@@ -120,8 +141,22 @@ fn calling(here: Here, core: &Core) -> Work
         2 => Work::Alone {
             change: Change::Exits { value },
         },
-        3 => going_on(10, u32::from(here.hart), here.pc.wrapping_add(4)),
+        3 => going_on(next_word(10, u32::from(here.hart), here.pc)),
         _ => faulting(FaultKind::Call, kind, here.pc),
+    }
+}
+
+/// The access of so many bytes at an address.
+fn access(kind: AccessKind, address: u32, size: u8, here: Here) -> Access
+    requires domain { here.domain < 16 }
+    requires size { IsAccessSize size }
+    ensures { result ≡ record { kind = kind; domain = here.domain; address = address; size = size } }
+{
+    Access {
+        kind,
+        domain: here.domain,
+        address,
+        size,
     }
 }
 
@@ -148,17 +183,12 @@ fn loading<S: Surroundings>(kind: LoadKind, rd: u8, address: u32, here: Here, ar
     ensures fits { IsAlone result }
 {
     let size = load_size(kind);
-    let access = Access {
-        kind: AccessKind::Reads,
-        domain: here.domain,
-        address,
-        size,
-    };
+    let access = access(AccessKind::Reads, address, size, here);
     if let Some(fault) = denied(access, around) {
         return faulting(fault, address, here.pc);
     }
     let raw = number(Sight::Thread, here.domain, address, size, around);
-    going_on(rd, extend(kind, raw), here.pc.wrapping_add(4))
+    going_on(next_word(rd, extend(kind, raw), here.pc))
 }
 
 fn storing<S: Surroundings>(size: u8, address: u32, value: u32, here: Here, around: &S) -> Work
@@ -168,12 +198,7 @@ fn storing<S: Surroundings>(size: u8, address: u32, value: u32, here: Here, arou
         (S.stores around.now) (S.reserved around.now) result }
     ensures fits { WorkFits (act_of.Store size address value) here.domain result }
 {
-    let access = Access {
-        kind: AccessKind::WritesLater,
-        domain: here.domain,
-        address,
-        size,
-    };
+    let access = access(AccessKind::WritesLater, address, size, here);
     if let Some(fault) = denied(access, around) {
         return faulting(fault, address, here.pc);
     }
@@ -182,155 +207,108 @@ fn storing<S: Surroundings>(size: u8, address: u32, value: u32, here: Here, arou
         size,
         value,
     };
-    let next = Continued {
-        rd: 0,
-        value: 0,
-        pc: here.pc.wrapping_add(4),
-    };
     Work::Accesses {
         effect: AccessEffect::Buffers { store },
-        next,
+        next: next_word(0, 0, here.pc),
     }
 }
 
-fn locking<S: Surroundings>(
-    kind: LockedKind,
+/// What a locked operation names: the register that takes what it gives, the address of its word, and the
+/// operand of an SC or an AMO.
+#[derive(Clone, Copy, Debug, PartialEq, Eq)]
+struct Operands {
     rd: u8,
     address: u32,
     operand: u32,
-    here: Here,
-    around: &S,
-) -> Work
+}
+
+fn locking<S: Surroundings>(kind: LockedKind, of: Operands, here: Here, around: &S) -> Work
     requires domain { here.domain < 16 }
-    requires rd { rd < 32 }
-    ensures deed { IsWorkOf (locked_done kind rd address operand (around_of here.hart here.domain (S.bytes around.now) (S.perms around.now)) here.pc)
+    requires rd { of.rd < 32 }
+    ensures deed { IsWorkOf (locked_done kind of.rd of.address of.operand (around_of here.hart here.domain (S.bytes around.now) (S.perms around.now)) here.pc)
         (S.stores around.now) (S.reserved around.now) result }
-    ensures fits { WorkFits (act_of.Locked kind rd address operand) here.domain result }
+    ensures fits { WorkFits (act_of.Locked kind of.rd of.address of.operand) here.domain result }
 {
     match kind {
-        LockedKind::Lr => reserving(rd, address, here, around),
-        LockedKind::Sc => storing_if_reserved(rd, address, operand, here, around),
-        LockedKind::Amo { kind } => combining(kind, rd, address, operand, here, around),
+        LockedKind::Lr => reserving(of, here, around),
+        LockedKind::Sc => storing_if_reserved(of, here, around),
+        LockedKind::Amo { kind } => combining(kind, of, here, around),
     }
 }
 
 /// LR reads the word and reserves its granule.
-fn reserving<S: Surroundings>(rd: u8, address: u32, here: Here, around: &S) -> Work
+fn reserving<S: Surroundings>(of: Operands, here: Here, around: &S) -> Work
     requires domain { here.domain < 16 }
-    requires rd { rd < 32 }
-    ensures deed { IsWorkOf (load_reserved rd address (around_of here.hart here.domain (S.bytes around.now) (S.perms around.now)) here.pc)
+    requires rd { of.rd < 32 }
+    ensures deed { IsWorkOf (load_reserved of.rd of.address (around_of here.hart here.domain (S.bytes around.now) (S.perms around.now)) here.pc)
         (S.stores around.now) (S.reserved around.now) result }
-    ensures fits { WorkFits (act_of.Locked locked.Lr rd address 0) here.domain result }
+    ensures fits { WorkFits (act_of.Locked locked.Lr of.rd of.address of.operand) here.domain result }
 {
-    let access = Access {
-        kind: AccessKind::Reads,
-        domain: here.domain,
-        address,
-        size: 4,
-    };
+    let access = access(AccessKind::Reads, of.address, 4, here);
     if let Some(fault) = denied(access, around) {
-        return faulting(fault, address, here.pc);
+        return faulting(fault, of.address, here.pc);
     }
-    let value = number(Sight::Memory, here.domain, address, 4, around);
-    let next = Continued {
-        rd,
-        value,
-        pc: here.pc.wrapping_add(4),
-    };
+    let granule = access.place().granule();
+    let value = number(Sight::Memory, here.domain, of.address, 4, around);
     Work::Accesses {
-        effect: AccessEffect::Reserves {
-            granule: access.place().granule(),
-        },
-        next,
+        effect: AccessEffect::Reserves { granule },
+        next: next_word(of.rd, value, here.pc),
     }
 }
 
 /// SC stores and gives 0 where the thread's reservation is on the granule; else it gives 1, and the
 /// reservation goes.
-fn storing_if_reserved<S: Surroundings>(
-    rd: u8,
-    address: u32,
-    operand: u32,
-    here: Here,
-    around: &S,
-) -> Work
+fn storing_if_reserved<S: Surroundings>(of: Operands, here: Here, around: &S) -> Work
     requires domain { here.domain < 16 }
-    requires rd { rd < 32 }
-    ensures deed { IsWorkOf (store_conditional rd address operand (around_of here.hart here.domain (S.bytes around.now) (S.perms around.now)) here.pc)
+    requires rd { of.rd < 32 }
+    ensures deed { IsWorkOf (store_conditional of.rd of.address of.operand (around_of here.hart here.domain (S.bytes around.now) (S.perms around.now)) here.pc)
         (S.stores around.now) (S.reserved around.now) result }
-    ensures fits { WorkFits (act_of.Locked locked.Sc rd address operand) here.domain result }
+    ensures fits { WorkFits (act_of.Locked locked.Sc of.rd of.address of.operand) here.domain result }
 {
-    let access = Access {
-        kind: AccessKind::WritesAtOnce,
-        domain: here.domain,
-        address,
-        size: 4,
-    };
+    let access = access(AccessKind::WritesAtOnce, of.address, 4, here);
     if let Some(fault) = denied(access, around) {
-        return faulting(fault, address, here.pc);
+        return faulting(fault, of.address, here.pc);
     }
     if around.holds_reservation(access.place().granule()) {
-        return exchanging(rd, 0, address, operand, here.pc);
+        return exchanging(of, 0, of.operand, here.pc);
     }
-    let next = Continued {
-        rd,
-        value: 1,
-        pc: here.pc.wrapping_add(4),
-    };
     Work::Accesses {
         effect: AccessEffect::GivesUp,
-        next,
+        next: next_word(of.rd, 1, here.pc),
     }
 }
 
 /// An atomic memory operation reads the word and writes the combined one.
-fn combining<S: Surroundings>(
-    kind: AmoKind,
-    rd: u8,
-    address: u32,
-    operand: u32,
-    here: Here,
-    around: &S,
-) -> Work
+fn combining<S: Surroundings>(kind: AmoKind, of: Operands, here: Here, around: &S) -> Work
     requires domain { here.domain < 16 }
-    requires rd { rd < 32 }
-    ensures deed { IsWorkOf (atomic_done kind rd address operand (around_of here.hart here.domain (S.bytes around.now) (S.perms around.now)) here.pc)
+    requires rd { of.rd < 32 }
+    ensures deed { IsWorkOf (atomic_done kind of.rd of.address of.operand (around_of here.hart here.domain (S.bytes around.now) (S.perms around.now)) here.pc)
         (S.stores around.now) (S.reserved around.now) result }
-    ensures fits { WorkFits (act_of.Locked (locked.Amo kind) rd address operand) here.domain result }
+    ensures fits { WorkFits (act_of.Locked (locked.Amo kind) of.rd of.address of.operand) here.domain result }
 {
-    let access = Access {
-        kind: AccessKind::WritesAtOnce,
-        domain: here.domain,
-        address,
-        size: 4,
-    };
+    let access = access(AccessKind::WritesAtOnce, of.address, 4, here);
     if let Some(fault) = denied(access, around) {
-        return faulting(fault, address, here.pc);
+        return faulting(fault, of.address, here.pc);
     }
-    let old = number(Sight::Memory, here.domain, address, 4, around);
-    exchanging(rd, old, address, amo(kind, old, operand), here.pc)
+    let old = number(Sight::Memory, here.domain, of.address, 4, around);
+    exchanging(of, old, amo(kind, old, of.operand), here.pc)
 }
 
-/// Register `rd` takes a value, and in the same step the word takes effect in memory.
-fn exchanging(rd: u8, value: u32, address: u32, word: u32, pc: u32) -> Work
-    requires rd { rd < 32 }
-    requires aligned { address % 4 ≡ 0 }
-    ensures deed { (thread : Thread) → deed_of result thread ≡ exchanged rd value address word pc thread }
+/// The register takes a value, and in the same step the word takes effect in memory.
+fn exchanging(of: Operands, value: u32, word: u32, pc: u32) -> Work
+    requires rd { of.rd < 32 }
+    requires aligned { of.address % 4 ≡ 0 }
+    ensures deed { (thread : Thread) → deed_of result thread ≡ exchanged of.rd value of.address word pc thread }
     ensures stores { IsStoring result }
 {
     let store = Pending {
-        address,
+        address: of.address,
         size: 4,
         value: word,
     };
-    let next = Continued {
-        rd,
-        value,
-        pc: pc.wrapping_add(4),
-    };
     Work::Accesses {
         effect: AccessEffect::Stores { store },
-        next,
+        next: next_word(of.rd, value, pc),
     }
 }
 
@@ -360,7 +338,7 @@ fn number<S: Surroundings>(sight: Sight, domain: u8, address: u32, size: u8, aro
     requires domain { domain < 16 }
     requires size { IsAccessSize size }
     requires aligned { address % size ≡ 0 }
-    ensures { result ≡ number_of (byte_by sight (S.bytes around.now) domain (S.stores around.now)) address size }
+    ensures { result ≡ spelled_number (byte_by sight (S.bytes around.now) domain (S.stores around.now)) address size }
 {
     let first = u32::from(byte(sight, domain, address, around));
     if size == 1 {

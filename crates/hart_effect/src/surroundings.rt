@@ -1,3 +1,5 @@
+//! What a hart finds around it: the bytes, the permissions and its own buffered stores.
+
 ghost use Rattle.std.specs.Prelude.{◌≡◌, ℕ, List, Option, length};
 ghost use Rattle.hart_effect.specs.Deed.{holds_reservation};
 ghost use Rattle.mind_base.specs.Page.{PageView};

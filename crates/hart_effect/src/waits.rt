@@ -1,3 +1,5 @@
+//! Whether a hart must drain its buffer before its next instruction.
+
 ghost use Rattle.std.specs.Prelude.{◌≡◌, List, length};
 ghost use Rattle.hart_effect.specs.Deed.{wants_empty, is_store as is_store_of, must_wait as must_wait_of, drains_first as drains_first_of};
 ghost use Rattle.mind_base.specs.Pending.{PendingView};

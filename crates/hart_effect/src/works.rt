@@ -1,3 +1,5 @@
+//! What is left to do for an instruction: a change of the hart, and an effect on memory.
+
 use mind_base::{FaultKind, Granule, Pending};
 use std::marker::Model;
 

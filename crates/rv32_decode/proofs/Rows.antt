@@ -3,19 +3,14 @@ use Rattle.std.proofs.Common.{◌≡◌, ℕ, ℤ, Bool, cond, eqb, Option, Some
 use Rattle.std.specs.Option.{option_map}
 use Rattle.std.proofs.lemmas.Bool.{eqb-true}
 use Rattle.std.proofs.lemmas.Option.{none-some, same_Some}
-use Rattle.rv32_decode.specs.declared.instruction.BranchKind.{BranchKind}
-use Rattle.rv32_decode.specs.declared.instruction.LoadKind.{LoadKind}
-use Rattle.rv32_decode.specs.declared.instruction.StoreKind.{StoreKind}
-use Rattle.rv32_decode.specs.declared.instruction.OpImmKind.{OpImmKind}
-use Rattle.rv32_decode.specs.declared.instruction.OpKind.{OpKind}
 use Rattle.rv32_decode.specs.declared.instruction.AmoKind.{AmoKind}
 use Rattle.rv32_decode.specs.declared.instruction.AmoKind.TheVariants as amo
 use Rattle.rv32_decode.specs.declared.instruction.Instr.{Instr}
 use Rattle.rv32_decode.specs.declared.instruction.Instr.TheVariants.{Lui, Auipc, Jal, Jalr, Branch, Load, Store, OpImm, Op, Fence, Ecall, Ebreak, Lr, Sc, Amo}
-use Rattle.rv32_decode.specs.Fields.{field, opcode_of, rd_of, funct3_of, rs1_of, rs2_of, funct7_of, funct5_of, imm_i, imm_s, imm_b, imm_u, imm_j}
-use Rattle.rv32_decode.specs.Kinds.{branch_kind, load_kind, store_kind, op_imm_kind, op_kind, amo_kind, op_funct3, amo_funct5}
-use Rattle.rv32_decode.specs.Instr.{Spells, instr_of, row_of, jalr_of, branch_of, load_of, store_of, op_imm_of, op_of, fence_of, system_of, lr_of, amo_of, atomic_of, immediate_of, bit_of}
-use Rattle.rv32_decode.proofs.Codes.{chosen, option_map_some, branch_kind-code, branch_kind-at, load_kind-code, load_kind-at, store_kind-code, store_kind-at, op_imm_kind-code, op_imm_kind-at, op_kind-code, op_kind-at, amo_kind-code, amo_kind-at}
+use Rattle.rv32_decode.specs.Fields.{field, opcode_of, rd_of, funct3_of, rs1_of, rs2_of, funct7_of, funct5_of, imm_i}
+use Rattle.rv32_decode.specs.Kinds.{branch_kind, load_kind, store_kind, op_imm_kind, op_kind, amo_kind, branch_kinds, load_kinds, store_kinds, amo_kinds, branch_funct3, load_funct3, store_funct3, op_funct3, amo_funct5}
+use Rattle.rv32_decode.specs.Instr.{Spells, instr_of, row_of, jalr_of, branch_of, load_of, store_of, op_imm_of, op_of, fence_of, system_of, lr_of, amo_of, atomic_of, bit_of}
+use Rattle.rv32_decode.proofs.Codes.{chosen, option_map_some, code_found, branch_kind-at, load_kind-at, store_kind-at, op_imm_kind-code, op_imm_kind-at, op_kind-code, op_kind-at, amo_kind-at}
 
 -- ---- what is read is spelled
 
@@ -26,18 +21,6 @@ when a b x y i e f g = chosen (eqb a b) x y (Some i) e (λ t s. f (eqb-true a b 
 spelled : (w : ℕ) (i j : Instr) → Spells w i → Some i ≡ Some j → Spells w j
 spelled w i j s e = subst (Spells w) (same_Some i j e) s
 
-lui_spelled : (w : ℕ) → opcode_of w ≡ 0b0110111 → Spells w (Lui (rd_of w) (imm_u w))
-unfolding Spells
-lui_spelled w h = (h, refl, refl)
-
-auipc_spelled : (w : ℕ) → opcode_of w ≡ 0b0010111 → Spells w (Auipc (rd_of w) (imm_u w))
-unfolding Spells
-auipc_spelled w h = (h, refl, refl)
-
-jal_spelled : (w : ℕ) → opcode_of w ≡ 0b1101111 → Spells w (Jal (rd_of w) (imm_j w))
-unfolding Spells
-jal_spelled w h = (h, refl, refl)
-
 jalr_spelled : (w : ℕ) (i : Instr) → opcode_of w ≡ 0b1100111 → jalr_of w ≡ Some i → Spells w i
 unfolding Spells jalr_of
 jalr_spelled w i h e =
@@ -45,35 +28,9 @@ jalr_spelled w i h e =
     (λ c s. spelled w (Jalr (rd_of w) (rs1_of w) (imm_i w)) i (h, c, refl, refl, refl) s)
     (λ n. absurd (none-some i n))
 
-branch_spelled : (w : ℕ) (i : Instr) → opcode_of w ≡ 0b1100011 → branch_of w ≡ Some i → Spells w i
-unfolding Spells branch_of
-branch_spelled w i h e =
-    option_map_some (λ kind. Branch kind (rs1_of w) (rs2_of w) (imm_b w)) (branch_kind (funct3_of w)) i e
-    (λ k found s. subst (Spells w) s (h, branch_kind-code (funct3_of w) k found, refl, refl, refl))
-
-load_spelled : (w : ℕ) (i : Instr) → opcode_of w ≡ 0b0000011 → load_of w ≡ Some i → Spells w i
-unfolding Spells load_of
-load_spelled w i h e =
-    option_map_some (λ kind. Load kind (rd_of w) (rs1_of w) (imm_i w)) (load_kind (funct3_of w)) i e
-    (λ k found s. subst (Spells w) s (h, load_kind-code (funct3_of w) k found, refl, refl, refl))
-
-store_spelled : (w : ℕ) (i : Instr) → opcode_of w ≡ 0b0100011 → store_of w ≡ Some i → Spells w i
-unfolding Spells store_of
-store_spelled w i h e =
-    option_map_some (λ kind. Store kind (rs1_of w) (rs2_of w) (imm_s w)) (store_kind (funct3_of w)) i e
-    (λ k found s. subst (Spells w) s (h, store_kind-code (funct3_of w) k found, refl, refl, refl))
-
-op_imm_spelled : (w : ℕ) (i : Instr) → opcode_of w ≡ 0b0010011 → op_imm_of w ≡ Some i → Spells w i
-unfolding Spells op_imm_of
-op_imm_spelled w i h e =
-    option_map_some (λ kind. OpImm kind (rd_of w) (rs1_of w) (immediate_of kind w)) (op_imm_kind (funct3_of w) (funct7_of w)) i e
-    (λ k found s. let both = op_imm_kind-code (funct3_of w) (funct7_of w) k found in subst (Spells w) s (h, both.0, both.1, refl, refl, refl))
-
-op_spelled : (w : ℕ) (i : Instr) → opcode_of w ≡ 0b0110011 → op_of w ≡ Some i → Spells w i
-unfolding Spells op_of
-op_spelled w i h e =
-    option_map_some (λ kind. Op kind (rd_of w) (rs1_of w) (rs2_of w)) (op_kind (funct3_of w) (funct7_of w)) i e
-    (λ k found s. let both = op_kind-code (funct3_of w) (funct7_of w) k found in subst (Spells w) s (h, both.0, both.1, refl, refl, refl))
+-- what a kind that was found is made into
+kind_spelled : {K : Type 0} (w : ℕ) (i : Instr) (make : K → Instr) (found : Option K) → option_map make found ≡ Some i → ((k : K) → found ≡ Some k → Spells w (make k)) → Spells w i
+kind_spelled w i make found e each = option_map_some make found i e (λ k is s. subst (Spells w) s (each k is))
 
 fence_spelled : (w : ℕ) (i : Instr) → opcode_of w ≡ 0b0001111 → fence_of w ≡ Some i → Spells w i
 unfolding Spells fence_of
@@ -103,8 +60,7 @@ lr_spelled w i h k f e =
 amo_spelled : (w : ℕ) (i : Instr) → opcode_of w ≡ 0b0101111 → funct3_of w ≡ 0b010 → amo_of w ≡ Some i → Spells w i
 unfolding Spells amo_of
 amo_spelled w i h c e =
-    option_map_some (λ kind. Amo kind (rd_of w) (rs1_of w) (rs2_of w) (bit_of w 26) (bit_of w 25)) (amo_kind (funct5_of w)) i e
-    (λ k found s. subst (Spells w) s (h, c, amo_kind-code (funct5_of w) k found, refl, refl, refl, refl, refl))
+    kind_spelled w i _ _ e (λ k found. (h, c, code_found amo_funct5 amo_kinds (funct5_of w) k found, refl, refl, refl, refl, refl))
 
 atomic_spelled : (w : ℕ) (i : Instr) → opcode_of w ≡ 0b0101111 → atomic_of w ≡ Some i → Spells w i
 unfolding Spells atomic_of
@@ -119,17 +75,17 @@ atomic_spelled w i h e =
     (λ n. absurd (none-some i n))
 
 row_spelled : (o w : ℕ) (i : Instr) → opcode_of w ≡ o → row_of o w ≡ Some i → Spells w i
-unfolding row_of
+unfolding row_of Spells branch_of load_of store_of op_imm_of op_of
 row_spelled o w i h e =
-    when o 0b0110111 _ _ i e (λ c s. spelled w _ i (lui_spelled w (h ∙ c)) s) (λ e.
-    when o 0b0010111 _ _ i e (λ c s. spelled w _ i (auipc_spelled w (h ∙ c)) s) (λ e.
-    when o 0b1101111 _ _ i e (λ c s. spelled w _ i (jal_spelled w (h ∙ c)) s) (λ e.
+    when o 0b0110111 _ _ i e (λ c s. spelled w _ i (h ∙ c, refl, refl) s) (λ e.
+    when o 0b0010111 _ _ i e (λ c s. spelled w _ i (h ∙ c, refl, refl) s) (λ e.
+    when o 0b1101111 _ _ i e (λ c s. spelled w _ i (h ∙ c, refl, refl) s) (λ e.
     when o 0b1100111 _ _ i e (λ c s. jalr_spelled w i (h ∙ c) s) (λ e.
-    when o 0b1100011 _ _ i e (λ c s. branch_spelled w i (h ∙ c) s) (λ e.
-    when o 0b0000011 _ _ i e (λ c s. load_spelled w i (h ∙ c) s) (λ e.
-    when o 0b0100011 _ _ i e (λ c s. store_spelled w i (h ∙ c) s) (λ e.
-    when o 0b0010011 _ _ i e (λ c s. op_imm_spelled w i (h ∙ c) s) (λ e.
-    when o 0b0110011 _ _ i e (λ c s. op_spelled w i (h ∙ c) s) (λ e.
+    when o 0b1100011 _ _ i e (λ c s. kind_spelled w i _ _ s (λ k found. (h ∙ c, code_found branch_funct3 branch_kinds (funct3_of w) k found, refl, refl, refl))) (λ e.
+    when o 0b0000011 _ _ i e (λ c s. kind_spelled w i _ _ s (λ k found. (h ∙ c, code_found load_funct3 load_kinds (funct3_of w) k found, refl, refl, refl))) (λ e.
+    when o 0b0100011 _ _ i e (λ c s. kind_spelled w i _ _ s (λ k found. (h ∙ c, code_found store_funct3 store_kinds (funct3_of w) k found, refl, refl, refl))) (λ e.
+    when o 0b0010011 _ _ i e (λ c s. kind_spelled w i _ _ s (λ k found. let both = op_imm_kind-code (funct3_of w) (funct7_of w) k found in (h ∙ c, both.0, both.1, refl, refl, refl))) (λ e.
+    when o 0b0110011 _ _ i e (λ c s. kind_spelled w i _ _ s (λ k found. let both = op_kind-code (funct3_of w) (funct7_of w) k found in (h ∙ c, both.0, both.1, refl, refl, refl))) (λ e.
     when o 0b0001111 _ _ i e (λ c s. fence_spelled w i (h ∙ c) s) (λ e.
     when o 0b1110011 _ _ i e (λ c s. system_spelled w i s) (λ e.
     when o 0b0101111 _ _ i e (λ c s. atomic_spelled w i (h ∙ c) s) (λ e.
@@ -146,30 +102,9 @@ unfolding Spells jalr_of
 jalr_read w rd rs1 offset h =
     ap (λ f. cond (eqb f 0) (Some (Jalr (rd_of w) (rs1_of w) (imm_i w))) None) h.1 ∙ cc
 
-branch_read : (w : ℕ) (kind : BranchKind) (rs1 rs2 : ℕ) (offset : ℤ) → Spells w (Branch kind rs1 rs2 offset) → branch_of w ≡ Some (Branch kind rs1 rs2 offset)
-unfolding Spells branch_of
-branch_read w kind rs1 rs2 offset h =
-    ap (option_map (λ kind. Branch kind (rs1_of w) (rs2_of w) (imm_b w))) (ap branch_kind h.1 ∙ branch_kind-at kind) ∙ cc
-
-load_read : (w : ℕ) (kind : LoadKind) (rd rs1 : ℕ) (offset : ℤ) → Spells w (Load kind rd rs1 offset) → load_of w ≡ Some (Load kind rd rs1 offset)
-unfolding Spells load_of
-load_read w kind rd rs1 offset h =
-    ap (option_map (λ kind. Load kind (rd_of w) (rs1_of w) (imm_i w))) (ap load_kind h.1 ∙ load_kind-at kind) ∙ cc
-
-store_read : (w : ℕ) (kind : StoreKind) (rs1 rs2 : ℕ) (offset : ℤ) → Spells w (Store kind rs1 rs2 offset) → store_of w ≡ Some (Store kind rs1 rs2 offset)
-unfolding Spells store_of
-store_read w kind rs1 rs2 offset h =
-    ap (option_map (λ kind. Store kind (rs1_of w) (rs2_of w) (imm_s w))) (ap store_kind h.1 ∙ store_kind-at kind) ∙ cc
-
-op_imm_read : (w : ℕ) (kind : OpImmKind) (rd rs1 : ℕ) (imm : ℤ) → Spells w (OpImm kind rd rs1 imm) → op_imm_of w ≡ Some (OpImm kind rd rs1 imm)
-unfolding Spells op_imm_of
-op_imm_read w kind rd rs1 imm h =
-    ap (option_map (λ kind. OpImm kind (rd_of w) (rs1_of w) (immediate_of kind w))) (ap (λ f. op_imm_kind f (funct7_of w)) h.1 ∙ op_imm_kind-at kind (funct7_of w) h.2) ∙ cc
-
-op_read : (w : ℕ) (kind : OpKind) (rd rs1 rs2 : ℕ) → Spells w (Op kind rd rs1 rs2) → op_of w ≡ Some (Op kind rd rs1 rs2)
-unfolding Spells op_of
-op_read w kind rd rs1 rs2 h =
-    ap (option_map (λ kind. Op kind (rd_of w) (rs1_of w) (rs2_of w))) (ap (λ f. op_kind f (funct7_of w)) h.1 ∙ ap (op_kind (op_funct3 kind)) h.2 ∙ op_kind-at kind) ∙ cc
+-- what a kind at its code is made into
+kind_read : {K : Type 0} (make : K → Instr) (found : Option K) (k : K) (i : Instr) → found ≡ Some k → make k ≡ i → option_map make found ≡ Some i
+kind_read make found k i e is = ap (option_map make) e ∙ ap Some is
 
 fence_read : (w fm pred succ rd rs1 : ℕ) → Spells w (Fence fm pred succ rd rs1) → fence_of w ≡ Some (Fence fm pred succ rd rs1)
 unfolding Spells fence_of
@@ -194,35 +129,28 @@ sc_read w rd rs1 rs2 aq rl h = atomic_at w h.1 3 h.2 ∙ cc
 -- no AMO has the code of LR or SC
 amo_at : (w : ℕ) (kind : AmoKind) (x y : Option Instr) → cond (eqb (amo_funct5 kind) 2) x (cond (eqb (amo_funct5 kind) 3) y (amo_of w)) ≡ amo_of w
 amo_at w amo.Swap x y = refl
-amo_at w amo.Add x y = refl
-amo_at w amo.Xor x y = refl
-amo_at w amo.And x y = refl
-amo_at w amo.Or x y = refl
-amo_at w amo.Min x y = refl
-amo_at w amo.Max x y = refl
-amo_at w amo.Minu x y = refl
-amo_at w amo.Maxu x y = refl
+amo_at w _ x y = refl
 
 amo_read : (w : ℕ) (kind : AmoKind) (rd rs1 rs2 : ℕ) (aq rl : Bool) → Spells w (Amo kind rd rs1 rs2 aq rl) → atomic_of w ≡ Some (Amo kind rd rs1 rs2 aq rl)
 unfolding Spells amo_of
 amo_read w kind rd rs1 rs2 aq rl h =
-    atomic_at w h.1 (amo_funct5 kind) h.2 ∙ amo_at w kind _ _ ∙ ap (option_map (λ kind. Amo kind (rd_of w) (rs1_of w) (rs2_of w) (bit_of w 26) (bit_of w 25))) (ap amo_kind h.2 ∙ amo_kind-at kind) ∙ cc
+    atomic_at w h.1 (amo_funct5 kind) h.2 ∙ amo_at w kind _ _ ∙ kind_read _ _ kind _ (ap amo_kind h.2 ∙ amo_kind-at kind) cc
 
 at_opcode : (w o : ℕ) → opcode_of w ≡ o → instr_of w ≡ row_of o w
 unfolding instr_of
 at_opcode w o h = ap (λ o. row_of o w) h
 
 pub spelled-instr_of : (w : ℕ) (i : Instr) → Spells w i → instr_of w ≡ Some i
-unfolding Spells row_of system_of instr_of
+unfolding Spells row_of system_of instr_of branch_of load_of store_of op_imm_of op_of
 spelled-instr_of w (Lui rd imm) h = at_opcode w 0b0110111 h.0 ∙ cc
 spelled-instr_of w (Auipc rd imm) h = at_opcode w 0b0010111 h.0 ∙ cc
 spelled-instr_of w (Jal rd offset) h = at_opcode w 0b1101111 h.0 ∙ cc
 spelled-instr_of w (Jalr rd rs1 offset) h = at_opcode w 0b1100111 h.0 ∙ jalr_read w rd rs1 offset h
-spelled-instr_of w (Branch kind rs1 rs2 offset) h = at_opcode w 0b1100011 h.0 ∙ branch_read w kind rs1 rs2 offset h
-spelled-instr_of w (Load kind rd rs1 offset) h = at_opcode w 0b0000011 h.0 ∙ load_read w kind rd rs1 offset h
-spelled-instr_of w (Store kind rs1 rs2 offset) h = at_opcode w 0b0100011 h.0 ∙ store_read w kind rs1 rs2 offset h
-spelled-instr_of w (OpImm kind rd rs1 imm) h = at_opcode w 0b0010011 h.0 ∙ op_imm_read w kind rd rs1 imm h
-spelled-instr_of w (Op kind rd rs1 rs2) h = at_opcode w 0b0110011 h.0 ∙ op_read w kind rd rs1 rs2 h
+spelled-instr_of w (Branch kind rs1 rs2 offset) h = at_opcode w 0b1100011 h.0 ∙ kind_read _ _ kind _ (ap branch_kind h.1 ∙ branch_kind-at kind) cc
+spelled-instr_of w (Load kind rd rs1 offset) h = at_opcode w 0b0000011 h.0 ∙ kind_read _ _ kind _ (ap load_kind h.1 ∙ load_kind-at kind) cc
+spelled-instr_of w (Store kind rs1 rs2 offset) h = at_opcode w 0b0100011 h.0 ∙ kind_read _ _ kind _ (ap store_kind h.1 ∙ store_kind-at kind) cc
+spelled-instr_of w (OpImm kind rd rs1 imm) h = at_opcode w 0b0010011 h.0 ∙ kind_read _ _ kind _ (ap (λ f. op_imm_kind f (funct7_of w)) h.1 ∙ op_imm_kind-at kind (funct7_of w) h.2) cc
+spelled-instr_of w (Op kind rd rs1 rs2) h = at_opcode w 0b0110011 h.0 ∙ kind_read _ _ kind _ (ap (λ f. op_kind f (funct7_of w)) h.1 ∙ ap (op_kind (op_funct3 kind)) h.2 ∙ op_kind-at kind) cc
 spelled-instr_of w (Fence fm pred succ rd rs1) h = at_opcode w 0b0001111 h.0 ∙ fence_read w fm pred succ rd rs1 h
 spelled-instr_of w Ecall h = ap instr_of h
 spelled-instr_of w Ebreak h = ap instr_of h

@@ -14,7 +14,7 @@ use Rattle.rv32_decode.specs.Kinds.{branch_funct3, load_funct3, store_funct3, op
 use Rattle.rv32_decode.specs.Instr.{Spells, Fits, IsSigned, IsEven, word_of, op_imm_word, bit_of, word_with, i_word, s_word, b_word, u_word, j_word, ordered}
 use Rattle.rv32_decode.proofs.Immediates.{complement-sign_extended, sign_extended-complement, complement_below, IsSigned-sign_extended, IsEven-sign_extended, complement-even}
 use Rattle.rv32_decode.proofs.Words.{atomic-fields, HasFields, HasFields-word_with, HasUpper, HasUpper-u_word, HasJump, HasJump-j_word, i_bits-i_word, s_bits-s_word, b_bits-b_word, ordered-below, funct5-ordered, aq-ordered, rl-ordered}
-use Rattle.rv32_decode.proofs.Codes.{branch_funct3-below, load_funct3-below, store_funct3-below, op_imm_funct3-below, shift_funct7-below, op_funct3-below, op_funct7-below, amo_funct5-below, allows_funct7-shift, allows_funct7-at, allows_funct7-other}
+use Rattle.rv32_decode.proofs.Codes.{allows_funct7-shift, allows_funct7-at, allows_funct7-other}
 
 -- ---- what is spelled has one word
 
@@ -154,14 +154,14 @@ branch_spells kind rs1 rs2 z r s h e =
     let bits : ℕ = complement (2 ^ 12) z in
     let below : bits < 2 ^ 13 = complement_below (2 ^ 12) z h in
     let w : ℕ = b_word bits rs2 rs1 (branch_funct3 kind) 0b1100011 in
-    let f : HasFields _ rs2 rs1 (branch_funct3 kind) _ 0b1100011 w = b_format bits rs2 rs1 (branch_funct3 kind) 0b1100011 below s r (branch_funct3-below kind) (lit< tt) in
+    let f : HasFields _ rs2 rs1 (branch_funct3 kind) _ 0b1100011 w = b_format bits rs2 rs1 (branch_funct3 kind) 0b1100011 below s r (grind arith) (lit< tt) in
     (f.below, (f.opcode_is, f.funct3_is, sym f.rs1_is, sym f.rs2_is, signed_back (2 ^ 12) (b_bits w) z h (b_bits-b_word bits w rs2 rs1 (branch_funct3 kind) 0b1100011 below (complement-even (2 ^ 12) z h e) f)))
 
 load_spells : (kind : LoadKind) (rd rs1 : ℕ) (z : ℤ) → rd < 32 → rs1 < 32 → IsSigned (2 ^ 11) z → IsSpelled (Load kind rd rs1 z) (word_of (Load kind rd rs1 z))
 unfolding IsSpelled Spells word_of
 load_spells kind rd rs1 z r s h =
     let w : ℕ = i_word (complement (2 ^ 11) z) rs1 (load_funct3 kind) rd 0b0000011 in
-    let f : HasFields _ _ rs1 (load_funct3 kind) rd 0b0000011 w = i_format z rs1 (load_funct3 kind) rd 0b0000011 h s (load_funct3-below kind) r (lit< tt) in
+    let f : HasFields _ _ rs1 (load_funct3 kind) rd 0b0000011 w = i_format z rs1 (load_funct3 kind) rd 0b0000011 h s (grind arith) r (lit< tt) in
     (f.below, (f.opcode_is, f.funct3_is, sym f.rd_is, sym f.rs1_is, i_imm z w rs1 (load_funct3 kind) rd 0b0000011 h f))
 
 store_spells : (kind : StoreKind) (rs1 rs2 : ℕ) (z : ℤ) → rs1 < 32 → rs2 < 32 → IsSigned (2 ^ 11) z → IsSpelled (Store kind rs1 rs2 z) (word_of (Store kind rs1 rs2 z))
@@ -169,7 +169,7 @@ unfolding IsSpelled Spells word_of
 store_spells kind rs1 rs2 z r s h =
     let bits : ℕ = complement (2 ^ 11) z in
     let w : ℕ = s_word bits rs2 rs1 (store_funct3 kind) 0b0100011 in
-    let f : HasFields _ rs2 rs1 (store_funct3 kind) _ 0b0100011 w = s_format z rs2 rs1 (store_funct3 kind) 0b0100011 h s r (store_funct3-below kind) (lit< tt) in
+    let f : HasFields _ rs2 rs1 (store_funct3 kind) _ 0b0100011 w = s_format z rs2 rs1 (store_funct3 kind) 0b0100011 h s r (grind arith) (lit< tt) in
     (f.below, (f.opcode_is, f.funct3_is, sym f.rs1_is, sym f.rs2_is, signed_back (2 ^ 11) (s_bits w) z h (s_bits-s_word bits w rs2 rs1 (store_funct3 kind) 0b0100011 f)))
 
 -- a shift amount is its own word
@@ -183,7 +183,7 @@ op_imm_spells kind rd rs1 z r s true is h w e =
     let amount : (complement (2 ^ 11) z < 32) × (z ≡ pos (complement (2 ^ 11) z)) = shift_amount z h.0 h.1 in
     let f : HasFields (shift_funct7 kind) (complement (2 ^ 11) z) rs1 (op_imm_funct3 kind) rd 0b0010011 w =
     subst (HasFields (shift_funct7 kind) (complement (2 ^ 11) z) rs1 (op_imm_funct3 kind) rd 0b0010011) (sym e)
-    (HasFields-word_with (shift_funct7 kind) (complement (2 ^ 11) z) rs1 (op_imm_funct3 kind) rd 0b0010011 (shift_funct7-below kind) amount.0 s (op_imm_funct3-below kind) r (lit< tt)) in (
+    (HasFields-word_with (shift_funct7 kind) (complement (2 ^ 11) z) rs1 (op_imm_funct3 kind) rd 0b0010011 (grind arith) amount.0 s (grind arith) r (lit< tt)) in (
       f.below,
       (
         f.opcode_is,
@@ -197,7 +197,7 @@ op_imm_spells kind rd rs1 z r s true is h w e =
 op_imm_spells kind rd rs1 z r s false is h w e =
     let f : HasFields _ _ rs1 (op_imm_funct3 kind) rd 0b0010011 w =
     subst (HasFields (complement (2 ^ 11) z / 2 ^ 5) (complement (2 ^ 11) z % 2 ^ 5) rs1 (op_imm_funct3 kind) rd 0b0010011) (sym e)
-    (i_format z rs1 (op_imm_funct3 kind) rd 0b0010011 h s (op_imm_funct3-below kind) r (lit< tt)) in (
+    (i_format z rs1 (op_imm_funct3 kind) rd 0b0010011 h s (grind arith) r (lit< tt)) in (
       f.below,
       (
         f.opcode_is,
@@ -214,7 +214,7 @@ unfolding IsSpelled Spells word_of
 op_spells kind rd rs1 rs2 r s t =
     let w : ℕ = word_with (op_funct7 kind) rs2 rs1 (op_funct3 kind) rd 0b0110011 in
     let f : HasFields (op_funct7 kind) rs2 rs1 (op_funct3 kind) rd 0b0110011 w =
-    HasFields-word_with (op_funct7 kind) rs2 rs1 (op_funct3 kind) rd 0b0110011 (op_funct7-below kind) t s (op_funct3-below kind) r (lit< tt) in
+    HasFields-word_with (op_funct7 kind) rs2 rs1 (op_funct3 kind) rd 0b0110011 (grind arith) t s (grind arith) r (lit< tt) in
     (f.below, (f.opcode_is, f.funct3_is, f.funct7_is, sym f.rd_is, sym f.rs1_is, sym f.rs2_is))
 
 fence_parts : (w fm pred succ : ℕ) → fm < 16 → pred < 16 → succ < 16 → w < 2 ^ 32 → i_bits w ≡ fm * 2 ^ 8 + pred * 2 ^ 4 + succ → (fm ≡ field w 31 28) × (pred ≡ field w 27 24) × (succ ≡ field w 23 20)
@@ -254,7 +254,7 @@ unfolding IsSpelled Spells word_of
 amo_spells kind rd rs1 rs2 aq rl r s t =
     let funct5 : ℕ = amo_funct5 kind in
     let w : ℕ = word_with (ordered funct5 aq rl) rs2 rs1 2 rd 0b0101111 in
-    let f : HasFields (ordered funct5 aq rl) rs2 rs1 2 rd 0b0101111 w = atomic_format funct5 aq rl rs2 rs1 rd (amo_funct5-below kind) t s r in
+    let f : HasFields (ordered funct5 aq rl) rs2 rs1 2 rd 0b0101111 w = atomic_format funct5 aq rl rs2 rs1 rd (grind arith) t s r in
     (f.below, (f.opcode_is, f.funct3_is, funct5-ordered w funct5 aq rl f.below f.funct7_is, sym f.rd_is, sym f.rs1_is, sym f.rs2_is, aq-ordered w funct5 aq rl f.funct7_is, rl-ordered w funct5 aq rl f.funct7_is))
 
 -- the word of an instruction that fits spells it

@@ -7,6 +7,7 @@
 
 use super::*;
 use std::alloc::Global;
+use std::process::Abort;
 use std::test::Fail;
 
 static PROGRAMS: [(u32, &str); 43] = [
@@ -526,10 +527,10 @@ fn read(alloc: Global, word: u32) -> Result<(String, u32), Fail> {
     }
 }
 
-#[test]
-fn words_of_programs_are_read_and_written(rt: HostRuntime) -> Result<(), Fail> {
-    for (word, text) in &PROGRAMS {
-        let (found, again) = read(rt.alloc(), *word)?;
+/// Each word is read as its instruction, which is written as that word.
+fn both_ways(rt: &impl Abort, alloc: Global, rows: &[(u32, &str)]) -> Result<(), Fail> {
+    for (word, text) in rows {
+        let (found, again) = read(alloc, *word)?;
         assert_eq!(rt; found.as_str(), *text, "at {word:08x}");
         assert_eq!(rt; again, *word, "at {word:08x}");
     }
@@ -537,13 +538,13 @@ fn words_of_programs_are_read_and_written(rt: HostRuntime) -> Result<(), Fail> {
 }
 
 #[test]
+fn words_of_programs_are_read_and_written(rt: HostRuntime) -> Result<(), Fail> {
+    both_ways(&rt, rt.alloc(), &PROGRAMS)
+}
+
+#[test]
 fn each_row_at_its_extremes_is_read_and_written(rt: HostRuntime) -> Result<(), Fail> {
-    for (word, text) in &EXTREMES {
-        let (found, again) = read(rt.alloc(), *word)?;
-        assert_eq!(rt; found.as_str(), *text, "at {word:08x}");
-        assert_eq!(rt; again, *word, "at {word:08x}");
-    }
-    Ok(())
+    both_ways(&rt, rt.alloc(), &EXTREMES)
 }
 
 #[test]

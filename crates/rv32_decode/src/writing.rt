@@ -2,10 +2,10 @@
 
 ghost use Rattle.std.specs.Prelude.{◌≡◌, ◌<◌, ◌+◌, ◌*◌, ◌/◌, ◌^◌, ◌%◌, Some};
 ghost use Rattle.rv32_decode.specs.Fields.{complement};
-ghost use Rattle.rv32_decode.specs.Instr.{Spells, Fits, FitsImmediate, IsSigned, IsEven, instr_of, word_of, word_with, i_word, s_word, b_word, u_word, j_word, ordered, op_imm_word};
+ghost use Rattle.rv32_decode.specs.Instr.{Spells, Fits, FitsImmediate, IsSigned, IsEven, instr_of, word_of, word_with, i_word, u_word, j_word, ordered, op_imm_word};
 
 use crate::bits::unsigned;
-use crate::instruction::{Instr, OpImmKind};
+use crate::instruction::{BranchKind, Instr, OpImmKind, StoreKind};
 use crate::kinds;
 
 /// The word that spells an instruction whose fields fit their places.
@@ -27,25 +27,25 @@ fn word(instr: &Instr) -> u32
         Instr::Lui { rd, imm } => upper(imm, rd, 0b0110111),
         Instr::Auipc { rd, imm } => upper(imm, rd, 0b0010111),
         Instr::Jal { rd, offset } => jump(offset, rd, 0b1101111),
-        Instr::Jalr { rd, rs1, offset } => immediate(offset, rs1, 0b000, rd, 0b1100111),
+        Instr::Jalr { rd, rs1, offset } => immediate(low_bits(offset), rs1, 0b000, rd, 0b1100111),
         Instr::Branch {
             kind,
             rs1,
             rs2,
             offset,
-        } => branch(offset, rs2, rs1, kinds::branch_code(kind), 0b1100011),
+        } => branch(kind, rs1, rs2, offset),
         Instr::Load {
             kind,
             rd,
             rs1,
             offset,
-        } => immediate(offset, rs1, kinds::load_code(kind), rd, 0b0000011),
+        } => immediate(low_bits(offset), rs1, kinds::load_code(kind), rd, 0b0000011),
         Instr::Store {
             kind,
             rs1,
             rs2,
             offset,
-        } => store(offset, rs2, rs1, kinds::store_code(kind), 0b0100011),
+        } => store(kind, rs1, rs2, offset),
         Instr::OpImm { kind, rd, rs1, imm } => op_imm(kind, rd, rs1, imm),
         Instr::Op { kind, rd, rs1, rs2 } => joined(
             kinds::op_high_code(kind),
@@ -102,7 +102,7 @@ fn joined(funct7: u32, rs2: u8, rs1: u8, funct3: u32, rd: u8, opcode: u32) -> u3
 }
 
 /// Format I, where `bits` are those of the immediate.
-fn immediate_bits(bits: u32, rs1: u8, funct3: u32, rd: u8, opcode: u32) -> u32
+fn immediate(bits: u32, rs1: u8, funct3: u32, rd: u8, opcode: u32) -> u32
     requires bits { bits < 2 ^ 12 }
     requires rs1 { rs1 < 32 }
     requires funct3 { funct3 < 8 }
@@ -113,44 +113,37 @@ fn immediate_bits(bits: u32, rs1: u8, funct3: u32, rd: u8, opcode: u32) -> u32
     joined(bits / 32, (bits % 32) as u8, rs1, funct3, rd, opcode)
 }
 
-/// Format I.
-fn immediate(offset: i32, rs1: u8, funct3: u32, rd: u8, opcode: u32) -> u32
-    requires offset { IsSigned (2 ^ 11) offset }
-    requires rs1 { rs1 < 32 }
-    requires funct3 { funct3 < 8 }
-    requires rd { rd < 32 }
-    requires opcode { opcode < 128 }
-    ensures { result ≡ i_word (complement (2 ^ 11) offset) rs1 funct3 rd opcode }
+/// The twelve bits of an immediate of formats I and S.
+fn low_bits(immediate: i32) -> u32
+    requires { IsSigned (2 ^ 11) immediate }
+    ensures bits { result ≡ complement (2 ^ 11) immediate }
+    ensures below { result < 2 ^ 12 }
 {
-    immediate_bits(unsigned(offset, 1 << 11), rs1, funct3, rd, opcode)
+    unsigned(immediate, 1 << 11)
 }
 
-/// Format S.
-fn store(offset: i32, rs2: u8, rs1: u8, funct3: u32, opcode: u32) -> u32
-    requires offset { IsSigned (2 ^ 11) offset }
-    requires rs2 { rs2 < 32 }
-    requires rs1 { rs1 < 32 }
-    requires funct3 { funct3 < 8 }
-    requires opcode { opcode < 128 }
-    ensures { result ≡ s_word (complement (2 ^ 11) offset) rs2 rs1 funct3 opcode }
+/// A store: format S.
+#[tactic(auto, unfolding(crate::specs::Instr::word_of, crate::specs::Instr::Fits))]
+fn store(kind: StoreKind, rs1: u8, rs2: u8, offset: i32) -> u32
+    requires { Fits (Instr.Store kind rs1 rs2 offset) }
+    ensures { result ≡ word_of (Instr.Store kind rs1 rs2 offset) }
 {
-    let bits = unsigned(offset, 1 << 11);
-    joined(bits / 32, rs2, rs1, funct3, (bits % 32) as u8, opcode)
+    let bits = low_bits(offset);
+    let funct3 = kinds::store_code(kind);
+    joined(bits / 32, rs2, rs1, funct3, (bits % 32) as u8, 0b0100011)
 }
 
-/// Format B.
-fn branch(offset: i32, rs2: u8, rs1: u8, funct3: u32, opcode: u32) -> u32
-    requires offset { IsSigned (2 ^ 12) offset }
-    requires rs2 { rs2 < 32 }
-    requires rs1 { rs1 < 32 }
-    requires funct3 { funct3 < 8 }
-    requires opcode { opcode < 128 }
-    ensures { result ≡ b_word (complement (2 ^ 12) offset) rs2 rs1 funct3 opcode }
+/// A branch: format B.
+#[tactic(auto, unfolding(crate::specs::Instr::word_of, crate::specs::Instr::Fits))]
+fn branch(kind: BranchKind, rs1: u8, rs2: u8, offset: i32) -> u32
+    requires { Fits (Instr.Branch kind rs1 rs2 offset) }
+    ensures { result ≡ word_of (Instr.Branch kind rs1 rs2 offset) }
 {
     let bits = unsigned(offset, 1 << 12);
     let high = (bits / 4096) * 64 + bits / 32 % 64;
     let low = (bits / 2 % 16) * 2 + bits / 2048 % 2;
-    joined(high, rs2, rs1, funct3, low as u8, opcode)
+    let funct3 = kinds::branch_code(kind);
+    joined(high, rs2, rs1, funct3, low as u8, 0b1100011)
 }
 
 /// Format U.
@@ -194,7 +187,7 @@ fn op_imm(kind: OpImmKind, rd: u8, rs1: u8, imm: i32) -> u32
             0b0010011,
         )
     } else {
-        immediate(imm, rs1, funct3, rd, 0b0010011)
+        immediate(low_bits(imm), rs1, funct3, rd, 0b0010011)
     }
 }
 
@@ -207,7 +200,7 @@ fn fence(fm: u8, pred: u8, succ: u8, rd: u8, rs1: u8) -> u32
     ensures { result ≡ i_word (fm * 2 ^ 8 + pred * 2 ^ 4 + succ) rs1 0 rd 15 }
 {
     let bits = (u32::from(fm) << 8) + (u32::from(pred) << 4) + u32::from(succ);
-    immediate_bits(bits, rs1, 0b000, rd, 0b0001111)
+    immediate(bits, rs1, 0b000, rd, 0b0001111)
 }
 
 fn atomic(funct5: u32, aq: bool, rl: bool, rs2: u8, rs1: u8, rd: u8) -> u32

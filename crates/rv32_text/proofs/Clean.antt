@@ -1,17 +1,14 @@
 -- Lists of bytes of which all, or the last, pass a test, and where they are cut.
 use Rattle.std.proofs.Common.{◌≡◌, ℕ, suc, ◌+◌, ◌-◌, ◌<◌, Bool, true, false, not, ◌&&◌, List, [], ◌∷◌, ◌++◌, length, get_or, take, drop, refl, sym, ap, ◌∙◌, arith}
 use Rattle.std.specs.List.{list_all, prefix_len, suffix_len, position_or_len, before_first, after_first}
+use Rattle.std.proofs.lemmas.Bool.{and_parts}
 use Rattle.std.proofs.lemmas.List.{take_all, take_at, drop_at, get_or_at, length-append, append-nil, append_assoc}
 use Rattle.std.proofs.lemmas.List.Folds.{list_all-append}
 use Rattle.std.proofs.lemmas.List.Sums.{suffix_len-take_no}
-use Rattle.rv32_text.specs.Blank.{is_blank, without_blanks_before, without_blanks_behind, trimmed}
+use Rattle.plain_text.specs.Blank.{is_blank}
+use Rattle.rv32_text.specs.Blank.{without_blanks_before, without_blanks_behind, trimmed}
 
 -- ---- tests of all
-
-pub and_true : (a b : Bool) → (a && b) ≡ true → (a ≡ true) × (b ≡ true)
-and_true true true e = (refl, refl)
-and_true true false e = cc
-and_true false b e = cc
 
 pub both : (a b : Bool) → a ≡ true → b ≡ true → (a && b) ≡ true
 both a b p q = rw (p, q) refl
@@ -22,7 +19,7 @@ all_join p xs ys a b = list_all-append p xs ys ∙ both _ _ a b
 pub all_weaken : (p q : ℕ → Bool) → ((b : ℕ) → p b ≡ true → q b ≡ true) → (xs : List ℕ) → list_all p xs ≡ true → list_all q xs ≡ true
 all_weaken p q weaker [] e = refl
 all_weaken p q weaker (x ∷ xs) e =
-    let parts = and_true (p x) (list_all p xs) e in
+    let parts = and_parts (p x) (list_all p xs) e in
     both (q x) (list_all q xs) (weaker x parts.0) (all_weaken p q weaker xs parts.1)
 
 -- ---- cuts
@@ -30,7 +27,7 @@ all_weaken p q weaker (x ∷ xs) e =
 pub passes_through : (p : ℕ → Bool) (xs ys : List ℕ) → list_all p xs ≡ true → prefix_len p (xs ++ ys) ≡ length xs + prefix_len p ys
 passes_through p [] ys e = omega arith
 passes_through p (x ∷ xs) ys e =
-    let parts = and_true (p x) (list_all p xs) e in
+    let parts = and_parts (p x) (list_all p xs) e in
     let more = passes_through p xs ys parts.1 in
     rw parts.0 (omega (arith, more))
 
@@ -80,7 +77,7 @@ pub record Ends (p : ℕ → Bool) (xs : List ℕ) : Type 0 where
 
 pub starts : (p : ℕ → Bool) (xs : List ℕ) → list_all p xs ≡ true → 0 < length xs → Starts p xs
 starts p [] all some = absurd (omega arith)
-starts p (x ∷ xs) all some = record { first = x; behind = xs; is = refl; passes = (and_true (p x) (list_all p xs) all).0 }
+starts p (x ∷ xs) all some = record { first = x; behind = xs; is = refl; passes = (and_parts (p x) (list_all p xs) all).0 }
 
 pub starts_more : (p : ℕ → Bool) (xs ys : List ℕ) → Starts p xs → Starts p (xs ++ ys)
 starts_more p xs ys s = record { first = s.first; behind = s.behind ++ ys; is = ap (λ (zs : List ℕ). zs ++ ys) s.is; passes = s.passes }
@@ -93,9 +90,9 @@ ends_cons p x ys e = ends_behind p (x ∷ []) ys e
 
 pub ends : (p : ℕ → Bool) (xs : List ℕ) → list_all p xs ≡ true → 0 < length xs → Ends p xs
 ends p [] all some = absurd (omega arith)
-ends p (x ∷ []) all some = record { before = []; last = x; is = refl; passes = (and_true (p x) true all).0 }
+ends p (x ∷ []) all some = record { before = []; last = x; is = refl; passes = (and_parts (p x) true all).0 }
 ends p (x ∷ y ∷ xs) all some =
-    ends_cons p x (y ∷ xs) (ends p (y ∷ xs) (and_true (p x) (list_all p (y ∷ xs)) all).1 (omega arith))
+    ends_cons p x (y ∷ xs) (ends p (y ∷ xs) (and_parts (p x) (list_all p (y ∷ xs)) all).1 (omega arith))
 
 abbrev pub is_solid : ℕ → Bool
 is_solid b = not (is_blank b)

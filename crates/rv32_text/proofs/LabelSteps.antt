@@ -5,7 +5,7 @@ use Rattle.std.specs.Option.{option_or}
 use Rattle.std.specs.Str.{bytes_eq}
 use Rattle.std.proofs.lemmas.Slice.Eq.{bytes_eq-Decides}
 use Rattle.rv32_text.specs.declared.labels.Defined.{Defined}
-use Rattle.rv32_text.specs.Label.{items_on, label_of, defined_on, defined_from}
+use Rattle.rv32_text.specs.Label.{items_on, label_defined, defined_on, defined_from}
 
 or_assoc : {A : Type 0} (a b c : Option A) → option_or (option_or a b) c ≡ option_or a (option_or b c)
 or_assoc None b c = refl
@@ -70,8 +70,8 @@ pub none_from : (o : Option Defined) (b : Bool) → b ≡ is_some o → b ≡ fa
 none_from None b e f = refl
 none_from (Some x) b e f = cc
 
-pub defined_label : (line name cs : List ℕ) (place : Defined) → label_of line ≡ Some name → defined_on line place cs ≡ cond (bytes_eq cs name) (Some place) None
+pub defined_label : (line name cs : List ℕ) (place : Defined) → label_defined line ≡ Some name → defined_on line place cs ≡ cond (bytes_eq cs name) (Some place) None
 defined_label line name cs place e = rw e refl
 
-pub defined_none : (line cs : List ℕ) (place : Defined) → label_of line ≡ None → defined_on line place cs ≡ None
+pub defined_none : (line cs : List ℕ) (place : Defined) → label_defined line ≡ None → defined_on line place cs ≡ None
 defined_none line cs place e = rw e refl

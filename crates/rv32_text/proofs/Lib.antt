@@ -1,7 +1,6 @@
 pub mod Clean
 pub mod ItemsAgain
 pub mod LabelSteps
-pub mod LineCuts
 pub mod LinesAgain
 pub mod NamesAgain
 pub mod Numerals

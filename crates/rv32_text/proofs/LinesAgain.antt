@@ -1,5 +1,5 @@
 -- A written line is read as its row and its operands.
-use Rattle.std.proofs.Common.{◌≡◌, ℕ, ◌<◌, ◌≤◌, Bool, true, false, not, ◌&&◌, ◌||◌, ◌==◌, List, [], ◌∷◌, ◌++◌, length, refl, sym, ap, ◌∙◌, arith, Option, Some, Ok}
+use Rattle.std.proofs.Common.{◌≡◌, ℕ, ◌≤◌, Bool, true, false, not, ◌&&◌, ◌||◌, ◌==◌, List, [], ◌∷◌, ◌++◌, length, refl, sym, ap, ◌∙◌, arith, Option, Some, Ok}
 use Rattle.std.specs.Prelude.{nat_lt}
 use Rattle.std.specs.Char.{is_ascii_graphic}
 use Rattle.std.specs.List.{list_all}
@@ -8,11 +8,11 @@ use Rattle.std.proofs.lemmas.List.{append_assoc, length-append, drop_at, drop_al
 use Rattle.rv32_text.specs.declared.items.Item.{Item}
 use Rattle.rv32_text.specs.declared.labels.Defined.{Defined}
 use Rattle.rv32_text.specs.declared.rows.Row.{Row}
-use Rattle.rv32_text.specs.Blank.{is_blank, is_text}
+use Rattle.plain_text.specs.Blank.{is_blank, is_text}
 use Rattle.rv32_text.specs.Name.{row_name}
 use Rattle.rv32_text.specs.Label.{before_comment, has_colon, statement_of}
 use Rattle.rv32_text.specs.Operand.{operand_count}
-use Rattle.rv32_text.specs.Statement.{name_of, operands_of, operands_wanted, item_at, item_in, is_labelled, line_item}
+use Rattle.rv32_text.specs.Statement.{item_name, operands_of, operands_wanted, item_at, item_in, is_labelled, line_item}
 use Rattle.rv32_text.specs.Written.{with_one, with_two, with_three}
 use Rattle.rv32_text.proofs.Clean.{Lacks, all_join, all_weaken, cut_before, cut_place, uncut, uncut_place, Starts, Ends, starts_more, ends_behind, is_solid, kept}
 use Rattle.rv32_text.proofs.NamesAgain.{is_clean, IsPiece, piece, row_again}
@@ -44,7 +44,7 @@ pub record IsLine (line : List ℕ) : Type 0 where
   pub start : Starts is_solid line
   pub finish : Ends is_solid line
 
-line_text : (line : List ℕ) → IsLine line → is_text line ≡ true
+pub line_text : (line : List ℕ) → IsLine line → is_text line ≡ true
 line_text line l = all_weaken is_written (λ b. is_blank b || is_ascii_graphic b) written_text line l.written
 
 line_code : (line : List ℕ) → IsLine line → before_comment line ≡ line
@@ -61,9 +61,6 @@ line_statement line l = rw (line_colon line l) (kept line l.start l.finish)
 
 line_some : (line : List ℕ) → IsLine line → (length line == 0) ≡ false
 line_some line l = ne_eqb _ _ (λ e. omega (arith, e, ap length l.start.is))
-
-pub line_length : (line : List ℕ) → IsLine line → 0 < length line
-line_length line l = omega (arith, ap length l.start.is)
 
 abbrev pub Labels : Type 0
 Labels = List ℕ → Option Defined
@@ -88,7 +85,7 @@ same_number : (n : ℕ) → (n == n) ≡ true
 same_number n = eq-eqb n n refl
 
 reads_named : (labels : Labels) (items : ℕ) (r : Row) (statement operands : List ℕ) (item : Item)
-    → name_of statement ≡ row_name r → operands_of statement ≡ operands → operand_count operands ≡ operands_wanted r
+    → item_name statement ≡ row_name r → operands_of statement ≡ operands → operand_count operands ≡ operands_wanted r
     → item_at labels items r operands ≡ Ok item → item_in labels items statement ≡ Ok item
 unfolding item_in
 reads_named labels items r statement operands item name rest count read =

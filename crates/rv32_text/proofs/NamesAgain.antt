@@ -2,21 +2,21 @@
 use Rattle.std.proofs.Common.{◌≡◌, ℕ, zero, suc, ◌<◌, ◌≤◌, Bool, true, false, not, ◌&&◌, ◌==◌, List, [], ◌∷◌, ◌++◌, length, get_or, refl, subst, arith, inl, inr, Some, Ok}
 use Rattle.std.specs.Prelude.{nat_lt, nat_le}
 use Rattle.std.specs.List.{list_all}
-use Rattle.std.proofs.lemmas.Bool.{cases_lt, ltb-true, leb-true}
+use Rattle.std.proofs.lemmas.Bool.{and_parts, cases_lt, ltb-true, leb-true}
 use Rattle.rv32_decode.specs.declared.instruction.BranchKind.TheVariants as branch
 use Rattle.rv32_decode.specs.declared.instruction.LoadKind.TheVariants as load
 use Rattle.rv32_decode.specs.declared.instruction.StoreKind.TheVariants as store
 use Rattle.rv32_decode.specs.declared.instruction.OpImmKind.TheVariants as op_imm
 use Rattle.rv32_decode.specs.declared.instruction.OpKind.TheVariants as op
 use Rattle.rv32_decode.specs.declared.instruction.AmoKind.TheVariants as amo
+use Rattle.rv32_text.specs.declared.rows.Atomic.{Atomic}
 use Rattle.rv32_text.specs.declared.rows.Atomic.TheVariants as atomic
 use Rattle.rv32_text.specs.declared.rows.Row.{Row}
 use Rattle.rv32_text.specs.declared.rows.Row.TheVariants as row
 use Rattle.rv32_text.specs.Blank.{without_blanks_before, without_blanks_behind}
-use Rattle.rv32_text.specs.Name.{number_named, use_named, named_among, register_of, register_name, set_of, set_name, row_of, row_name, plain_of, atomic_of, ordered_of}
+use Rattle.rv32_text.specs.Name.{number_named, use_named, named_among, register_of, register_name, set_of, set_name, row_named, row_name, plain_of, atomic_of, ordered_of}
 use Rattle.rv32_text.specs.Operand.{enclosed_in, address_in}
 use Rattle.rv32_text.specs.Written.{address_text}
-use Rattle.rv32_text.proofs.Clean.{and_true}
 
 -- a byte that may stand in a name or an operand: it prints, and is no blank, #, comma or colon
 abbrev pub is_clean : ℕ → Bool
@@ -46,15 +46,15 @@ is_sized text = nat_lt 0 (length text) && nat_le (length text) 16
 
 pub piece : (text : List ℕ) → is_sized text ≡ true → list_all is_clean text ≡ true → IsPiece text
 piece text sized c =
-    let parts = and_true (nat_lt 0 (length text)) (nat_le (length text) 16) sized in
+    let parts = and_parts (nat_lt 0 (length text)) (nat_le (length text) 16) sized in
     record { some = ltb-true 0 (length text) parts.0; short = leb-true (length text) 16 parts.1; clean = c }
 
 -- a name of a table of names that are so short
 pub at_most : (size : ℕ) (names : List (List ℕ)) (place : ℕ) → list_all (λ name. nat_le (length name) size) names ≡ true → length (get_or names place []) ≤ size
 at_most size [] place e = omega arith
-at_most size (name ∷ names) zero e = leb-true (length name) size (and_true (nat_le (length name) size) (list_all (λ other. nat_le (length other) size) names) e).0
+at_most size (name ∷ names) zero e = leb-true (length name) size (and_parts (nat_le (length name) size) (list_all (λ other. nat_le (length other) size) names) e).0
 at_most size (name ∷ names) (suc place) e =
-    at_most size names place (and_true (nat_le (length name) size) (list_all (λ other. nat_le (length other) size) names) e).1
+    at_most size names place (and_parts (nat_le (length name) size) (list_all (λ other. nat_le (length other) size) names) e).1
 
 -- ---- registers
 
@@ -86,93 +86,26 @@ set_again n lt = each_below IsSet 16 n sets lt
 -- ---- rows
 
 abbrev pub IsRow : Row → Type 0
-IsRow r = (row_of (row_name r) ≡ Some r) × (is_sized (row_name r) ≡ true) × (list_all is_clean (row_name r) ≡ true)
+IsRow r = (row_named (row_name r) ≡ Some r) × (is_sized (row_name r) ≡ true) × (list_all is_clean (row_name r) ≡ true)
+
+-- one clause for one kind of a row, and one for the others
+atomic_again : (aq rl : Bool) (kind : Atomic) → IsRow (row.Atomic kind aq rl)
+unfolding row_named plain_of named_among atomic_of ordered_of
+atomic_again true true (atomic.Amo amo.Swap) = (refl, refl, refl)
+atomic_again true true _ = (refl, refl, refl)
+atomic_again true false (atomic.Amo amo.Swap) = (refl, refl, refl)
+atomic_again true false _ = (refl, refl, refl)
+atomic_again false true (atomic.Amo amo.Swap) = (refl, refl, refl)
+atomic_again false true _ = (refl, refl, refl)
+atomic_again false false (atomic.Amo amo.Swap) = (refl, refl, refl)
+atomic_again false false _ = (refl, refl, refl)
 
 pub row_again : (r : Row) → IsRow r
-unfolding row_of plain_of named_among atomic_of ordered_of
-row_again row.Lui = (refl, refl, refl)
-row_again row.Auipc = (refl, refl, refl)
-row_again row.Jal = (refl, refl, refl)
-row_again row.Jalr = (refl, refl, refl)
+unfolding row_named plain_of named_among atomic_of ordered_of
 row_again (row.Branch branch.Beq) = (refl, refl, refl)
-row_again (row.Branch branch.Bne) = (refl, refl, refl)
-row_again (row.Branch branch.Blt) = (refl, refl, refl)
-row_again (row.Branch branch.Bge) = (refl, refl, refl)
-row_again (row.Branch branch.Bltu) = (refl, refl, refl)
-row_again (row.Branch branch.Bgeu) = (refl, refl, refl)
 row_again (row.Load load.Lb) = (refl, refl, refl)
-row_again (row.Load load.Lh) = (refl, refl, refl)
-row_again (row.Load load.Lw) = (refl, refl, refl)
-row_again (row.Load load.Lbu) = (refl, refl, refl)
-row_again (row.Load load.Lhu) = (refl, refl, refl)
 row_again (row.Store store.Sb) = (refl, refl, refl)
-row_again (row.Store store.Sh) = (refl, refl, refl)
-row_again (row.Store store.Sw) = (refl, refl, refl)
 row_again (row.OpImm op_imm.Addi) = (refl, refl, refl)
-row_again (row.OpImm op_imm.Slti) = (refl, refl, refl)
-row_again (row.OpImm op_imm.Sltiu) = (refl, refl, refl)
-row_again (row.OpImm op_imm.Xori) = (refl, refl, refl)
-row_again (row.OpImm op_imm.Ori) = (refl, refl, refl)
-row_again (row.OpImm op_imm.Andi) = (refl, refl, refl)
-row_again (row.OpImm op_imm.Slli) = (refl, refl, refl)
-row_again (row.OpImm op_imm.Srli) = (refl, refl, refl)
-row_again (row.OpImm op_imm.Srai) = (refl, refl, refl)
 row_again (row.Op op.Add) = (refl, refl, refl)
-row_again (row.Op op.Sll) = (refl, refl, refl)
-row_again (row.Op op.Slt) = (refl, refl, refl)
-row_again (row.Op op.Sltu) = (refl, refl, refl)
-row_again (row.Op op.Xor) = (refl, refl, refl)
-row_again (row.Op op.Srl) = (refl, refl, refl)
-row_again (row.Op op.Or) = (refl, refl, refl)
-row_again (row.Op op.And) = (refl, refl, refl)
-row_again (row.Op op.Sub) = (refl, refl, refl)
-row_again (row.Op op.Sra) = (refl, refl, refl)
-row_again row.Fence = (refl, refl, refl)
-row_again row.FenceTso = (refl, refl, refl)
-row_again row.Ecall = (refl, refl, refl)
-row_again row.Ebreak = (refl, refl, refl)
-row_again (row.Atomic atomic.Lr true true) = (refl, refl, refl)
-row_again (row.Atomic atomic.Lr true false) = (refl, refl, refl)
-row_again (row.Atomic atomic.Lr false true) = (refl, refl, refl)
-row_again (row.Atomic atomic.Lr false false) = (refl, refl, refl)
-row_again (row.Atomic atomic.Sc true true) = (refl, refl, refl)
-row_again (row.Atomic atomic.Sc true false) = (refl, refl, refl)
-row_again (row.Atomic atomic.Sc false true) = (refl, refl, refl)
-row_again (row.Atomic atomic.Sc false false) = (refl, refl, refl)
-row_again (row.Atomic (atomic.Amo amo.Swap) true true) = (refl, refl, refl)
-row_again (row.Atomic (atomic.Amo amo.Swap) true false) = (refl, refl, refl)
-row_again (row.Atomic (atomic.Amo amo.Swap) false true) = (refl, refl, refl)
-row_again (row.Atomic (atomic.Amo amo.Swap) false false) = (refl, refl, refl)
-row_again (row.Atomic (atomic.Amo amo.Add) true true) = (refl, refl, refl)
-row_again (row.Atomic (atomic.Amo amo.Add) true false) = (refl, refl, refl)
-row_again (row.Atomic (atomic.Amo amo.Add) false true) = (refl, refl, refl)
-row_again (row.Atomic (atomic.Amo amo.Add) false false) = (refl, refl, refl)
-row_again (row.Atomic (atomic.Amo amo.Xor) true true) = (refl, refl, refl)
-row_again (row.Atomic (atomic.Amo amo.Xor) true false) = (refl, refl, refl)
-row_again (row.Atomic (atomic.Amo amo.Xor) false true) = (refl, refl, refl)
-row_again (row.Atomic (atomic.Amo amo.Xor) false false) = (refl, refl, refl)
-row_again (row.Atomic (atomic.Amo amo.And) true true) = (refl, refl, refl)
-row_again (row.Atomic (atomic.Amo amo.And) true false) = (refl, refl, refl)
-row_again (row.Atomic (atomic.Amo amo.And) false true) = (refl, refl, refl)
-row_again (row.Atomic (atomic.Amo amo.And) false false) = (refl, refl, refl)
-row_again (row.Atomic (atomic.Amo amo.Or) true true) = (refl, refl, refl)
-row_again (row.Atomic (atomic.Amo amo.Or) true false) = (refl, refl, refl)
-row_again (row.Atomic (atomic.Amo amo.Or) false true) = (refl, refl, refl)
-row_again (row.Atomic (atomic.Amo amo.Or) false false) = (refl, refl, refl)
-row_again (row.Atomic (atomic.Amo amo.Min) true true) = (refl, refl, refl)
-row_again (row.Atomic (atomic.Amo amo.Min) true false) = (refl, refl, refl)
-row_again (row.Atomic (atomic.Amo amo.Min) false true) = (refl, refl, refl)
-row_again (row.Atomic (atomic.Amo amo.Min) false false) = (refl, refl, refl)
-row_again (row.Atomic (atomic.Amo amo.Max) true true) = (refl, refl, refl)
-row_again (row.Atomic (atomic.Amo amo.Max) true false) = (refl, refl, refl)
-row_again (row.Atomic (atomic.Amo amo.Max) false true) = (refl, refl, refl)
-row_again (row.Atomic (atomic.Amo amo.Max) false false) = (refl, refl, refl)
-row_again (row.Atomic (atomic.Amo amo.Minu) true true) = (refl, refl, refl)
-row_again (row.Atomic (atomic.Amo amo.Minu) true false) = (refl, refl, refl)
-row_again (row.Atomic (atomic.Amo amo.Minu) false true) = (refl, refl, refl)
-row_again (row.Atomic (atomic.Amo amo.Minu) false false) = (refl, refl, refl)
-row_again (row.Atomic (atomic.Amo amo.Maxu) true true) = (refl, refl, refl)
-row_again (row.Atomic (atomic.Amo amo.Maxu) true false) = (refl, refl, refl)
-row_again (row.Atomic (atomic.Amo amo.Maxu) false true) = (refl, refl, refl)
-row_again (row.Atomic (atomic.Amo amo.Maxu) false false) = (refl, refl, refl)
-row_again row.Word = (refl, refl, refl)
+row_again (row.Atomic kind aq rl) = atomic_again aq rl kind
+row_again _ = (refl, refl, refl)

@@ -1,6 +1,6 @@
 -- The numbers that are written are read again.
-use Rattle.std.proofs.Common.{◌≡◌, ℕ, suc, ◌*◌, ◌/◌, ◌%◌, ◌<◌, ◌≤◌, ◌^◌, true, false, Bool, ◌&&◌, eqb, ltb, List, [], ◌∷◌, length, ap, refl, arith, Some, Ok}
-use Rattle.std.specs.Prelude.{nat_le, nat_eq, codes, ℤ, pos, negsuc, neg_ℤ, int_lt}
+use Rattle.std.proofs.Common.{◌≡◌, ℕ, suc, ◌+◌, ◌*◌, ◌/◌, ◌%◌, ◌<◌, ◌≤◌, ◌^◌, true, false, Bool, ◌&&◌, eqb, ltb, List, [], ◌∷◌, length, ap, refl, arith, Some, Ok}
+use Rattle.std.specs.Prelude.{nat_le, nat_eq, codes, ℤ, pos, negsuc, neg_ℤ, ◌≤ℤ◌, ◌<ℤ◌, int_lt}
 use Rattle.std.specs.List.{list_all, prefix_len, starts_with}
 use Rattle.std.specs.Char.{is_digit, is_ascii_digit, digit_value}
 use Rattle.std.specs.Str.Parse.{AllDigits, digits_value}
@@ -11,7 +11,7 @@ use Rattle.std.proofs.lemmas.Bool.{lt-ltb, le-ltb, le-leb, ne_eqb}
 use Rattle.std.proofs.lemmas.Int.{ints}
 use Rattle.mind_base.specs.Number.{numeral_of}
 use Rattle.rv32_decode.specs.Instr.{IsSigned, IsEven}
-use Rattle.rv32_text.specs.Number.{magnitude_of, integer_of, number_in, up_to, signed_within, even_within}
+use Rattle.rv32_text.specs.Number.{greatest_word, magnitude_of, integer_of, number_in, between, up_to, signed_within, even_within}
 use Rattle.rv32_text.specs.Written.{hex_glyph, word_text}
 use Rattle.rv32_text.proofs.Clean.{both, all_weaken}
 use Rattle.rv32_text.proofs.NamesAgain.{is_clean, IsPiece, EachBelow, each_below}
@@ -47,21 +47,18 @@ no_prefix (x ∷ y ∷ ds) all =
     let other : eqb 120 y ≡ false = ne_eqb 120 y (λ e. omega (arith, range.1)) in
     rw other (and_none _)
 
-abbrev most : ℕ
-most = 4294967295
-
-read_digits : (ds : List ℕ) (n : ℕ) → AllDigits 10 ds → 0 < length ds → digits_value 10 ds ≡ n → n ≤ most → numeral_of 10 0 ds most ≡ Ok n
+read_digits : (ds : List ℕ) (n : ℕ) → AllDigits 10 ds → 0 < length ds → digits_value 10 ds ≡ n → n ≤ greatest_word → numeral_of 10 0 ds greatest_word ≡ Ok n
 read_digits ds n all some value small =
     let e1 : eqb (length ds) 0 ≡ false = ne_eqb _ _ (λ e. omega arith) in
     let e2 : ltb (prefix_len (λ b. is_digit b 10) ds) (length ds) ≡ false = le-ltb _ _ (omega (arith, digits_whole ds all)) in
-    let e3 : nat_le (digits_value 10 ds) most ≡ true = le-leb _ _ (omega (arith, value)) in
+    let e3 : nat_le (digits_value 10 ds) greatest_word ≡ true = le-leb _ _ (omega (arith, value)) in
     rw (e1, e2, e3) (ap Ok value)
 
-read_number : (ds : List ℕ) (n : ℕ) → AllDigits 10 ds → 0 < length ds → digits_value 10 ds ≡ n → n ≤ most → magnitude_of ds ≡ Some n
+read_number : (ds : List ℕ) (n : ℕ) → AllDigits 10 ds → 0 < length ds → digits_value 10 ds ≡ n → n ≤ greatest_word → magnitude_of ds ≡ Some n
 unfolding magnitude_of
 read_number ds n all some value small = rw (no_prefix ds all, read_digits ds n all some value small) refl
 
-pub magnitude_again : (n : ℕ) → n ≤ most → magnitude_of (decimal n) ≡ Some n
+pub magnitude_again : (n : ℕ) → n ≤ greatest_word → magnitude_of (decimal n) ≡ Some n
 magnitude_again n small =
     read_number (decimal n) n (digits_decimal own n (omega arith)) (decimal_nonempty n (omega arith)) (digits_value-decimal own n (omega arith)) small
 
@@ -72,10 +69,10 @@ no_sign (x ∷ xs) all =
     let other : eqb 45 x ≡ false = ne_eqb 45 x (λ e. omega (arith, e, range.0)) in
     rw other refl
 
--- the magnitude of a number is at most 4294967295
+-- the magnitude of a number is at most the greatest word
 abbrev pub IsShort : ℤ → Type 0
-IsShort (pos n) = n ≤ most
-IsShort (negsuc n) = n < most
+IsShort (pos n) = n ≤ greatest_word
+IsShort (negsuc n) = n < greatest_word
 
 pub number_again : (z : ℤ) → IsShort z → number_in (signed_decimal z) ≡ Ok z
 unfolding number_in integer_of
@@ -87,21 +84,21 @@ number_again (negsuc n) small = rw (magnitude_again (suc n) (omega arith)) refl
 clean_digit : (b : ℕ) → is_ascii_digit b ≡ true → is_clean b ≡ true
 clean_digit b e = grind arith
 
-pub decimal_digits : (n : ℕ) → n ≤ most → list_all is_ascii_digit (decimal n) ≡ true
+pub decimal_digits : (n : ℕ) → n ≤ greatest_word → list_all is_ascii_digit (decimal n) ≡ true
 decimal_digits n small = digits_clean (decimal n) (digits_decimal own n (omega arith))
 
-decimal_clean : (n : ℕ) → n ≤ most → list_all is_clean (decimal n) ≡ true
+decimal_clean : (n : ℕ) → n ≤ greatest_word → list_all is_clean (decimal n) ≡ true
 decimal_clean n small =
     all_weaken is_ascii_digit is_clean clean_digit (decimal n) (decimal_digits n small)
 
-decimal_size : (n : ℕ) → n ≤ most → length (decimal n) ≤ 10
+decimal_size : (n : ℕ) → n ≤ greatest_word → length (decimal n) ≤ 10
 decimal_size n small = length-decimal-le 10 n (omega arith) (omega arith) (omega arith)
 
 pub signed_size : (z : ℤ) → IsShort z → length (signed_decimal z) ≤ 11
 signed_size (pos n) small = omega (arith, decimal_size n small)
 signed_size (negsuc n) small = omega (arith, decimal_size (suc n) (omega arith))
 
-pub decimal_piece : (n : ℕ) → n ≤ most → IsPiece (decimal n)
+pub decimal_piece : (n : ℕ) → n ≤ greatest_word → IsPiece (decimal n)
 decimal_piece n small =
     record { some = decimal_nonempty n (omega arith); short = omega (arith, decimal_size n small); clean = decimal_clean n small }
 
@@ -117,7 +114,7 @@ is_numeral_byte b = nat_le 45 b && nat_le b 57
 numeral_digit : (b : ℕ) → is_ascii_digit b ≡ true → is_numeral_byte b ≡ true
 numeral_digit b e = grind arith
 
-decimal_bytes : (n : ℕ) → n ≤ most → list_all is_numeral_byte (decimal n) ≡ true
+decimal_bytes : (n : ℕ) → n ≤ greatest_word → list_all is_numeral_byte (decimal n) ≡ true
 decimal_bytes n small =
     all_weaken is_ascii_digit is_numeral_byte numeral_digit (decimal n) (decimal_digits n small)
 
@@ -127,19 +124,20 @@ signed_bytes (negsuc n) small = decimal_bytes (suc n) (omega arith)
 
 -- ---- ranges
 
+between_again : (low above z : ℤ) → low ≤ℤ z → z <ℤ above → between low above z ≡ Ok z
+unfolding between
+between_again low above z from below =
+    let e1 : int_lt z low ≡ false = grind (arith, ints) in
+    let e2 : int_lt z above ≡ true = grind (arith, ints) in
+    rw (e1, e2) refl
+
 pub up_to_again : (limit n : ℕ) → n ≤ limit → up_to limit (pos n) ≡ Ok n
 unfolding up_to
-up_to_again limit n small =
-    let low : int_lt (pos n) (pos 0) ≡ false = le-ltb n 0 (omega arith) in
-    let high : int_lt (pos limit) (pos n) ≡ false = le-ltb limit n small in
-    rw (low, high) refl
+up_to_again limit n small = rw (between_again (pos 0) (pos (limit + 1)) (pos n) (omega (arith, ints)) (omega (arith, ints))) refl
 
 pub signed_again : (half : ℕ) (z : ℤ) → IsSigned half z → signed_within half z ≡ Ok z
 unfolding signed_within
-signed_again half z within =
-    let low : int_lt z (neg_ℤ (pos half)) ≡ false = grind (arith, ints) in
-    let high : int_lt z (pos half) ≡ true = grind (arith, ints) in
-    rw (low, high) refl
+signed_again half z within = between_again (neg_ℤ (pos half)) (pos half) z within.0 within.1
 
 pub even_again : (half : ℕ) (z : ℤ) → IsSigned half z → IsEven z → even_within half z ≡ Ok z
 unfolding even_within
@@ -174,7 +172,7 @@ hex_value w small =
 pub word_again : (w : ℕ) → w < 2 ^ 32 → number_in (word_text w) ≡ Ok (pos w)
 unfolding number_in integer_of magnitude_of
 word_again w small =
-    let e3 : nat_le (digits_value 16 (hex_digits w)) most ≡ true = le-leb _ _ (omega (arith, hex_value w small)) in
+    let e3 : nat_le (digits_value 16 (hex_digits w)) greatest_word ≡ true = le-leb _ _ (omega (arith, hex_value w small)) in
     rw (hex_whole w, e3, hex_value w small) refl
 
 pub word_piece : (w : ℕ) → IsPiece (word_text w)

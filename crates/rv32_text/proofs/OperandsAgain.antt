@@ -2,12 +2,12 @@
 use Rattle.std.proofs.Common.{◌≡◌, ℕ, suc, ◌+◌, Bool, true, false, not, ◌==◌, List, [], ◌∷◌, ◌++◌, length, filter, refl, sym, ap, ◌∙◌, arith}
 use Rattle.std.specs.Prelude.{count_by}
 use Rattle.std.specs.List.{list_all, after_first}
-use Rattle.std.proofs.lemmas.Bool.{ne_eqb}
+use Rattle.std.proofs.lemmas.Bool.{ne_eqb, and_parts}
 use Rattle.std.proofs.lemmas.List.{append-nil}
 use Rattle.std.proofs.lemmas.List.Sums.{length-filter}
 use Rattle.rv32_text.specs.Blank.{without_blanks_before, without_blanks_behind, trimmed}
 use Rattle.rv32_text.specs.Operand.{operand_count, first_operand, second_operand, third_operand}
-use Rattle.rv32_text.proofs.Clean.{Lacks, and_true, not_true, all_weaken, cut_before, cut_behind, uncut, Starts, Ends, starts, ends, starts_more, ends_behind, is_solid, space_trimmed}
+use Rattle.rv32_text.proofs.Clean.{Lacks, not_true, all_weaken, cut_before, cut_behind, uncut, Starts, Ends, starts, ends, starts_more, ends_behind, is_solid, space_trimmed}
 use Rattle.rv32_text.proofs.NamesAgain.{is_clean, IsPiece}
 
 abbrev pub is_comma : ℕ → Bool
@@ -62,7 +62,7 @@ third_alone a b c p q r = ap second_operand (behind_first a (32 ∷ (b ++ 44 ∷
 commas_through : (xs ys : List ℕ) → Lacks is_comma xs → length (filter is_comma (xs ++ ys)) ≡ length (filter is_comma ys)
 commas_through [] ys lacks = refl
 commas_through (x ∷ xs) ys lacks =
-    let parts = and_true (not (is_comma x)) (list_all (λ b. not (is_comma b)) xs) lacks in
+    let parts = and_parts (not (is_comma x)) (list_all (λ b. not (is_comma b)) xs) lacks in
     rw (not_true (is_comma x) parts.0) (commas_through xs ys parts.1)
 
 counted : (xs : List ℕ) (n : ℕ) → length (filter is_comma xs) ≡ n → count_by is_comma xs ≡ n

@@ -1,4 +1,4 @@
--- Reading lines one after the other, as a loop does, and what an image has of the items that were read.
+-- What an image has of the items that were read.
 use Rattle.std.proofs.Common.{◌≡◌, ℕ, zero, suc, ◌+◌, ◌*◌, ◌<◌, ◌≤◌, ◌^◌, false, ◌==◌, List, [], ◌∷◌, ◌++◌, length, get_or, take, drop, Result, Ok, Err, refl, sym, ap, ◌∙◌, subst, arith}
 use Rattle.std.specs.Prelude.{IfOk}
 use Rattle.std.specs.List.{AllByRecursion, flat_map}
@@ -10,42 +10,22 @@ use Rattle.std.proofs.lemmas.Nat.{from_le_bytes-to_le_bytes_4}
 use Rattle.rv32_decode.specs.Instr.{word_of}
 use Rattle.rv32_decode.proofs.Meaning.{instr_of-word_of}
 use Rattle.rv32_decode.proofs.Spelled.{word_of-below}
-use Rattle.rv32_text.specs.declared.faults.TextRefusal.{TextRefusal}
-use Rattle.rv32_text.specs.declared.faults.TextRefusal.TheVariants as refusals
+use Rattle.plain_text.specs.declared.refusals.LineRefusal.{LineRefusal}
+use Rattle.plain_text.specs.declared.refusals.LineRefusal.TheVariants as refusals
+use Rattle.plain_text.specs.Reading.{Fails, Gives, ◌>>=◌}
+use Rattle.rv32_text.specs.declared.faults.TextFault.{TextFault}
 use Rattle.rv32_text.specs.declared.items.Item.{Item}
 use Rattle.rv32_text.specs.declared.items.Item.TheVariants as item
-use Rattle.rv32_text.specs.Refusal.{FirstFault, Fails, Gives, ◌>>=◌}
+use Rattle.rv32_text.specs.Refusal.{FirstFault}
 use Rattle.rv32_text.specs.Statement.{FitsItem}
-use Rattle.rv32_text.specs.Meaning.{after_line, items_from, labels_of, some_item, meaning}
+use Rattle.rv32_text.specs.Meaning.{items_from, labels_of, some_item, meaning}
 use Rattle.rv32_text.specs.Image.{item_word, item_bytes, image_of, assembled, image_words, IsWordOf, AreWordsOf, IsImageOf, encoded_items}
 use Rattle.rv32_text.specs.Written.{word_line, disassembled}
 use Rattle.rv32_text.proofs.LinesAgain.{Labels}
 
-pub goes_on : (labels : Labels) (line : ℕ) (before : List Item) (text : List ℕ) (texts : List (List ℕ)) (so_far : List Item) (total : Result (List Item) FirstFault)
-    → after_line labels line before text ≡ Ok so_far → items_from labels line before (text ∷ texts) ≡ total → items_from labels (line + 1) so_far texts ≡ total
-unfolding items_from
-goes_on labels line before text texts so_far total one all =
-    let step : items_from labels line before (text ∷ texts) ≡ items_from labels (line + 1) so_far texts = rw one refl in
-    sym step ∙ all
-
-pub stops : (e : TextRefusal) (labels : Labels) (line : ℕ) (before : List Item) (text : List ℕ) (texts : List (List ℕ)) (total : Result (List Item) FirstFault)
-    → Fails e (after_line labels line before text) → items_from labels line before (text ∷ texts) ≡ total → Fails e total
-unfolding items_from
-stops refusals.NoMemory labels line before text texts total one all = tt
-stops (refusals.Refused l what) labels line before text texts total one all =
-    let step : items_from labels line before (text ∷ texts) ≡ Err (record { line = l; what = what }) = rw one refl in
-    sym all ∙ step
-
-pub ends : (labels : Labels) (line : ℕ) (before : List Item) (texts : List (List ℕ)) (total : Result (List Item) FirstFault)
-    → texts ≡ [] → items_from labels line before texts ≡ total → total ≡ Ok before
-unfolding items_from
-ends labels line before texts total none all =
-    let step : items_from labels line before texts ≡ Ok before = rw none refl in
-    sym all ∙ step
-
 -- ---- the whole text
 
-pub fails_whole : (e : TextRefusal) (labels : Labels) (text : List ℕ) → labels ≡ labels_of text → Fails e (items_from labels 1 [] (lines text)) → Fails e (assembled text)
+pub fails_whole : (e : LineRefusal TextFault) (labels : Labels) (text : List ℕ) → labels ≡ labels_of text → Fails e (items_from labels 1 [] (lines text)) → Fails e (assembled text)
 unfolding assembled meaning
 fails_whole refusals.NoMemory labels text same fails = tt
 fails_whole (refusals.Refused l what) labels text same fails = rw (← same, fails) refl
@@ -153,18 +133,18 @@ image_is labels items text image same read fits few e =
       words = subst (λ (xs : List ℕ). AreWordsOf (image_words xs) items) (sym parts.1) (are_words items fits);
     }
 
-pub gives_whole : {X : Type 0} (view : X → List ℕ) (r : Result X TextRefusal) (labels : Labels) (items shown : List Item) (text : List ℕ) → labels ≡ labels_of text
+pub gives_whole : {X : Type 0} (view : X → List ℕ) (r : Result X (LineRefusal TextFault)) (labels : Labels) (items shown : List Item) (text : List ℕ) → labels ≡ labels_of text
     → items_from labels 1 [] (lines text) ≡ Ok items → shown ≡ items → Gives view r (encoded_items shown) → Gives view r (assembled text)
 gives_whole view r labels items shown text same read e given =
     subst (λ (read : Result (List ℕ) FirstFault). Gives view r read) (ap encoded_items e ∙ sym (same_whole labels items text same read)) given
 
-given_image : {X : Type 0} (view : X → List ℕ) (r : Result X TextRefusal) (labels : Labels) (items : List Item) (text : List ℕ) → labels ≡ labels_of text
+given_image : {X : Type 0} (view : X → List ℕ) (r : Result X (LineRefusal TextFault)) (labels : Labels) (items : List Item) (text : List ℕ) → labels ≡ labels_of text
     → items_from labels 1 [] (lines text) ≡ Ok items → AllByRecursion FitsItem items → length items ≤ 16384 → Gives view r (encoded_items items)
     → IfOk r (λ x. IsImageOf text (view x))
 given_image view (Ok x) labels items text same read fits few given = image_is labels items text (view x) same read fits few given
 given_image view (Err e) labels items text same read fits few given = tt
 
-pub image_whole : {X : Type 0} (view : X → List ℕ) (r : Result X TextRefusal) (labels : Labels) (items shown : List Item) (text : List ℕ) → labels ≡ labels_of text
+pub image_whole : {X : Type 0} (view : X → List ℕ) (r : Result X (LineRefusal TextFault)) (labels : Labels) (items shown : List Item) (text : List ℕ) → labels ≡ labels_of text
     → items_from labels 1 [] (lines text) ≡ Ok items → AllByRecursion FitsItem items → length items ≤ 16384 → shown ≡ items → Gives view r (encoded_items shown)
     → IfOk r (λ x. IsImageOf text (view x))
 image_whole view r labels items shown text same read fits few e given =

@@ -1,23 +1,23 @@
 -- The text of words is read as their items, and the image of these has the words.
-use Rattle.std.proofs.Common.{◌≡◌, ℕ, zero, suc, ◌+◌, ◌-◌, ◌*◌, ◌%◌, ◌<◌, ◌≤◌, ◌^◌, Bool, true, false, not, cond, ◌==◌, List, [], ◌∷◌, ◌++◌, length, get_or, take, drop, map, refl, sym, ap, ◌∙◌, arith, Option, Some, None, Ok}
+use Rattle.std.proofs.Common.{◌≡◌, ℕ, zero, suc, ◌+◌, ◌*◌, ◌%◌, ◌<◌, ◌≤◌, ◌^◌, Bool, true, false, cond, List, [], ◌∷◌, ◌++◌, length, get_or, map, refl, sym, ap, ◌∙◌, arith, Option, Some, None, Ok}
 use Rattle.std.specs.Prelude.{nat_lt}
 use Rattle.std.specs.List.{flat_map, AllByRecursion}
 use Rattle.std.specs.Int.{w32, to_le_bytes, from_le_bytes}
-use Rattle.std.specs.Str.Lines.{lines, strip_carriage_return}
+use Rattle.std.specs.Str.Lines.{lines}
 use Rattle.std.proofs.lemmas.Bool.{lt-ltb}
-use Rattle.std.proofs.lemmas.List.{append_assoc, append-nil, length-append, take_at, get_or_at}
+use Rattle.std.proofs.lemmas.List.{append_assoc, append-nil, length-append}
 use Rattle.std.proofs.lemmas.Nat.{le_bytes_4}
 use Rattle.rv32_decode.specs.declared.instruction.Instr.{Instr}
 use Rattle.rv32_decode.specs.Instr.{Fits, instr_of, word_of}
 use Rattle.rv32_decode.proofs.Meaning.{fits_answer, again_answer}
 use Rattle.rv32_text.specs.declared.items.Item.{Item}
 use Rattle.rv32_text.specs.declared.items.Item.TheVariants as item
-use Rattle.rv32_text.specs.Meaning.{after_line, items_from, labels_of, meaning}
+use Rattle.plain_text.specs.Reading.{lines_read}
+use Rattle.rv32_text.specs.Meaning.{items_after_line, items_from, labels_of, meaning}
 use Rattle.rv32_text.specs.Image.{item_word, item_bytes, image_of, assembled, image_words}
 use Rattle.rv32_text.specs.Written.{has_text, item_for, item_of_word, item_text, word_line, disassembled}
-use Rattle.rv32_text.proofs.Clean.{all_weaken, cut_place, cut_behind, ends}
-use Rattle.rv32_text.proofs.LineCuts.{lines_ended}
-use Rattle.rv32_text.proofs.LinesAgain.{is_written, IsLine, Labels, IsRead, reads_line, line_length}
+use Rattle.plain_text.proofs.LineCuts.{first_line}
+use Rattle.rv32_text.proofs.LinesAgain.{line_text, Labels, IsRead, reads_line}
 use Rattle.rv32_text.proofs.ItemsAgain.{instr_read, word_read}
 use Rattle.rv32_text.proofs.Steps.{some_ok}
 
@@ -51,44 +51,17 @@ item_word_again w small = word_for w (instr_of w) small refl
 
 -- ---- lines
 
-written_no_end : (b : ℕ) → is_written b ≡ true → not (b == 10) ≡ true
-written_no_end b e = grind arith
-
-written_no_return : (b : ℕ) → is_written b ≡ true → (b == 13) ≡ false
-written_no_return b e = grind arith
-
-last_of : (xs before : List ℕ) (last : ℕ) → xs ≡ before ++ last ∷ [] → get_or xs (length xs - 1) 0 ≡ last
-last_of xs before last e =
-    let size : length xs ≡ length before + 1 = ap length e ∙ length-append before (last ∷ []) in
-    let place : length xs - 1 ≡ length before = omega arith in
-    ap (λ (n : ℕ). get_or xs n 0) place ∙ ap (λ (ys : List ℕ). get_or ys (length before) 0) e ∙ get_or_at before last [] 0 (length before) refl
-
-no_return : (line : List ℕ) → IsLine line → strip_carriage_return line ≡ line
-no_return line l =
-    let e = ends is_written line l.written (line_length line l) in
-    let last : get_or line (length line - 1) 0 ≡ e.last = last_of line e.before e.last e.is in
-    rw (last, written_no_return e.last e.passes) refl
-
-first_line : (line rest : List ℕ) → IsLine line → lines (line ++ 10 ∷ rest) ≡ line ∷ lines rest
-first_line line rest l =
-    let lacks = all_weaken is_written (λ b. not (b == 10)) written_no_end line l.written in
-    let place = cut_place (λ b. b == 10) line 10 rest lacks refl in
-    let all = lines_ended (line ++ 10 ∷ rest) (length line) (sym place) (omega (arith, length-append line (10 ∷ rest))) in
-    let front : take (length line) (line ++ 10 ∷ rest) ≡ line = take_at line (10 ∷ rest) _ refl in
-    let back : drop (length line + 1) (line ++ 10 ∷ rest) ≡ rest = rw (← place) (cut_behind (λ b. b == 10) line 10 rest lacks refl) in
-    all ∙ rw (front, back, no_return line l) refl
-
 word_lines : (w : ℕ) (ws : List ℕ) → w < 2 ^ 32 → lines (disassembled (w ∷ ws)) ≡ item_text (item_of_word w) ∷ lines (disassembled ws)
 unfolding disassembled
 word_lines w ws small =
     let text = item_text (item_of_word w) in
-    ap lines (append_assoc text (10 ∷ []) (flat_map word_line ws)) ∙ first_line text (flat_map word_line ws) (item_read w small).shape
+    ap lines (append_assoc text (10 ∷ []) (flat_map word_line ws)) ∙ first_line text (flat_map word_line ws) (line_text text (item_read w small).shape)
 
 abbrev pub AreWords : List ℕ → Type 0
 AreWords ws = AllByRecursion (λ w. w < 2 ^ 32) ws
 
-one_line : (labels : Labels) (number : ℕ) (before : List Item) (w : ℕ) → w < 2 ^ 32 → length before < 16384 → after_line labels number before (item_text (item_of_word w)) ≡ Ok (before ++ item_of_word w ∷ [])
-unfolding after_line
+one_line : (labels : Labels) (number : ℕ) (before : List Item) (w : ℕ) → w < 2 ^ 32 → length before < 16384 → items_after_line labels number before (item_text (item_of_word w)) ≡ Ok (before ++ item_of_word w ∷ [])
+unfolding items_after_line
 one_line labels number before w small room =
     let r = item_read w small in
     let read = reads_line labels number (length before) (item_text (item_of_word w)) (item_of_word w) r.shape (r.read labels (length before)) in
@@ -101,7 +74,7 @@ no_lines = refl
 
 pub items_again : (labels : Labels) (number : ℕ) (before : List Item) (ws : List ℕ) → AreWords ws → length before + length ws ≤ 16384
     → items_from labels number before (lines (disassembled ws)) ≡ Ok (before ++ map item_of_word ws)
-unfolding items_from
+unfolding lines_read
 items_again labels number before [] words few = rw no_lines (ap Ok (sym (append-nil before)))
 items_again labels number before (w ∷ ws) words few =
     let one = one_line labels number before w words.0 (omega arith) in

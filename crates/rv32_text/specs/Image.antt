@@ -5,7 +5,8 @@ use Rattle.std.specs.Int.{w32, to_le_bytes, from_le_bytes}
 use Rattle.rv32_decode.specs.Instr.{instr_of, word_of}
 use Rattle.rv32_text.specs.declared.items.Item.{Item}
 use Rattle.rv32_text.specs.declared.items.Item.TheVariants as item
-use Rattle.rv32_text.specs.Refusal.{FirstFault, ◌>>=◌}
+use Rattle.plain_text.specs.Reading.{◌>>=◌}
+use Rattle.rv32_text.specs.Refusal.{FirstFault}
 use Rattle.rv32_text.specs.Meaning.{some_item, meaning}
 
 abbrev pub item_word : Item → ℕ

@@ -43,8 +43,8 @@ is_label text =
     else is_none (register_of text)
 
 -- the label that a line defines: well formed, before a colon
-unfoldable pub label_of : List ℕ → Option (List ℕ)
-label_of line =
+unfoldable pub label_defined : List ℕ → Option (List ℕ)
+label_defined line =
     if has_colon (before_comment line) && is_label (label_before (before_comment line)) then Some (label_before (before_comment line)) else None
 
 abbrev pub is_name_of : List ℕ → Option (List ℕ) → Bool
@@ -53,7 +53,7 @@ is_name_of name None = false
 
 -- the place, where the line defines a label of this name
 abbrev pub defined_on : List ℕ → Defined → List ℕ → Option Defined
-defined_on line place name = if is_name_of name (label_of line) then Some place else None
+defined_on line place name = if is_name_of name (label_defined line) then Some place else None
 
 -- where these lines define a label of this name first; the first line has this number, and so many items stand before it
 unfoldable pub defined_from : ℕ → ℕ → List (List ℕ) → List ℕ → Option Defined

@@ -1,11 +1,12 @@
 -- The meaning of a text: the list of its items.
-use Rattle.std.specs.Prelude.{ℕ, ◌+◌, ◌==◌, nat_lt, List, [], ◌∷◌, ◌++◌, length, Option, Some, None, Result, Ok, Err, if◌then◌else◌}
+use Rattle.std.specs.Prelude.{ℕ, ◌==◌, nat_lt, List, [], ◌∷◌, ◌++◌, length, Option, Some, None, Result, Ok, Err, if◌then◌else◌}
 use Rattle.std.specs.Str.Lines.{lines}
 use Rattle.rv32_text.specs.declared.faults.TextFault.{TextFault}
 use Rattle.rv32_text.specs.declared.faults.TextFault.TheVariants as faults
 use Rattle.rv32_text.specs.declared.items.Item.{Item}
 use Rattle.rv32_text.specs.declared.labels.Defined.{Defined}
-use Rattle.rv32_text.specs.Refusal.{FirstFault, ◌>>=◌, at_line}
+use Rattle.plain_text.specs.Reading.{◌>>=◌, at_line, lines_read}
+use Rattle.rv32_text.specs.Refusal.{FirstFault}
 use Rattle.rv32_text.specs.Label.{defined_from}
 use Rattle.rv32_text.specs.Statement.{line_item}
 
@@ -15,15 +16,12 @@ one_more before None = Ok before
 one_more before (Some item) = if nat_lt (length before) 16384 then Ok (before ++ item ∷ []) else Err faults.Words
 
 -- the items before a line with this number, and its own
-unfoldable pub after_line : (List ℕ → Option Defined) → ℕ → List Item → List ℕ → Result (List Item) FirstFault
-after_line labels line before text = at_line line (line_item labels line (length before) text >>= one_more before)
+unfoldable pub items_after_line : (List ℕ → Option Defined) → ℕ → List Item → List ℕ → Result (List Item) FirstFault
+items_after_line labels line before text = at_line line (line_item labels line (length before) text >>= one_more before)
 
 -- the items before these lines and those of the lines, the first of which has this number
-unfoldable pub items_from : (List ℕ → Option Defined) → ℕ → List Item → List (List ℕ) → Result (List Item) FirstFault
-items_from labels line before [] = Ok before
-items_from labels line before (text ∷ texts) = do
-  so_far ← after_line labels line before text
-  items_from labels (line + 1) so_far texts
+abbrev pub items_from : (List ℕ → Option Defined) → ℕ → List Item → List (List ℕ) → Result (List Item) FirstFault
+items_from labels line before texts = lines_read (items_after_line labels) line before texts
 
 -- where the lines of a text define a label of this name first
 unfoldable pub labels_of : List ℕ → List ℕ → Option Defined

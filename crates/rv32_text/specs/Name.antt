@@ -208,5 +208,5 @@ atomic_of text =
     ordered_of text false false
 
 -- the row that a text names, if it names one
-unfoldable pub row_of : List ℕ → Option Row
-row_of text = option_or (plain_of text) (atomic_of text)
+unfoldable pub row_named : List ℕ → Option Row
+row_named text = option_or (plain_of text) (atomic_of text)

@@ -1,6 +1,7 @@
 -- The item of a line.
-use Rattle.std.specs.Prelude.{ℕ, ◌<◌, ◌^◌, Bool, true, false, not, ◌==◌, List, length, drop, Option, Some, None, Result, Ok, Err, if◌then◌else◌}
+use Rattle.std.specs.Prelude.{ℕ, ◌<◌, ◌^◌, Bool, true, false, not, ◌==◌, List, length, drop, Option, Some, None, Result, Ok, Err, ok_or, if◌then◌else◌}
 use Rattle.std.specs.List.{before_first, position_or_len}
+use Rattle.rv32_decode.specs.declared.instruction.StoreKind.{StoreKind}
 use Rattle.rv32_decode.specs.declared.instruction.Instr.{Instr}
 use Rattle.rv32_decode.specs.declared.instruction.Instr.TheVariants as instr
 use Rattle.rv32_decode.specs.Instr.{Fits}
@@ -13,9 +14,9 @@ use Rattle.rv32_text.specs.declared.rows.Atomic.{Atomic}
 use Rattle.rv32_text.specs.declared.rows.Atomic.TheVariants as atomic
 use Rattle.rv32_text.specs.declared.rows.Row.{Row}
 use Rattle.rv32_text.specs.declared.rows.Row.TheVariants as row
-use Rattle.rv32_text.specs.Refusal.{◌>>=◌}
-use Rattle.rv32_text.specs.Blank.{is_blank, is_text}
-use Rattle.rv32_text.specs.Name.{row_of}
+use Rattle.plain_text.specs.Blank.{is_blank, is_text}
+use Rattle.plain_text.specs.Reading.{◌>>=◌}
+use Rattle.rv32_text.specs.Name.{row_named}
 use Rattle.rv32_text.specs.Label.{before_comment, has_colon, label_before, statement_of, is_label}
 use Rattle.rv32_text.specs.Operand.{operand_count, upper_at, jump_at, branch_at, based_at, immediate_at, registers_at, sets_at, address_at, exchange_at, plain_at}
 
@@ -39,9 +40,12 @@ operands_wanted (row.Atomic atomic.Sc aq rl) = 3
 operands_wanted (row.Atomic (atomic.Amo kind) aq rl) = 3
 operands_wanted row.Word = 1
 
--- the atomic instruction with these operands
+-- the store, or the atomic instruction, with these operands; of a store the register that is stored comes before its base
+unfoldable pub store_at : StoreKind → List ℕ → Result Instr TextFault
+store_at kind text = based_at text >>= (λ read. Ok (instr.Store kind read.1 read.0 read.2))
+
 unfoldable pub atomic_at : Atomic → Bool → Bool → List ℕ → Result Instr TextFault
-atomic_at atomic.Lr aq rl text = address_at text >>= (λ read. Ok (instr.Lr read.0 read.1 aq rl))
+atomic_at atomic.Lr aq rl text = address_at aq rl text
 atomic_at atomic.Sc aq rl text = exchange_at text >>= (λ read. Ok (instr.Sc read.0 read.1 read.2 aq rl))
 atomic_at (atomic.Amo kind) aq rl text = exchange_at text >>= (λ read. Ok (instr.Amo kind read.0 read.1 read.2 aq rl))
 
@@ -53,27 +57,23 @@ as_item (Err fault) = Err fault
 unfoldable pub item_at : (List ℕ → Option Defined) → ℕ → Row → List ℕ → Result Item TextFault
 item_at labels items row.Lui text = upper_at text >>= (λ read. Ok (item.Instr (instr.Lui read.0 read.1)))
 item_at labels items row.Auipc text = upper_at text >>= (λ read. Ok (item.Instr (instr.Auipc read.0 read.1)))
-item_at labels items row.Jal text = jump_at labels items text >>= (λ read. Ok (item.Instr (instr.Jal read.0 read.1)))
+item_at labels items row.Jal text = as_item (jump_at labels items text)
 item_at labels items row.Jalr text = based_at text >>= (λ read. Ok (item.Instr (instr.Jalr read.0 read.1 read.2)))
-item_at labels items (row.Branch kind) text = branch_at labels items text >>= (λ read. Ok (item.Instr (instr.Branch kind read.0 read.1 read.2)))
+item_at labels items (row.Branch kind) text = as_item (branch_at kind labels items text)
 item_at labels items (row.Load kind) text = based_at text >>= (λ read. Ok (item.Instr (instr.Load kind read.0 read.1 read.2)))
-item_at labels items (row.Store kind) text = based_at text >>= (λ read. Ok (item.Instr (instr.Store kind read.1 read.0 read.2)))
-item_at labels items (row.OpImm kind) text = immediate_at kind text >>= (λ read. Ok (item.Instr (instr.OpImm kind read.0 read.1 read.2)))
-item_at labels items (row.Op kind) text = registers_at text >>= (λ read. Ok (item.Instr (instr.Op kind read.0 read.1 read.2)))
-item_at labels items row.Fence text = sets_at text >>= (λ read. Ok (item.Instr (instr.Fence 0 read.0 read.1 0 0)))
+item_at labels items (row.Store kind) text = as_item (store_at kind text)
+item_at labels items (row.OpImm kind) text = as_item (immediate_at kind text)
+item_at labels items (row.Op kind) text = as_item (registers_at kind text)
+item_at labels items row.Fence text = as_item (sets_at text)
 item_at labels items row.FenceTso text = Ok (item.Instr (instr.Fence 8 3 3 0 0))
 item_at labels items row.Ecall text = Ok (item.Instr instr.Ecall)
 item_at labels items row.Ebreak text = Ok (item.Instr instr.Ebreak)
 item_at labels items (row.Atomic kind aq rl) text = as_item (atomic_at kind aq rl text)
 item_at labels items row.Word text = plain_at text >>= (λ word. Ok (item.Word word))
 
-abbrev pub as_row : Option Row → Result Row TextFault
-as_row (Some r) = Ok r
-as_row None = Err faults.Word
-
 -- the name of an item ends at the first blank, and the operands stand behind it
-abbrev pub name_of : List ℕ → List ℕ
-name_of statement = before_first is_blank statement
+abbrev pub item_name : List ℕ → List ℕ
+item_name statement = before_first is_blank statement
 
 abbrev pub operands_of : List ℕ → List ℕ
 operands_of statement = drop (position_or_len is_blank statement) statement
@@ -81,7 +81,7 @@ operands_of statement = drop (position_or_len is_blank statement) statement
 -- the name is that of a row, the operands are as many as the row has, and each is read
 unfoldable pub item_in : (List ℕ → Option Defined) → ℕ → List ℕ → Result Item TextFault
 item_in labels items statement = do
-  r ← as_row (row_of (name_of statement))
+  r ← ok_or (row_named (item_name statement)) faults.Word
   if operand_count (operands_of statement) == operands_wanted r then item_at labels items r (operands_of statement) else Err faults.Operand
 
 abbrev pub is_defined_at : ℕ → Option Defined → Bool

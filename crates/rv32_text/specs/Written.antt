@@ -1,5 +1,5 @@
 -- The text of words.
-use Rattle.std.specs.Prelude.{ℕ, ◌*◌, ◌/◌, ◌%◌, ◌^◌, Bool, true, false, ◌&&◌, ◌||◌, ◌==◌, List, [], ◌∷◌, ◌++◌, codes, ℤ, Option, Some, None, if◌then◌else◌}
+use Rattle.std.specs.Prelude.{ℕ, ◌<◌, ◌*◌, ◌/◌, ◌%◌, ◌^◌, Bool, true, false, ◌&&◌, ◌||◌, ◌==◌, List, [], ◌∷◌, ◌++◌, codes, ℤ, Option, Some, None, if◌then◌else◌}
 use Rattle.std.specs.List.{flat_map}
 use Rattle.std.specs.Fmt.{decimal, signed_decimal, digit_glyph}
 use Rattle.rv32_decode.specs.declared.instruction.Instr.{Instr}
@@ -10,6 +10,8 @@ use Rattle.rv32_text.specs.declared.items.Item.TheVariants as item
 use Rattle.rv32_text.specs.declared.rows.Atomic.TheVariants as atomic
 use Rattle.rv32_text.specs.declared.rows.Row.{Row}
 use Rattle.rv32_text.specs.declared.rows.Row.TheVariants as row
+use Rattle.rv32_text.specs.declared.writing.Last.{Last}
+use Rattle.rv32_text.specs.declared.writing.Last.TheVariants as last
 use Rattle.rv32_text.specs.Name.{register_name, set_name, row_name}
 
 -- A fence has a text where its registers are x0 and it is fence.tso, or has no mode. Every other instruction has one.
@@ -32,6 +34,21 @@ based_text offset base = signed_decimal offset ++ codes "(" ++ register_name bas
 
 abbrev pub address_text : ℕ → List ℕ
 address_text base = codes "(" ++ register_name base ++ codes ")"
+
+-- the last operand of a row, or its second register
+abbrev pub last_text : Last → List ℕ
+last_text (last.Register n) = register_name n
+last_text (last.Unsigned n) = decimal n
+last_text (last.Signed z) = signed_decimal z
+last_text (last.Address base) = address_text base
+last_text (last.Based offset base) = based_text offset base
+
+-- its register is one
+abbrev pub FitsLast : Last → Type 0
+FitsLast (last.Register n) = n < 32
+FitsLast (last.Address base) = base < 32
+FitsLast (last.Based offset base) = base < 32
+FitsLast _ = Unit {0}
 
 abbrev pub hex_glyph : ℕ → ℕ → ℕ
 hex_glyph word place = digit_glyph false (word / 2 ^ (4 * place) % 16)
@@ -58,8 +75,8 @@ abbrev pub fence_text : ℕ → ℕ → ℕ → List ℕ
 fence_text fm pred succ = if fm == 0 then with_two row.Fence (set_name pred) (set_name succ) else row_name row.FenceTso
 
 unfoldable pub instr_text : Instr → List ℕ
-instr_text (instr.Lui rd imm) = with_two row.Lui (register_name rd) (decimal (imm / 4096))
-instr_text (instr.Auipc rd imm) = with_two row.Auipc (register_name rd) (decimal (imm / 4096))
+instr_text (instr.Lui rd imm) = with_two row.Lui (register_name rd) (decimal (imm / 2 ^ 12))
+instr_text (instr.Auipc rd imm) = with_two row.Auipc (register_name rd) (decimal (imm / 2 ^ 12))
 instr_text (instr.Jal rd offset) = with_two row.Jal (register_name rd) (signed_decimal offset)
 instr_text (instr.Jalr rd rs1 offset) = with_two row.Jalr (register_name rd) (based_text offset rs1)
 instr_text (instr.Branch kind rs1 rs2 offset) = with_three (row.Branch kind) (register_name rs1) (register_name rs2) (signed_decimal offset)

@@ -1,6 +1,8 @@
+//! The image of a text of instructions.
+
 ghost use Rattle.std.specs.Prelude.{◌≡◌, ℕ, ◌<◌, ◌^◌, List, length, IfOk};
 ghost use Rattle.std.specs.List.{AllByRecursion};
-ghost use Rattle.rv32_text.specs.Refusal.{Gives};
+ghost use Rattle.plain_text.specs.Reading.{Gives};
 ghost use Rattle.rv32_text.specs.Found.{found_in};
 ghost use Rattle.rv32_text.specs.Statement.{FitsItem};
 ghost use Rattle.rv32_text.specs.Meaning.{labels_of};

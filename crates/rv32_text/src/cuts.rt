@@ -1,18 +1,9 @@
-ghost use Rattle.std.specs.Prelude.{◌≡◌, ◌≤◌, ◌==◌, length};
-ghost use Rattle.std.specs.List.{position_or_len, before_first, after_first};
+//! A text cut at a byte.
 
-/// The place of the first such byte, or the length where there is none.
-pub fn place_of(text: &[u8], byte: u8) -> usize
-    ensures place { result ≡ position_or_len (λ b. b == byte) text.now }
-    ensures within { result ≤ length text.now }
-{
-    for (i, b) in text.iter().enumerate() {
-        if *b == byte {
-            return i;
-        }
-    }
-    text.len()
-}
+ghost use Rattle.std.specs.Prelude.{◌≡◌, ◌≤◌, ◌==◌, length};
+ghost use Rattle.std.specs.List.{before_first, after_first};
+
+use plain_text::place_of;
 
 /// What stands before the first such byte, or all where there is none.
 pub fn before(text: &[u8], byte: u8) -> &[u8]

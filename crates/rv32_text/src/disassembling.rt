@@ -1,3 +1,5 @@
+//! The text of an image, item by item.
+
 ghost use Rattle.std.specs.Prelude.{◌≡◌, ◌≤◌, ◌<◌, ◌*◌, ◌%◌, ◌++◌, length, Ok, IfOk, OnOk};
 ghost use Rattle.rv32_text.specs.Image.{assembled, image_words};
 ghost use Rattle.rv32_text.specs.Statement.{FitsItem};

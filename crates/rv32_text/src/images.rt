@@ -1,3 +1,5 @@
+//! The bytes of an image, from its words and back.
+
 ghost use Rattle.std.specs.Prelude.{◌≡◌, ◌<◌, ◌≤◌, ◌^◌, ◌∷◌, ◌++◌, length, drop, IfOk, OnOk};
 ghost use Rattle.std.specs.List.{AllByRecursion};
 ghost use Rattle.rv32_text.specs.Image.{item_word, item_bytes, image_of, image_words};

@@ -1,3 +1,5 @@
+//! An item: an instruction, or a word.
+
 use rv32_decode::Instr;
 
 /// What a line puts into an image: an instruction, or a word as it stands.

@@ -1,17 +1,19 @@
+//! Labels: their names, and where they are defined.
+
 ghost use Rattle.std.specs.Prelude.{◌≡◌, ℕ, ◌<◌, ◌≤◌, ◌^◌, List, length, OnOk, IfOk, Some, None, if◌then◌else◌};
 ghost use Rattle.std.specs.Str.{bytes_eq};
 ghost use Rattle.std.specs.Option.{option_or, option_copied};
 ghost use Rattle.std.specs.List.{list_all};
 ghost use Rattle.rv32_text.specs.Blank.{without_blanks_before};
-ghost use Rattle.rv32_text.specs.Label.{before_comment, has_colon as has_colon_of, label_before as label_before_of, statement_of, items_on as items_on_line, is_label_byte as is_label_byte_of, is_label as is_label_of, label_of, defined_on};
+ghost use Rattle.rv32_text.specs.Label.{before_comment, has_colon as has_colon_of, label_before as label_before_of, statement_of, items_on as items_on_line, is_label_byte as is_label_byte_of, is_label as is_label_of, label_defined, defined_on};
 ghost use Rattle.rv32_text.specs.Found.{found_in};
 ghost use Rattle.rv32_text.specs.Meaning.{labels_of};
 
 use crate::blanks::{from_first, trimmed};
-use crate::cuts::{before, behind, place_of};
-use crate::lines::split_line;
+use crate::cuts::{before, behind};
 use crate::names::register;
 use mind_base::NoMemory;
+use plain_text::{place_of, split_line};
 use std::alloc::Global;
 use std::collections::BTreeMap;
 
@@ -94,9 +96,9 @@ pub fn is_label(text: &[u8]) -> bool
 }
 
 /// The label that a line defines.
-#[tactic(auto, unfolding(crate::specs::Label::label_of))]
+#[tactic(auto, unfolding(crate::specs::Label::label_defined))]
 fn label(line: &[u8]) -> Option<&[u8]>
-    ensures { option_copied result ≡ label_of line.now }
+    ensures { option_copied result ≡ label_defined line.now }
 {
     let code = code(line);
     if !has_colon(code) {

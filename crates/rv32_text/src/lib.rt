@@ -9,7 +9,6 @@ mod faults;
 mod images;
 mod items;
 mod labels;
-mod lines;
 mod names;
 mod numbers;
 mod operands;

@@ -1,8 +1,10 @@
+//! The operands of a statement, one by one.
+
 ghost use Rattle.std.specs.Prelude.{◌≡◌, ℕ, ◌<◌, ◌≤◌, ◌^◌, ◌%◌, ◌==◌, length, count_by, IfOk};
 ghost use Rattle.rv32_decode.specs.Kinds.{is_shift as is_shift_of};
-ghost use Rattle.rv32_decode.specs.Instr.{IsSigned, IsEven, FitsImmediate};
+ghost use Rattle.rv32_decode.specs.Instr.{Fits, IsSigned, FitsImmediate};
 ghost use Rattle.rv32_text.specs.Found.{found_in};
-ghost use Rattle.rv32_text.specs.Operand.{operand_count as operand_count_of, first_operand, second_operand, third_operand, register_in, set_in, enclosed_in, address_in, based_in, distance_to, target_in, upper_at, jump_at, branch_at, based_at, immediate_within as immediate_within_of, immediate_at, registers_at, sets_at, address_at, exchange_at, plain_at};
+ghost use Rattle.rv32_text.specs.Operand.{operand_count as operand_count_of, first_operand, second_operand, third_operand, register_in, set_in, enclosed_in, address_in, based_in, distance_to, target_in, pair_at, upper_at, jump_at, branch_at, based_at, immediate_within as immediate_within_of, immediate_at, registers_at, sets_at, address_at, exchange_at, plain_at};
 
 use crate::blanks::trimmed;
 use crate::cuts::{before, behind};
@@ -10,7 +12,7 @@ use crate::faults::TextFault;
 use crate::labels::{Defined, found, is_label};
 use crate::names;
 use crate::numbers::{even_within, number_operand, signed_within, up_to};
-use rv32_decode::OpImmKind;
+use rv32_decode::{BranchKind, Instr, OpImmKind, OpKind};
 use std::collections::BTreeMap;
 
 fn commas(text: &[u8]) -> usize
@@ -60,20 +62,14 @@ fn register(text: &[u8]) -> Result<u8, TextFault>
     ensures register { result ≡ register_in text.now }
     ensures within { IfOk result (λ number. number < 32) }
 {
-    match names::register(text) {
-        Some(number) => Ok(number),
-        None => Err(TextFault::Operand),
-    }
+    names::register(text).ok_or(TextFault::Operand)
 }
 
 fn set(text: &[u8]) -> Result<u8, TextFault>
     ensures set { result ≡ set_in text.now }
     ensures within { IfOk result (λ set. set < 16) }
 {
-    match names::set(text) {
-        Some(set) => Ok(set),
-        None => Err(TextFault::Operand),
-    }
+    names::set(text).ok_or(TextFault::Operand)
 }
 
 /// A register before the closing parenthesis at the end.
@@ -134,6 +130,18 @@ fn target(labels: &BTreeMap<&[u8], Defined>, items: u32, text: &[u8]) -> Result<
     number_operand(text)
 }
 
+/// The registers of the first two operands.
+#[tactic(auto, unfolding(crate::specs::Operand::pair_at))]
+fn pair(text: &[u8]) -> Result<(u8, u8), TextFault>
+    ensures reads { result ≡ pair_at text.now }
+    ensures first { IfOk result (λ read. read.0 < 32) }
+    ensures second { IfOk result (λ read. read.1 < 32) }
+{
+    let a = register(first(text))?;
+    let b = register(second(text))?;
+    Ok((a, b))
+}
+
 /// A register and the upper twenty bits of a word.
 #[tactic(auto, unfolding(crate::specs::Operand::upper_at))]
 pub fn upper(text: &[u8]) -> Result<(u8, u32), TextFault>
@@ -145,48 +153,44 @@ pub fn upper(text: &[u8]) -> Result<(u8, u32), TextFault>
 {
     let rd = register(first(text))?;
     let number = number_operand(second(text))?;
-    let high = up_to(1_048_575, number)?;
-    Ok((rd, high * 4096))
+    let high = up_to((1 << 20) - 1, number)?;
+    Ok((rd, high << 12))
 }
 
 /// A register and where to go.
-#[tactic(auto, unfolding(crate::specs::Operand::jump_at))]
-pub fn jump(
-    labels: &BTreeMap<&[u8], Defined>,
-    items: u32,
-    text: &[u8],
-) -> Result<(u8, i32), TextFault>
+#[tactic(auto, unfolding(crate::specs::Operand::jump_at, rv32_decode::specs::Instr::Fits))]
+pub fn jump(labels: &BTreeMap<&[u8], Defined>, items: u32, text: &[u8]) -> Result<Instr, TextFault>
     requires { length text.now < 2 ^ 32 }
     ensures reads { result ≡ jump_at (found_in labels.now) items text.now }
-    ensures register { IfOk result (λ read. read.0 < 32) }
-    ensures offset { IfOk result (λ read. IsSigned (2 ^ 20) read.1) }
-    ensures even { IfOk result (λ read. IsEven read.1) }
+    ensures fits { IfOk result Fits }
 {
     let rd = register(first(text))?;
     let distance = target(labels, items, second(text))?;
-    let offset = even_within(1_048_576, distance)?;
-    Ok((rd, offset))
+    let offset = even_within(1 << 20, distance)?;
+    Ok(Instr::Jal { rd, offset })
 }
 
 /// Two registers and where to go.
-#[tactic(auto, unfolding(crate::specs::Operand::branch_at))]
+#[tactic(auto, unfolding(crate::specs::Operand::branch_at, rv32_decode::specs::Instr::Fits))]
 pub fn branch(
+    kind: BranchKind,
     labels: &BTreeMap<&[u8], Defined>,
     items: u32,
     text: &[u8],
-) -> Result<(u8, u8, i32), TextFault>
+) -> Result<Instr, TextFault>
     requires { length text.now < 2 ^ 32 }
-    ensures reads { result ≡ branch_at (found_in labels.now) items text.now }
-    ensures first { IfOk result (λ read. read.0 < 32) }
-    ensures second { IfOk result (λ read. read.1 < 32) }
-    ensures offset { IfOk result (λ read. IsSigned (2 ^ 12) read.2) }
-    ensures even { IfOk result (λ read. IsEven read.2) }
+    ensures reads { result ≡ branch_at kind (found_in labels.now) items text.now }
+    ensures fits { IfOk result Fits }
 {
-    let rs1 = register(first(text))?;
-    let rs2 = register(second(text))?;
+    let (rs1, rs2) = pair(text)?;
     let distance = target(labels, items, third(text))?;
-    let offset = even_within(4096, distance)?;
-    Ok((rs1, rs2, offset))
+    let offset = even_within(1 << 12, distance)?;
+    Ok(Instr::Branch {
+        kind,
+        rs1,
+        rs2,
+        offset,
+    })
 }
 
 /// A register, and an offset from another; the second register comes before the offset.
@@ -200,7 +204,7 @@ pub fn based_on(text: &[u8]) -> Result<(u8, u8, i32), TextFault>
 {
     let register = register(first(text))?;
     let (number, base) = based(second(text))?;
-    let offset = signed_within(2048, number)?;
+    let offset = signed_within(1 << 11, number)?;
     Ok((register, base, offset))
 }
 
@@ -221,62 +225,59 @@ fn immediate_within(kind: OpImmKind, number: i64) -> Result<i32, TextFault>
         let amount = up_to(31, number)?;
         return Ok(amount as i32);
     }
-    let immediate = signed_within(2048, number)?;
-    Ok(immediate)
+    signed_within(1 << 11, number)
 }
 
 /// Two registers and a number.
-#[tactic(auto, unfolding(crate::specs::Operand::immediate_at))]
-pub fn immediate(kind: OpImmKind, text: &[u8]) -> Result<(u8, u8, i32), TextFault>
+#[tactic(auto, unfolding(crate::specs::Operand::immediate_at, rv32_decode::specs::Instr::Fits))]
+pub fn immediate(kind: OpImmKind, text: &[u8]) -> Result<Instr, TextFault>
     requires { length text.now < 2 ^ 32 }
     ensures reads { result ≡ immediate_at kind text.now }
-    ensures first { IfOk result (λ read. read.0 < 32) }
-    ensures second { IfOk result (λ read. read.1 < 32) }
-    ensures fits { IfOk result (λ read. FitsImmediate kind read.2) }
+    ensures fits { IfOk result Fits }
 {
-    let rd = register(first(text))?;
-    let rs1 = register(second(text))?;
+    let (rd, rs1) = pair(text)?;
     let number = number_operand(third(text))?;
     let imm = immediate_within(kind, number)?;
-    Ok((rd, rs1, imm))
+    Ok(Instr::OpImm { kind, rd, rs1, imm })
 }
 
 /// Three registers.
-#[tactic(auto, unfolding(crate::specs::Operand::registers_at))]
-pub fn registers(text: &[u8]) -> Result<(u8, u8, u8), TextFault>
-    ensures reads { result ≡ registers_at text.now }
-    ensures first { IfOk result (λ read. read.0 < 32) }
-    ensures second { IfOk result (λ read. read.1 < 32) }
-    ensures third { IfOk result (λ read. read.2 < 32) }
+#[tactic(auto, unfolding(crate::specs::Operand::registers_at, rv32_decode::specs::Instr::Fits))]
+pub fn registers(kind: OpKind, text: &[u8]) -> Result<Instr, TextFault>
+    ensures reads { result ≡ registers_at kind text.now }
+    ensures fits { IfOk result Fits }
 {
-    let rd = register(first(text))?;
-    let rs1 = register(second(text))?;
+    let (rd, rs1) = pair(text)?;
     let rs2 = register(third(text))?;
-    Ok((rd, rs1, rs2))
+    Ok(Instr::Op { kind, rd, rs1, rs2 })
 }
 
 /// Two sets of accesses.
-#[tactic(auto, unfolding(crate::specs::Operand::sets_at))]
-pub fn sets(text: &[u8]) -> Result<(u8, u8), TextFault>
+#[tactic(auto, unfolding(crate::specs::Operand::sets_at, rv32_decode::specs::Instr::Fits))]
+pub fn sets(text: &[u8]) -> Result<Instr, TextFault>
     ensures reads { result ≡ sets_at text.now }
-    ensures first { IfOk result (λ read. read.0 < 16) }
-    ensures second { IfOk result (λ read. read.1 < 16) }
+    ensures fits { IfOk result Fits }
 {
     let pred = set(first(text))?;
     let succ = set(second(text))?;
-    Ok((pred, succ))
+    Ok(Instr::Fence {
+        fm: 0,
+        pred,
+        succ,
+        rd: 0,
+        rs1: 0,
+    })
 }
 
 /// A register, and another in parentheses.
-#[tactic(auto, unfolding(crate::specs::Operand::address_at))]
-pub fn addressed(text: &[u8]) -> Result<(u8, u8), TextFault>
-    ensures reads { result ≡ address_at text.now }
-    ensures first { IfOk result (λ read. read.0 < 32) }
-    ensures second { IfOk result (λ read. read.1 < 32) }
+#[tactic(auto, unfolding(crate::specs::Operand::address_at, rv32_decode::specs::Instr::Fits))]
+pub fn addressed(aq: bool, rl: bool, text: &[u8]) -> Result<Instr, TextFault>
+    ensures reads { result ≡ address_at aq rl text.now }
+    ensures fits { IfOk result Fits }
 {
     let rd = register(first(text))?;
     let rs1 = address(second(text))?;
-    Ok((rd, rs1))
+    Ok(Instr::Lr { rd, rs1, aq, rl })
 }
 
 /// Two registers, and another in parentheses, which comes before the second.
@@ -287,8 +288,7 @@ pub fn exchanged(text: &[u8]) -> Result<(u8, u8, u8), TextFault>
     ensures second { IfOk result (λ read. read.1 < 32) }
     ensures third { IfOk result (λ read. read.2 < 32) }
 {
-    let rd = register(first(text))?;
-    let rs2 = register(second(text))?;
+    let (rd, rs2) = pair(text)?;
     let rs1 = address(third(text))?;
     Ok((rd, rs1, rs2))
 }
@@ -301,6 +301,5 @@ pub fn plain(text: &[u8]) -> Result<u32, TextFault>
     ensures below { IfOk result (λ word. word < 2 ^ 32) }
 {
     let number = number_operand(first(text))?;
-    let word = up_to(4_294_967_295, number)?;
-    Ok(word)
+    up_to(u32::MAX, number)
 }

@@ -1,16 +1,18 @@
+//! The items of a text, line by line.
+
 ghost use Rattle.std.specs.Prelude.{◌≡◌, ◌<◌, ◌≤◌, ◌^◌, [], length, IfOk, OnOk};
 ghost use Rattle.std.specs.List.{AllByRecursion};
 ghost use Rattle.std.specs.Str.Lines.{lines};
-ghost use Rattle.rv32_text.specs.Refusal.{Gives};
+ghost use Rattle.plain_text.specs.Reading.{Gives};
 ghost use Rattle.rv32_text.specs.Found.{found_in};
 ghost use Rattle.rv32_text.specs.Statement.{FitsItem};
-ghost use Rattle.rv32_text.specs.Meaning.{after_line, items_from};
+ghost use Rattle.rv32_text.specs.Meaning.{items_after_line, items_from};
 
 use crate::faults::{TextFault, TextRefusal};
 use crate::items::Item;
 use crate::labels::Defined;
-use crate::lines::split_line;
 use crate::statements::item_of_line;
+use plain_text::split_line;
 use std::alloc::Global;
 use std::collections::BTreeMap;
 
@@ -18,7 +20,7 @@ use std::collections::BTreeMap;
 const MOST: usize = 16_384;
 
 /// Puts the item of a line, which has this number, behind the others.
-#[tactic(auto, unfolding(crate::specs::Meaning::after_line))]
+#[tactic(auto, unfolding(crate::specs::Meaning::items_after_line))]
 fn add_line(
     items: &mut Vec<Item>,
     labels: &BTreeMap<&[u8], Defined>,
@@ -28,7 +30,7 @@ fn add_line(
     requires few { length items.old.items ≤ 16384 }
     requires fit { AllByRecursion FitsItem items.old.items }
     requires short { length text.now < 2 ^ 32 }
-    ensures added { Gives (λ _. items.new.items) result (after_line (found_in labels.now) line items.old.items text.now) }
+    ensures added { Gives (λ _. items.new.items) result (items_after_line (found_in labels.now) line items.old.items text.now) }
     ensures few { OnOk result (length items.new.items ≤ 16384) }
     ensures fit { OnOk result (AllByRecursion FitsItem items.new.items) }
 {

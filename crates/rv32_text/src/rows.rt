@@ -1,3 +1,5 @@
+//! The rows of the table of instructions.
+
 ghost use Rattle.std.specs.Prelude.{◌≡◌};
 ghost use Rattle.rv32_text.specs.Statement.{operands_wanted as operands_of_row};
 

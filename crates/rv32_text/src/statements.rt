@@ -1,10 +1,11 @@
-ghost use Rattle.std.specs.Prelude.{◌≡◌, ◌<◌, ◌≤◌, ◌^◌, length, IfOk};
+//! A statement, read into its instruction.
+
+ghost use Rattle.std.specs.Prelude.{◌≡◌, ◌<◌, ◌≤◌, ◌^◌, length, ok_or, IfOk};
 ghost use Rattle.rv32_decode.specs.Instr.{Fits};
 ghost use Rattle.rv32_text.specs.Found.{found_in};
-ghost use Rattle.rv32_text.specs.Name.{row_of};
-ghost use Rattle.rv32_text.specs.Statement.{atomic_at, item_at, item_in, is_labelled as is_labelled_at, line_item, FitsItem, FitsLine, name_of, operands_of, as_row};
+ghost use Rattle.rv32_text.specs.Name.{row_named};
+ghost use Rattle.rv32_text.specs.Statement.{atomic_at, item_at, item_in, is_labelled as is_labelled_at, line_item, store_at, as_item as as_item_of, FitsItem, FitsLine, item_name, operands_of};
 
-use crate::blanks::{first_blank, is_text};
 use crate::faults::TextFault;
 use crate::items::Item;
 use crate::labels::{Defined, code, found, has_colon, is_label, label_before, statement};
@@ -14,8 +15,34 @@ use crate::operands::{
     upper,
 };
 use crate::rows::{Atomic, Row, operands_wanted};
-use rv32_decode::Instr;
+use plain_text::{first_blank, is_text};
+use rv32_decode::{Instr, StoreKind};
 use std::collections::BTreeMap;
+
+/// The fence of total store order.
+const FENCE_TSO: Instr = Instr::Fence {
+    fm: 8,
+    pred: 3,
+    succ: 3,
+    rd: 0,
+    rs1: 0,
+};
+
+/// The store with these operands: the register that is stored comes before its base.
+#[tactic(auto, unfolding(crate::specs::Statement::store_at, rv32_decode::specs::Instr::Fits))]
+fn store(kind: StoreKind, text: &[u8]) -> Result<Instr, TextFault>
+    requires { length text.now < 2 ^ 32 }
+    ensures reads { result ≡ store_at kind text.now }
+    ensures fits { IfOk result Fits }
+{
+    let (rs2, rs1, offset) = based_on(text)?;
+    Ok(Instr::Store {
+        kind,
+        rs1,
+        rs2,
+        offset,
+    })
+}
 
 /// The atomic instruction with these operands.
 #[tactic(auto, unfolding(crate::specs::Statement::atomic_at, rv32_decode::specs::Instr::Fits))]
@@ -24,10 +51,7 @@ fn atomic(kind: Atomic, aq: bool, rl: bool, text: &[u8]) -> Result<Instr, TextFa
     ensures fits { IfOk result Fits }
 {
     match kind {
-        Atomic::Lr => {
-            let (rd, rs1) = addressed(text)?;
-            Ok(Instr::Lr { rd, rs1, aq, rl })
-        }
+        Atomic::Lr => addressed(aq, rl, text),
         Atomic::Sc => {
             let (rd, rs1, rs2) = exchanged(text)?;
             Ok(Instr::Sc {
@@ -52,6 +76,19 @@ fn atomic(kind: Atomic, aq: bool, rl: bool, text: &[u8]) -> Result<Instr, TextFa
     }
 }
 
+/// The item of an instruction that was read.
+#[tactic(auto, unfolding(crate::specs::Statement::FitsItem))]
+fn as_item(read: Result<Instr, TextFault>) -> Result<Item, TextFault>
+    requires { IfOk read Fits }
+    ensures item { result ≡ as_item_of read }
+    ensures fits { IfOk result FitsItem }
+{
+    match read {
+        Ok(instr) => Ok(Item::Instr(instr)),
+        Err(fault) => Err(fault),
+    }
+}
+
 /// The item of a row with these operands, where so many items stand before it.
 #[tactic(auto, unfolding(crate::specs::Statement::item_at, crate::specs::Statement::FitsItem, rv32_decode::specs::Instr::Fits))]
 fn item_with(
@@ -73,23 +110,12 @@ fn item_with(
             let (rd, imm) = upper(text)?;
             Ok(Item::Instr(Instr::Auipc { rd, imm }))
         }
-        Row::Jal => {
-            let (rd, offset) = jump(labels, items, text)?;
-            Ok(Item::Instr(Instr::Jal { rd, offset }))
-        }
+        Row::Jal => as_item(jump(labels, items, text)),
         Row::Jalr => {
             let (rd, rs1, offset) = based_on(text)?;
             Ok(Item::Instr(Instr::Jalr { rd, rs1, offset }))
         }
-        Row::Branch(kind) => {
-            let (rs1, rs2, offset) = branch(labels, items, text)?;
-            Ok(Item::Instr(Instr::Branch {
-                kind,
-                rs1,
-                rs2,
-                offset,
-            }))
-        }
+        Row::Branch(kind) => as_item(branch(kind, labels, items, text)),
         Row::Load(kind) => {
             let (rd, rs1, offset) = based_on(text)?;
             Ok(Item::Instr(Instr::Load {
@@ -99,65 +125,27 @@ fn item_with(
                 offset,
             }))
         }
-        Row::Store(kind) => {
-            let (rs2, rs1, offset) = based_on(text)?;
-            Ok(Item::Instr(Instr::Store {
-                kind,
-                rs1,
-                rs2,
-                offset,
-            }))
-        }
-        Row::OpImm(kind) => {
-            let (rd, rs1, imm) = immediate(kind, text)?;
-            Ok(Item::Instr(Instr::OpImm { kind, rd, rs1, imm }))
-        }
-        Row::Op(kind) => {
-            let (rd, rs1, rs2) = registers(text)?;
-            Ok(Item::Instr(Instr::Op { kind, rd, rs1, rs2 }))
-        }
-        Row::Fence => {
-            let (pred, succ) = sets(text)?;
-            Ok(Item::Instr(Instr::Fence {
-                fm: 0,
-                pred,
-                succ,
-                rd: 0,
-                rs1: 0,
-            }))
-        }
-        Row::FenceTso => Ok(Item::Instr(Instr::Fence {
-            fm: 8,
-            pred: 3,
-            succ: 3,
-            rd: 0,
-            rs1: 0,
-        })),
+        Row::Store(kind) => as_item(store(kind, text)),
+        Row::OpImm(kind) => as_item(immediate(kind, text)),
+        Row::Op(kind) => as_item(registers(kind, text)),
+        Row::Fence => as_item(sets(text)),
+        Row::FenceTso => Ok(Item::Instr(FENCE_TSO)),
         Row::Ecall => Ok(Item::Instr(Instr::Ecall)),
         Row::Ebreak => Ok(Item::Instr(Instr::Ebreak)),
-        Row::Atomic { kind, aq, rl } => {
-            let instr = atomic(kind, aq, rl, text)?;
-            Ok(Item::Instr(instr))
-        }
-        Row::Word => {
-            let word = plain(text)?;
-            Ok(Item::Word(word))
-        }
+        Row::Atomic { kind, aq, rl } => as_item(atomic(kind, aq, rl, text)),
+        Row::Word => Ok(Item::Word(plain(text)?)),
     }
 }
 
 fn row(name: &[u8]) -> Result<Row, TextFault>
-    ensures { result ≡ as_row (row_of name.now) }
+    ensures { result ≡ ok_or (row_named name.now) (TextFault.Word) }
 {
-    match names::row(name) {
-        Some(row) => Ok(row),
-        None => Err(TextFault::Word),
-    }
+    names::row(name).ok_or(TextFault::Word)
 }
 
 /// The name of an item, which ends at the first blank.
 fn name(statement: &[u8]) -> &[u8]
-    ensures { result.now ≡ name_of statement.now }
+    ensures { result.now ≡ item_name statement.now }
 {
     &statement[..first_blank(statement)]
 }

@@ -1,17 +1,32 @@
-ghost use Rattle.std.specs.Prelude.{◌≡◌, ◌<◌, ◌/◌, ◌++◌, codes, OnOk};
-ghost use Rattle.std.specs.Fmt.{decimal, signed_decimal};
+//! An instruction, written as a statement.
+
+ghost use Rattle.std.specs.Prelude.{◌≡◌, ◌<◌, ◌++◌, codes, OnOk};
+ghost use Rattle.std.specs.Fmt.{signed_decimal};
 ghost use Rattle.rv32_decode.specs.Instr.{Fits};
 ghost use Rattle.rv32_text.specs.Name.{register_name as register_name_of, set_name as set_name_of, row_name as row_name_of};
 ghost use Rattle.rv32_text.specs.declared.rows.Row.TheVariants as row;
 ghost use Rattle.rv32_text.specs.Statement.{FitsItem};
-ghost use Rattle.rv32_text.specs.Written.{has_text as has_text_of, based_text, address_text, hex_glyph, word_text, with_one, with_two, with_three, fence_text, instr_text, item_text};
+ghost use Rattle.rv32_text.specs.Written.{has_text as has_text_of, based_text, address_text, last_text, FitsLast, hex_glyph, word_text, with_one, with_two, with_three, fence_text, instr_text, item_text};
 
 use crate::items::Item;
 use crate::names::{base_name, ending_name, register_name, set_name};
 use crate::rows::{Atomic, Row};
 use mind_base::NoMemory;
+use plain_text::put_decimal;
 use rv32_decode::Instr;
 use std::alloc::Global;
+
+/// An operand that comes last, by how it is written, or the second register of three operands.
+#[derive(Clone, Copy)]
+pub enum Last {
+    Register(u8),
+    Unsigned(u32),
+    Signed(i32),
+    /// A register in parentheses.
+    Address(u8),
+    /// An offset, and a register in parentheses.
+    Based(i32, u8),
+}
 
 /// Whether an instruction has a text: every one but the fences whose fields are not all told by theirs.
 pub fn has_text(instr: &Instr) -> bool
@@ -61,28 +76,8 @@ fn put_front(out: &mut Vec<u8>, row: Row, register: u8) -> Result<(), NoMemory>
     Ok(())
 }
 
-/// A row and the two registers behind it.
-fn put_pair(out: &mut Vec<u8>, row: Row, first: u8, second: u8) -> Result<(), NoMemory>
-    requires first { first < 32 }
-    requires second { second < 32 }
-    ensures { OnOk result (out.new.items ≡ out.old.items ++ with_two row (register_name_of first) (register_name_of second)) }
-{
-    put_front(out, row, first)?;
-    out.extend_from_slice(b", ")?;
-    out.extend_from_slice(register_name(second))?;
-    Ok(())
-}
-
 fn put_signed(alloc: Global, out: &mut Vec<u8>, n: i32) -> Result<(), NoMemory>
     ensures { OnOk result (out.new.items ≡ out.old.items ++ signed_decimal n) }
-{
-    let text = format!(in alloc; "{n}")?;
-    out.extend_from_slice(text.as_bytes())?;
-    Ok(())
-}
-
-fn put_unsigned(alloc: Global, out: &mut Vec<u8>, n: u32) -> Result<(), NoMemory>
-    ensures { OnOk result (out.new.items ≡ out.old.items ++ decimal n) }
 {
     let text = format!(in alloc; "{n}")?;
     out.extend_from_slice(text.as_bytes())?;
@@ -108,108 +103,56 @@ fn put_based(alloc: Global, out: &mut Vec<u8>, offset: i32, base: u8) -> Result<
     put_address(out, base)
 }
 
-/// A row, a register, and the upper twenty bits of a word.
-fn put_upper(alloc: Global, out: &mut Vec<u8>, row: Row, rd: u8, imm: u32) -> Result<(), NoMemory>
-    requires { rd < 32 }
-    ensures { OnOk result (out.new.items ≡ out.old.items ++ with_two row (register_name_of rd) (decimal (imm / 4096))) }
+/// A comma and an operand behind it.
+fn put_last(alloc: Global, out: &mut Vec<u8>, last: Last) -> Result<(), NoMemory>
+    requires { FitsLast last }
+    ensures { OnOk result (out.new.items ≡ out.old.items ++ (codes ", " ++ last_text last)) }
 {
-    put_front(out, row, rd)?;
     out.extend_from_slice(b", ")?;
-    put_unsigned(alloc, out, imm / 4096)
+    match last {
+        Last::Register(number) => {
+            out.extend_from_slice(register_name(number))?;
+            Ok(())
+        }
+        Last::Unsigned(n) => put_decimal(alloc, out, u64::from(n)),
+        Last::Signed(n) => put_signed(alloc, out, n),
+        Last::Address(base) => put_address(out, base),
+        Last::Based(offset, base) => put_based(alloc, out, offset, base),
+    }
 }
 
-/// A row, a register, and how far to go.
-fn put_jump(alloc: Global, out: &mut Vec<u8>, row: Row, rd: u8, offset: i32) -> Result<(), NoMemory>
-    requires { rd < 32 }
-    ensures { OnOk result (out.new.items ≡ out.old.items ++ with_two row (register_name_of rd) (signed_decimal offset)) }
-{
-    put_front(out, row, rd)?;
-    out.extend_from_slice(b", ")?;
-    put_signed(alloc, out, offset)
-}
-
-/// A row, a register, and an offset from another.
-fn put_based_on(
+/// A row, a register and a last operand.
+fn put_two(
     alloc: Global,
     out: &mut Vec<u8>,
     row: Row,
     register: u8,
-    offset: i32,
-    base: u8,
+    last: Last,
 ) -> Result<(), NoMemory>
     requires register { register < 32 }
-    requires base { base < 32 }
-    ensures { OnOk result (out.new.items ≡ out.old.items ++ with_two row (register_name_of register) (based_text offset base)) }
+    requires last { FitsLast last }
+    ensures { OnOk result (out.new.items ≡ out.old.items ++ with_two row (register_name_of register) (last_text last)) }
 {
     put_front(out, row, register)?;
-    out.extend_from_slice(b", ")?;
-    put_based(alloc, out, offset, base)
+    put_last(alloc, out, last)
 }
 
-/// A row, two registers, and a number.
-fn put_number(
+/// A row, two registers and a last operand.
+fn put_three(
     alloc: Global,
     out: &mut Vec<u8>,
     row: Row,
     first: u8,
     second: u8,
-    number: i32,
+    last: Last,
 ) -> Result<(), NoMemory>
     requires first { first < 32 }
     requires second { second < 32 }
-    ensures { OnOk result (out.new.items ≡ out.old.items ++ with_three row (register_name_of first) (register_name_of second) (signed_decimal number)) }
+    requires last { FitsLast last }
+    ensures { OnOk result (out.new.items ≡ out.old.items ++ with_three row (register_name_of first) (register_name_of second) (last_text last)) }
 {
-    put_pair(out, row, first, second)?;
-    out.extend_from_slice(b", ")?;
-    put_signed(alloc, out, number)
-}
-
-/// A row and three registers.
-fn put_registers(
-    out: &mut Vec<u8>,
-    row: Row,
-    first: u8,
-    second: u8,
-    third: u8,
-) -> Result<(), NoMemory>
-    requires first { first < 32 }
-    requires second { second < 32 }
-    requires third { third < 32 }
-    ensures { OnOk result (out.new.items ≡ out.old.items ++ with_three row (register_name_of first) (register_name_of second) (register_name_of third)) }
-{
-    put_pair(out, row, first, second)?;
-    out.extend_from_slice(b", ")?;
-    out.extend_from_slice(register_name(third))?;
-    Ok(())
-}
-
-/// A row, a register, and another in parentheses.
-fn put_addressed(out: &mut Vec<u8>, row: Row, rd: u8, base: u8) -> Result<(), NoMemory>
-    requires rd { rd < 32 }
-    requires base { base < 32 }
-    ensures { OnOk result (out.new.items ≡ out.old.items ++ with_two row (register_name_of rd) (address_text base)) }
-{
-    put_front(out, row, rd)?;
-    out.extend_from_slice(b", ")?;
-    put_address(out, base)
-}
-
-/// A row, two registers, and another in parentheses.
-fn put_exchanged(
-    out: &mut Vec<u8>,
-    row: Row,
-    first: u8,
-    second: u8,
-    base: u8,
-) -> Result<(), NoMemory>
-    requires first { first < 32 }
-    requires second { second < 32 }
-    requires base { base < 32 }
-    ensures { OnOk result (out.new.items ≡ out.old.items ++ with_three row (register_name_of first) (register_name_of second) (address_text base)) }
-{
-    put_pair(out, row, first, second)?;
-    out.extend_from_slice(b", ")?;
-    put_address(out, base)
+    put_two(alloc, out, row, first, Last::Register(second))?;
+    put_last(alloc, out, last)
 }
 
 fn put_fence(out: &mut Vec<u8>, fm: u8, pred: u8, succ: u8) -> Result<(), NoMemory>
@@ -234,59 +177,73 @@ fn put_instr(alloc: Global, out: &mut Vec<u8>, instr: &Instr) -> Result<(), NoMe
     ensures { OnOk result (out.new.items ≡ out.old.items ++ instr_text instr.now) }
 {
     match *instr {
-        Instr::Lui { rd, imm } => put_upper(alloc, out, Row::Lui, rd, imm),
-        Instr::Auipc { rd, imm } => put_upper(alloc, out, Row::Auipc, rd, imm),
-        Instr::Jal { rd, offset } => put_jump(alloc, out, Row::Jal, rd, offset),
-        Instr::Jalr { rd, rs1, offset } => put_based_on(alloc, out, Row::Jalr, rd, offset, rs1),
+        Instr::Lui { rd, imm } => put_two(alloc, out, Row::Lui, rd, Last::Unsigned(imm >> 12)),
+        Instr::Auipc { rd, imm } => put_two(alloc, out, Row::Auipc, rd, Last::Unsigned(imm >> 12)),
+        Instr::Jal { rd, offset } => put_two(alloc, out, Row::Jal, rd, Last::Signed(offset)),
+        Instr::Jalr { rd, rs1, offset } => {
+            put_two(alloc, out, Row::Jalr, rd, Last::Based(offset, rs1))
+        }
         Instr::Branch {
             kind,
             rs1,
             rs2,
             offset,
-        } => put_number(alloc, out, Row::Branch(kind), rs1, rs2, offset),
+        } => put_three(
+            alloc,
+            out,
+            Row::Branch(kind),
+            rs1,
+            rs2,
+            Last::Signed(offset),
+        ),
         Instr::Load {
             kind,
             rd,
             rs1,
             offset,
-        } => put_based_on(alloc, out, Row::Load(kind), rd, offset, rs1),
+        } => put_two(alloc, out, Row::Load(kind), rd, Last::Based(offset, rs1)),
         Instr::Store {
             kind,
             rs1,
             rs2,
             offset,
-        } => put_based_on(alloc, out, Row::Store(kind), rs2, offset, rs1),
+        } => put_two(alloc, out, Row::Store(kind), rs2, Last::Based(offset, rs1)),
         Instr::OpImm { kind, rd, rs1, imm } => {
-            put_number(alloc, out, Row::OpImm(kind), rd, rs1, imm)
+            put_three(alloc, out, Row::OpImm(kind), rd, rs1, Last::Signed(imm))
         }
-        Instr::Op { kind, rd, rs1, rs2 } => put_registers(out, Row::Op(kind), rd, rs1, rs2),
+        Instr::Op { kind, rd, rs1, rs2 } => {
+            put_three(alloc, out, Row::Op(kind), rd, rs1, Last::Register(rs2))
+        }
         Instr::Fence { fm, pred, succ, .. } => put_fence(out, fm, pred, succ),
         Instr::Ecall => put_row(out, Row::Ecall),
         Instr::Ebreak => put_row(out, Row::Ebreak),
-        Instr::Lr { rd, rs1, aq, rl } => {
+        Instr::Lr { aq, rl, rd, rs1 } => {
             let kind = Atomic::Lr;
-            put_addressed(out, Row::Atomic { kind, aq, rl }, rd, rs1)
+            let row = Row::Atomic { kind, aq, rl };
+            put_two(alloc, out, row, rd, Last::Address(rs1))
         }
         Instr::Sc {
+            aq,
+            rl,
             rd,
             rs1,
             rs2,
-            aq,
-            rl,
         } => {
             let kind = Atomic::Sc;
-            put_exchanged(out, Row::Atomic { kind, aq, rl }, rd, rs2, rs1)
+            let row = Row::Atomic { kind, aq, rl };
+            put_three(alloc, out, row, rd, rs2, Last::Address(rs1))
         }
         Instr::Amo {
             kind,
+            aq,
+            rl,
             rd,
             rs1,
             rs2,
-            aq,
-            rl,
         } => {
             let kind = Atomic::Amo(kind);
-            put_exchanged(out, Row::Atomic { kind, aq, rl }, rd, rs2, rs1)
+            let row = Row::Atomic { kind, aq, rl };
+            put_three(alloc, out, row, rd, rs2, Last::Address(rs1))
         }
     }
 }

@@ -1,6 +1,6 @@
 use Rattle.std.proofs.Common.{◌≡◌, ◌+◌, ◌≤◌, length, take}
 use Rattle.std.specs.List.{suffix_len}
-use Rattle.rv32_text.specs.Blank.{is_blank}
+use Rattle.plain_text.specs.Blank.{is_blank}
 use Rattle.rv32_text.proofs.blanks.up_to_last.Given as goal
 
 abbrev pub invariant-loop-end : goal.invariant-loop-end

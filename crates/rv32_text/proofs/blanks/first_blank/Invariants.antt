@@ -1,7 +1,0 @@
-use Rattle.std.proofs.Common.{◌≡◌, ◌+◌, drop}
-use Rattle.std.specs.List.{position_or_len}
-use Rattle.rv32_text.specs.Blank.{is_blank}
-use Rattle.rv32_text.proofs.blanks.first_blank.Given as goal
-
-abbrev pub invariant-loop-i : goal.invariant-loop-i
-invariant-loop-i l = position_or_len is_blank l.text ≡ l.i + position_or_len is_blank (drop l.i l.text)
