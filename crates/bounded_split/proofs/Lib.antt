@@ -1,3 +1,4 @@
+pub mod Ending
 pub mod Merging
 pub mod Splitting
 pub mod Turning

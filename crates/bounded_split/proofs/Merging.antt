@@ -1,17 +1,18 @@
 -- How the loop over the merges stands to their definition: what is still to do from here was what was to do at first.
 use Rattle.std.proofs.Common.{◌≡◌, ℕ, ◌+◌, ◌-◌, ◌<◌, ◌≤◌, Option, Some, None, List, [], ◌∷◌, ◌++◌, length, take, drop, slice_get, refl, ap, sym, subst, ◌∙◌, zero, suc, arith, append_assoc}
 use Rattle.std.specs.Option.{option_and_then, option_map_or}
-use Rattle.std.proofs.lemmas.List.{append-nil, drop_all, take_all}
+use Rattle.std.proofs.lemmas.List.{append-nil}
 use Rattle.mind_base.specs.declared.notes.Note.{Note}
 use Rattle.mind_base.specs.declared.notes.Note.TheVariants as note
 use Rattle.region_directory.specs.Directory.{DirectoryView}
 use Rattle.region_directory.specs.Merge.{merged_entry, merge_of, with_merge}
 use Rattle.region_directory.specs.declared.entries.Entry.{Entry}
-use Rattle.bounded_split.specs.Epoch.{Stays, Merges, cold_merge, cold_at, merge_noted, turns_behind, merged_turns, left_after, merge_notes, turns_of_merges}
+use Rattle.bounded_split.specs.Epoch.{Stays, Merges, cold_merge, cold_at, merge_noted, turns_behind, merged_turns, entries_left, merge_notes, turns_of_merges}
+use Rattle.bounded_split.proofs.Ending.{ends}
 
 -- what becomes of the list when the merges from entry i on are still to be done, and their notes
 abbrev pub left_from : ℕ → ℕ → List Entry → ℕ → List Entry
-left_from t m es i = take i es ++ left_after (merged_turns t m (drop i es))
+left_from t m es i = take i es ++ entries_left (merged_turns t m (drop i es))
 
 abbrev pub notes_from : ℕ → ℕ → List Entry → ℕ → List Note
 notes_from t m es i = merge_notes (merged_turns t m (drop i es))
@@ -32,7 +33,7 @@ turns-merge t m a b w es e =
 stay-left : (t m : ℕ) (es : List Entry) (i : ℕ) → i < length es → pair_at t m es i ≡ None → left_from t m es (suc i) ≡ left_from t m es i
 stay-left t m [] i lt e = absurd (omega arith)
 stay-left t m (a ∷ []) zero lt e = refl
-stay-left t m (a ∷ b ∷ es) zero lt e = sym (ap left_after (turns-stay t m a b es e))
+stay-left t m (a ∷ b ∷ es) zero lt e = sym (ap entries_left (turns-stay t m a b es e))
 stay-left t m (a ∷ es) (suc i) lt e = ap (λ xs. a ∷ xs) (stay-left t m es i (omega arith) e)
 
 stay-notes : (t m : ℕ) (es : List Entry) (i : ℕ) → i < length es → pair_at t m es i ≡ None → notes_from t m es (suc i) ≡ notes_from t m es i
@@ -47,7 +48,7 @@ one_at i w es = take i es ++ w ∷ drop (suc (suc i)) es
 merge-left : (t m : ℕ) (es : List Entry) (i : ℕ) (w : Entry) → i < length es → pair_at t m es i ≡ Some w → left_from t m (one_at i w es) (suc i) ≡ left_from t m es i
 merge-left t m [] i w lt e = absurd (omega arith)
 merge-left t m (a ∷ []) zero w lt e = absurd (cc)
-merge-left t m (a ∷ b ∷ es) zero w lt e = sym (ap left_after (turns-merge t m a b w es e))
+merge-left t m (a ∷ b ∷ es) zero w lt e = sym (ap entries_left (turns-merge t m a b w es e))
 merge-left t m (a ∷ es) (suc i) w lt e = ap (λ xs. a ∷ xs) (merge-left t m es i w (omega arith) e)
 
 merge-noted : (t m : ℕ) (es : List Entry) (i : ℕ) (w : Entry) → i < length es → pair_at t m es i ≡ Some w → note.Merge w.range ∷ notes_from t m (one_at i w es) (suc i) ≡ notes_from t m es i
@@ -72,7 +73,7 @@ merge-within t m (a ∷ es) (suc i) w lt e = omega (arith, merge-within t m es i
 pub record IsMerging (t : ℕ) (first now : DirectoryView) (before notes : List Note) (spare i merges : ℕ) : Type 0 where
   pub slots : now.slots ≡ first.slots
   pub most : now.most ≡ first.most
-  pub left : left_from t first.most now.entries i ≡ left_after (turns_of_merges t first)
+  pub left : left_from t first.most now.entries i ≡ entries_left (turns_of_merges t first)
   pub noted : notes ++ notes_from t first.most now.entries i ≡ before ++ merge_notes (turns_of_merges t first)
   pub count : merges + length (notes_from t first.most now.entries i) ≡ length (merge_notes (turns_of_merges t first))
   pub room : length now.entries ≤ spare
@@ -97,18 +98,18 @@ pair-same t m d i o e c =
     sym (ap (λ (k : ℕ). option_and_then (λ (lower : Entry). option_and_then (cold_merge t m lower) (slice_get d.entries k)) (slice_get d.entries i)) n)
     ∙ sym (ap (λ (k : ℕ). option_and_then (λ (lower : Entry). option_and_then (cold_merge t k lower) (slice_get d.entries (i + 1))) (slice_get d.entries i)) e) ∙ c
 
-pub merging-stays : (t : ℕ) (first now : DirectoryView) (before notes : List Note) (spare i merges : ℕ) → IsMerging t first now before notes spare i merges → i < length now.entries → cold_at t now i ≡ None → IsMerging t first now before notes spare (i + 1) merges
-merging-stays t first now before notes spare i merges h lt none =
+pub merging-stays : (t : ℕ) (first now : DirectoryView) (before notes : List Note) (spare less i merges : ℕ) → IsMerging t first now before notes spare i merges → i < length now.entries → cold_at t now i ≡ None → spare ≤ less → IsMerging t first now before notes less (i + 1) merges
+merging-stays t first now before notes spare less i merges h lt none room =
     let n : suc i ≡ i + 1 = omega arith in
     let pair = pair-same t first.most now i None h.most none in
     let same : notes_from t first.most now.entries (suc i) ≡ notes_from t first.most now.entries i = stay-notes t first.most now.entries i lt pair in
-    subst (λ (k : ℕ). IsMerging t first now before notes spare k merges) n (record {
+    subst (λ (k : ℕ). IsMerging t first now before notes less k merges) n (record {
       slots = h.slots;
       most = h.most;
       left = stay-left t first.most now.entries i lt pair ∙ h.left;
       noted = ap (λ xs. notes ++ xs) same ∙ h.noted;
       count = ap (λ xs. merges + length xs) same ∙ h.count;
-      room = h.room;
+      room = omega (arith, h.room, room);
       few = omega (arith, h.few);
       within = omega arith;
     })
@@ -144,20 +145,10 @@ pub merging-step : (t : ℕ) (first now next : DirectoryView) (before notes afte
 merging-step t first now next before notes after spare less i merges added h lt e f n room = by (cold_at t now i) refl e f n where
   by : (o : Option Entry) → cold_at t now i ≡ o → next ≡ record now { entries = with_merge i o now.entries } → after ≡ notes ++ merge_noted o → added ≡ length (merge_noted o) → IsMerging t first next before after less (i + 1) (merges + added)
   by None s e f n =
-      let here : IsMerging t first now before notes spare (i + 1) merges = merging-stays t first now before notes spare i merges h lt s in
       let none : added ≡ 0 = n in
       let sum : merges ≡ merges + added = omega arith in
-      let more : IsMerging t first now before notes less (i + 1) merges = record {
-        slots = here.slots;
-        most = here.most;
-        left = here.left;
-        noted = here.noted;
-        count = here.count;
-        room = omega (arith, here.room);
-        few = here.few;
-        within = here.within;
-      } in
-      let counted = subst (λ (k : ℕ). IsMerging t first now before notes less (i + 1) k) sum more in
+      let here : IsMerging t first now before notes less (i + 1) merges = merging-stays t first now before notes spare less i merges h lt s (omega (arith, room, none)) in
+      let counted = subst (λ (k : ℕ). IsMerging t first now before notes less (i + 1) k) sum here in
       let logged = subst (λ (xs : List Note). IsMerging t first now before xs less (i + 1) (merges + added)) (sym (f ∙ append-nil notes)) counted in
       subst (λ (d : DirectoryView). IsMerging t first d before after less (i + 1) (merges + added)) (sym e) logged
   by (Some w) s e f n =
@@ -199,13 +190,7 @@ cold-last t d i (Some a) p q =
     ap (λ (o : Option Entry). option_and_then (λ (lower : Entry). option_and_then (cold_merge t d.most lower) (slice_get d.entries (i + 1))) o) p ∙ ap (λ (o : Option Entry). option_and_then (cold_merge t d.most a) o) q
 
 pub merging-ends : (t : ℕ) (first now : DirectoryView) (before notes : List Note) (spare i merges : ℕ) → IsMerging t first now before notes spare i merges → length now.entries ≤ i
-    → (now ≡ record first { entries = left_after (turns_of_merges t first) }) × (notes ≡ before ++ merge_notes (turns_of_merges t first)) × (merges ≡ length (merge_notes (turns_of_merges t first)))
+    → (now ≡ record first { entries = entries_left (turns_of_merges t first) }) × (notes ≡ before ++ merge_notes (turns_of_merges t first)) × (merges ≡ length (merge_notes (turns_of_merges t first)))
 merging-ends t first now before notes spare i merges h le =
-    let none : drop i now.entries ≡ [] = drop_all i now.entries le in
-    let no_notes : notes_from t first.most now.entries i ≡ [] = ap (λ xs. merge_notes (merged_turns t first.most xs)) none in
-    let entries : now.entries ≡ left_after (turns_of_merges t first) =
-    sym (ap (λ xs. take i now.entries ++ left_after (merged_turns t first.most xs)) none ∙ append-nil (take i now.entries) ∙ take_all i now.entries le) ∙ h.left in (
-      ap (λ (s : ℕ). record now { slots = s }) h.slots ∙ ap (λ (m : ℕ). record now { slots = first.slots; most = m }) h.most ∙ ap (λ (xs : List Entry). record first { entries = xs }) entries,
-      sym (append-nil notes) ∙ ap (λ xs. notes ++ xs) (sym no_notes) ∙ h.noted,
-      omega (arith, h.count, ap length no_notes),
-    )
+    ends first now (entries_left (turns_of_merges t first)) before notes (merge_notes (turns_of_merges t first)) i merges (λ xs. entries_left (merged_turns t first.most xs)) (λ xs. merge_notes (merged_turns t first.most xs))
+    refl refl le h.slots h.most h.left h.noted h.count

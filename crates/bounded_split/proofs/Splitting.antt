@@ -2,19 +2,20 @@
 use Rattle.std.proofs.Common.{◌≡◌, ℕ, ◌+◌, ◌-◌, ◌<◌, ◌≤◌, Option, Some, None, List, [], ◌∷◌, ◌++◌, length, get_or, take, drop, slice_get, refl, ap, sym, subst, ◌∙◌, zero, suc, arith, append_assoc}
 use Rattle.std.specs.Option.{option_and_then, option_map, option_map_or}
 use Rattle.std.proofs.lemmas.Option.{slice_get-get_or}
-use Rattle.std.proofs.lemmas.List.{append-nil, drop_all, take_all}
+use Rattle.std.proofs.lemmas.List.{append-nil}
 use Rattle.mind_base.specs.declared.notes.Note.{Note}
 use Rattle.mind_base.specs.declared.notes.Note.TheVariants as note
 use Rattle.region_directory.specs.Directory.{DirectoryView}
 use Rattle.region_directory.specs.Split.{with_split}
 use Rattle.region_directory.specs.declared.entries.Entry.{Entry}
 use Rattle.region_directory.proofs.SearchLemmas.{blank}
-use Rattle.bounded_split.specs.Epoch.{Stays, Splits, hot_split, hot_at, left_after, split_notes}
+use Rattle.bounded_split.specs.Epoch.{Stays, Splits, hot_split, hot_at, entries_left, split_notes}
 use Rattle.bounded_split.specs.Hot.{hot_block, hot_turns, hot_turns_in, split_noted}
+use Rattle.bounded_split.proofs.Ending.{ends}
 
 -- what becomes of the list when the splits from entry i on are still to be done, and their notes
 abbrev pub left_from : ℕ → ℕ → List Entry → ℕ → List Entry
-left_from t free es i = take i es ++ left_after (hot_turns t free (drop i es))
+left_from t free es i = take i es ++ entries_left (hot_turns t free (drop i es))
 
 abbrev pub notes_from : ℕ → ℕ → List Entry → ℕ → List Note
 notes_from t free es i = split_notes (hot_turns t free (drop i es))
@@ -32,7 +33,7 @@ turns-split t free a h es e =
 
 stay-left : (t free : ℕ) (es : List Entry) (i : ℕ) → i < length es → halves_at t free es i ≡ None → left_from t free es (suc i) ≡ left_from t free es i
 stay-left t free [] i lt e = absurd (omega arith)
-stay-left t free (a ∷ es) zero lt e = sym (ap left_after (turns-stay t free a es e))
+stay-left t free (a ∷ es) zero lt e = sym (ap entries_left (turns-stay t free a es e))
 stay-left t free (a ∷ es) (suc i) lt e = ap (λ xs. a ∷ xs) (stay-left t free es i (omega arith) e)
 
 stay-notes : (t free : ℕ) (es : List Entry) (i : ℕ) → i < length es → halves_at t free es i ≡ None → notes_from t free es (suc i) ≡ notes_from t free es i
@@ -45,7 +46,7 @@ two_at i h es = take i es ++ h.0 ∷ h.1 ∷ drop (suc i) es
 
 split-left : (t free : ℕ) (es : List Entry) (i : ℕ) (h : Entry × Entry) → i < length es → halves_at t free es i ≡ Some h → left_from t (free - 1) (two_at i h es) (suc (suc i)) ≡ left_from t free es i
 split-left t free [] i h lt e = absurd (omega arith)
-split-left t free (a ∷ es) zero h lt e = sym (ap left_after (turns-split t free a h es e))
+split-left t free (a ∷ es) zero h lt e = sym (ap entries_left (turns-split t free a h es e))
 split-left t free (a ∷ es) (suc i) h lt e = ap (λ xs. a ∷ xs) (split-left t free es i h (omega arith) e)
 
 split-noted : (t free : ℕ) (es : List Entry) (i : ℕ) (h : Entry × Entry) (e : Entry) → slice_get es i ≡ Some e → halves_at t free es i ≡ Some h → note.Split e.range ∷ notes_from t (free - 1) (two_at i h es) (suc (suc i)) ≡ notes_from t free es i
@@ -63,7 +64,7 @@ split-more (a ∷ es) (suc i) h lt = omega (arith, split-more es i h (omega arit
 pub record IsSplitting (t : ℕ) (first now : DirectoryView) (before notes : List Note) (spare i splits : ℕ) : Type 0 where
   pub slots : now.slots ≡ first.slots
   pub most : now.most ≡ first.most
-  pub left : left_from t (first.slots - length now.entries) now.entries i ≡ left_after (hot_turns_in t first)
+  pub left : left_from t (first.slots - length now.entries) now.entries i ≡ entries_left (hot_turns_in t first)
   pub noted : notes ++ notes_from t (first.slots - length now.entries) now.entries i ≡ before ++ split_notes (hot_turns_in t first)
   pub count : splits + length (notes_from t (first.slots - length now.entries) now.entries i) ≡ length (split_notes (hot_turns_in t first))
   pub room : length now.entries ≤ spare + i
@@ -85,19 +86,19 @@ splitting-start t d notes spare room = record {
 at-same : (t s : ℕ) (d : DirectoryView) (i : ℕ) (o : Option (Entry × Entry)) → d.slots ≡ s → hot_at t d i ≡ o → halves_at t (s - length d.entries) d.entries i ≡ o
 at-same t s d i o e c = sym (ap (λ (k : ℕ). halves_at t (k - length d.entries) d.entries i) e) ∙ c
 
-pub splitting-stays : (t : ℕ) (first now : DirectoryView) (before notes : List Note) (spare i splits : ℕ) → IsSplitting t first now before notes spare i splits → i < length now.entries → hot_at t now i ≡ None → IsSplitting t first now before notes spare (i + 1) splits
-splitting-stays t first now before notes spare i splits h lt none =
+pub splitting-stays : (t : ℕ) (first now : DirectoryView) (before notes : List Note) (spare less i splits : ℕ) → IsSplitting t first now before notes spare i splits → i < length now.entries → hot_at t now i ≡ None → spare ≤ less → IsSplitting t first now before notes less (i + 1) splits
+splitting-stays t first now before notes spare less i splits h lt none room =
     let n : suc i ≡ i + 1 = omega arith in
     let free : ℕ = first.slots - length now.entries in
     let at = at-same t first.slots now i None h.slots none in
     let same : notes_from t free now.entries (suc i) ≡ notes_from t free now.entries i = stay-notes t free now.entries i lt at in
-    subst (λ (k : ℕ). IsSplitting t first now before notes spare k splits) n (record {
+    subst (λ (k : ℕ). IsSplitting t first now before notes less k splits) n (record {
       slots = h.slots;
       most = h.most;
       left = stay-left t free now.entries i lt at ∙ h.left;
       noted = ap (λ xs. notes ++ xs) same ∙ h.noted;
       count = ap (λ xs. splits + length xs) same ∙ h.count;
-      room = omega (arith, h.room);
+      room = omega (arith, h.room, room);
       few = omega (arith, h.few);
       within = omega arith;
     })
@@ -151,21 +152,11 @@ splitting-step t first now next before notes after spare less i splits added h l
       by : (o : Option (Entry × Entry)) → hot_at t now i ≡ o → next ≡ record now { entries = with_split i o now.entries } → after ≡ notes ++ split_noted (option_map (λ _. entry.range) o) → added ≡ length (split_noted (option_map (λ _. entry.range) o))
           → IsSplitting t first next before after less (i + (1 + added)) (splits + added)
       by None s e f n =
-          let here : IsSplitting t first now before notes spare (i + 1) splits = splitting-stays t first now before notes spare i splits h lt s in
           let none : added ≡ 0 = n in
           let sum : splits ≡ splits + added = omega arith in
           let place : i + 1 ≡ i + (1 + added) = omega arith in
-          let more : IsSplitting t first now before notes less (i + 1) splits = record {
-            slots = here.slots;
-            most = here.most;
-            left = here.left;
-            noted = here.noted;
-            count = here.count;
-            room = omega (arith, here.room);
-            few = here.few;
-            within = here.within;
-          } in
-          let counted = subst (λ (k : ℕ). IsSplitting t first now before notes less (i + 1) k) sum more in
+          let here : IsSplitting t first now before notes less (i + 1) splits = splitting-stays t first now before notes spare less i splits h lt s (omega (arith, room, none)) in
+          let counted = subst (λ (k : ℕ). IsSplitting t first now before notes less (i + 1) k) sum here in
           let placed = subst (λ (k : ℕ). IsSplitting t first now before notes less k (splits + added)) place counted in
           let logged = subst (λ (xs : List Note). IsSplitting t first now before xs less (i + (1 + added)) (splits + added)) (sym (f ∙ append-nil notes)) placed in
           subst (λ (d : DirectoryView). IsSplitting t first d before after less (i + (1 + added)) (splits + added)) (sym e) logged
@@ -178,14 +169,7 @@ splitting-step t first now next before notes after spare less i splits added h l
           subst (λ (k : ℕ). IsSplitting t first next before after less k (splits + added)) place counted
 
 pub splitting-ends : (t : ℕ) (first now : DirectoryView) (before notes : List Note) (spare i splits : ℕ) → IsSplitting t first now before notes spare i splits → length now.entries ≤ i
-    → (now ≡ record first { entries = left_after (hot_turns_in t first) }) × (notes ≡ before ++ split_notes (hot_turns_in t first)) × (splits ≡ length (split_notes (hot_turns_in t first)))
+    → (now ≡ record first { entries = entries_left (hot_turns_in t first) }) × (notes ≡ before ++ split_notes (hot_turns_in t first)) × (splits ≡ length (split_notes (hot_turns_in t first)))
 splitting-ends t first now before notes spare i splits h le =
-    let free : ℕ = first.slots - length now.entries in
-    let none : drop i now.entries ≡ [] = drop_all i now.entries le in
-    let no_notes : notes_from t free now.entries i ≡ [] = ap (λ xs. split_notes (hot_turns t free xs)) none in
-    let entries : now.entries ≡ left_after (hot_turns_in t first) =
-    sym (ap (λ xs. take i now.entries ++ left_after (hot_turns t free xs)) none ∙ append-nil (take i now.entries) ∙ take_all i now.entries le) ∙ h.left in (
-      ap (λ (s : ℕ). record now { slots = s }) h.slots ∙ ap (λ (m : ℕ). record now { slots = first.slots; most = m }) h.most ∙ ap (λ (xs : List Entry). record first { entries = xs }) entries,
-      sym (append-nil notes) ∙ ap (λ xs. notes ++ xs) (sym no_notes) ∙ h.noted,
-      omega (arith, h.count, ap length no_notes),
-    )
+    ends first now (entries_left (hot_turns_in t first)) before notes (split_notes (hot_turns_in t first)) i splits (λ xs. entries_left (hot_turns t (first.slots - length now.entries) xs)) (λ xs. split_notes (hot_turns t (first.slots - length now.entries) xs))
+    refl refl le h.slots h.most h.left h.noted h.count

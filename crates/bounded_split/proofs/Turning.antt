@@ -9,7 +9,7 @@ use Rattle.region_directory.specs.Merge.{merged_entry}
 use Rattle.region_directory.specs.Split.{split_entry}
 use Rattle.region_directory.specs.declared.entries.Entry.{Entry}
 use Rattle.region_directory.proofs.ResizeLemmas.{merged-hits}
-use Rattle.bounded_split.specs.Epoch.{Turn, Stays, Merges, Splits, judged, cold_merge, turns_behind, hot_split, split_turns, left_after, merge_notes, split_notes, turns_of_merges, epoch_turns, total_hits}
+use Rattle.bounded_split.specs.Epoch.{Turn, Stays, Merges, Splits, judged, cold_merge, turns_behind, hot_split, split_turns, entries_left, merge_notes, split_notes, turns_of_merges, epoch_turns, total_hits}
 use Rattle.bounded_split.specs.Hot.{hot_turns, hot_turns_in}
 use Rattle.bounded_split.specs.Verdict.{is_split, is_cold}
 use Rattle.bounded_split.specs.declared.loads.Verdict.TheVariants.{Split, Keep, Cold}
@@ -89,28 +89,28 @@ kept-whole t free w k = by (nat_lt 0 free) (is_split (judged t w)) k where
   by false y e = refl
 
 -- so the turns over what the merges left are the same
-pub same-left : (t free : ℕ) (ts : List Turn) → AreKept t ts → left_after (split_turns t free ts) ≡ left_after (hot_turns t free (left_after ts))
+pub same-left : (t free : ℕ) (ts : List Turn) → AreKept t ts → entries_left (split_turns t free ts) ≡ entries_left (hot_turns t free (entries_left ts))
 same-left t free [] k = refl
 same-left t free (Stays e ∷ ts) k = by (same-left t free ts k) (same-left t (free - 1) ts k) (hot_split t free e) where
-  by : left_after (split_turns t free ts) ≡ left_after (hot_turns t free (left_after ts)) → left_after (split_turns t (free - 1) ts) ≡ left_after (hot_turns t (free - 1) (left_after ts)) → (o : Option (Entry × Entry)) → left_after (option_map_or (λ halves. Splits e halves ∷ split_turns t (free - 1) ts) o (Stays e ∷ split_turns t free ts))
-      ≡ left_after (option_map_or (λ halves. Splits e halves ∷ hot_turns t (free - 1) (left_after ts)) o (Stays e ∷ hot_turns t free (left_after ts)))
+  by : entries_left (split_turns t free ts) ≡ entries_left (hot_turns t free (entries_left ts)) → entries_left (split_turns t (free - 1) ts) ≡ entries_left (hot_turns t (free - 1) (entries_left ts)) → (o : Option (Entry × Entry)) → entries_left (option_map_or (λ halves. Splits e halves ∷ split_turns t (free - 1) ts) o (Stays e ∷ split_turns t free ts))
+      ≡ entries_left (option_map_or (λ halves. Splits e halves ∷ hot_turns t (free - 1) (entries_left ts)) o (Stays e ∷ hot_turns t free (entries_left ts)))
   by stay halve None = ap (λ xs. e ∷ xs) stay
   by stay halve (Some h) = ap (λ xs. h.0 ∷ h.1 ∷ xs) halve
 same-left t free (Merges w ∷ ts) k =
     ap (λ xs. w ∷ xs) (same-left t free ts k.1)
-    ∙ sym (ap (λ (o : Option (Entry × Entry)). left_after (option_map_or (λ halves. Splits w halves ∷ hot_turns t (free - 1) (left_after ts)) o (Stays w ∷ hot_turns t free (left_after ts)))) (kept-whole t free w k.0))
+    ∙ sym (ap (λ (o : Option (Entry × Entry)). entries_left (option_map_or (λ halves. Splits w halves ∷ hot_turns t (free - 1) (entries_left ts)) o (Stays w ∷ hot_turns t free (entries_left ts)))) (kept-whole t free w k.0))
 same-left t free (Splits e h ∷ ts) k = absurd k
 
-pub same-splits : (t free : ℕ) (ts : List Turn) → AreKept t ts → split_notes (split_turns t free ts) ≡ split_notes (hot_turns t free (left_after ts))
+pub same-splits : (t free : ℕ) (ts : List Turn) → AreKept t ts → split_notes (split_turns t free ts) ≡ split_notes (hot_turns t free (entries_left ts))
 same-splits t free [] k = refl
 same-splits t free (Stays e ∷ ts) k = by (same-splits t free ts k) (same-splits t (free - 1) ts k) (hot_split t free e) where
-  by : split_notes (split_turns t free ts) ≡ split_notes (hot_turns t free (left_after ts)) → split_notes (split_turns t (free - 1) ts) ≡ split_notes (hot_turns t (free - 1) (left_after ts)) → (o : Option (Entry × Entry)) → split_notes (option_map_or (λ halves. Splits e halves ∷ split_turns t (free - 1) ts) o (Stays e ∷ split_turns t free ts))
-      ≡ split_notes (option_map_or (λ halves. Splits e halves ∷ hot_turns t (free - 1) (left_after ts)) o (Stays e ∷ hot_turns t free (left_after ts)))
+  by : split_notes (split_turns t free ts) ≡ split_notes (hot_turns t free (entries_left ts)) → split_notes (split_turns t (free - 1) ts) ≡ split_notes (hot_turns t (free - 1) (entries_left ts)) → (o : Option (Entry × Entry)) → split_notes (option_map_or (λ halves. Splits e halves ∷ split_turns t (free - 1) ts) o (Stays e ∷ split_turns t free ts))
+      ≡ split_notes (option_map_or (λ halves. Splits e halves ∷ hot_turns t (free - 1) (entries_left ts)) o (Stays e ∷ hot_turns t free (entries_left ts)))
   by stay halve None = stay
   by stay halve (Some h) = ap (λ xs. note.Split e.range ∷ xs) halve
 same-splits t free (Merges w ∷ ts) k =
     same-splits t free ts k.1
-    ∙ sym (ap (λ (o : Option (Entry × Entry)). split_notes (option_map_or (λ halves. Splits w halves ∷ hot_turns t (free - 1) (left_after ts)) o (Stays w ∷ hot_turns t free (left_after ts)))) (kept-whole t free w k.0))
+    ∙ sym (ap (λ (o : Option (Entry × Entry)). split_notes (option_map_or (λ halves. Splits w halves ∷ hot_turns t (free - 1) (entries_left ts)) o (Stays w ∷ hot_turns t free (entries_left ts)))) (kept-whole t free w k.0))
 same-splits t free (Splits e h ∷ ts) k = absurd k
 
 pub same-merges : (t free : ℕ) (ts : List Turn) → AreKept t ts → merge_notes (split_turns t free ts) ≡ merge_notes ts
@@ -124,16 +124,16 @@ same-merges t free (Splits e h ∷ ts) k = absurd k
 
 -- the directory when the merges are done
 abbrev pub merged_directory : ℕ → DirectoryView → DirectoryView
-merged_directory t d = record d { entries = left_after (turns_of_merges t d) }
+merged_directory t d = record d { entries = entries_left (turns_of_merges t d) }
 
-pub epoch-left : (t : ℕ) (d : DirectoryView) → left_after (epoch_turns t d) ≡ left_after (hot_turns_in t (merged_directory t d))
-epoch-left t d = same-left t (d.slots - length (left_after (turns_of_merges t d))) (turns_of_merges t d) (are-kept t d.most None d.entries)
+pub epoch-left : (t : ℕ) (d : DirectoryView) → entries_left (epoch_turns t d) ≡ entries_left (hot_turns_in t (merged_directory t d))
+epoch-left t d = same-left t (d.slots - length (entries_left (turns_of_merges t d))) (turns_of_merges t d) (are-kept t d.most None d.entries)
 
 pub epoch-splits : (t : ℕ) (d : DirectoryView) → split_notes (epoch_turns t d) ≡ split_notes (hot_turns_in t (merged_directory t d))
-epoch-splits t d = same-splits t (d.slots - length (left_after (turns_of_merges t d))) (turns_of_merges t d) (are-kept t d.most None d.entries)
+epoch-splits t d = same-splits t (d.slots - length (entries_left (turns_of_merges t d))) (turns_of_merges t d) (are-kept t d.most None d.entries)
 
 pub epoch-merges : (t : ℕ) (d : DirectoryView) → merge_notes (epoch_turns t d) ≡ merge_notes (turns_of_merges t d)
-epoch-merges t d = same-merges t (d.slots - length (left_after (turns_of_merges t d))) (turns_of_merges t d) (are-kept t d.most None d.entries)
+epoch-merges t d = same-merges t (d.slots - length (entries_left (turns_of_merges t d))) (turns_of_merges t d) (are-kept t d.most None d.entries)
 
 -- ---- splits are few
 
@@ -182,4 +182,4 @@ kept-fewer t m (Some a) (b ∷ es) = by (kept-fewer t m (Some b) es) (kept-fewer
 -- each split used up more hits than the threshold
 pub splits-bound : (t : ℕ) (d : DirectoryView) → length (split_notes (epoch_turns t d)) * (t + 1) ≤ total_hits d.entries
 splits-bound t d =
-    omega (arith, few-splits t (d.slots - length (left_after (turns_of_merges t d))) (turns_of_merges t d) (are-kept t d.most None d.entries), kept-fewer t d.most None d.entries)
+    omega (arith, few-splits t (d.slots - length (entries_left (turns_of_merges t d))) (turns_of_merges t d) (are-kept t d.most None d.entries), kept-fewer t d.most None d.entries)

@@ -82,8 +82,8 @@ left_by (Stays entry) = entry ∷ []
 left_by (Merges whole) = whole ∷ []
 left_by (Splits entry halves) = halves.0 ∷ halves.1 ∷ []
 
-abbrev pub left_after : List Turn → List Entry
-left_after turns = flat_map left_by turns
+abbrev pub entries_left : List Turn → List Entry
+entries_left turns = flat_map left_by turns
 
 abbrev pub merge_note : Turn → List Note
 merge_note (Stays entry) = []
@@ -110,12 +110,12 @@ turns_of_merges threshold directory = merged_turns threshold directory.most dire
 -- all turns of an epoch
 abbrev pub epoch_turns : ℕ → DirectoryView → List Turn
 epoch_turns threshold directory = split_turns threshold
-    (directory.slots - length (left_after (turns_of_merges threshold directory)))
+    (directory.slots - length (entries_left (turns_of_merges threshold directory)))
     (turns_of_merges threshold directory)
 
 -- the directory behind an epoch: no entry has hits
 abbrev pub after_epoch : ℕ → DirectoryView → DirectoryView
-after_epoch threshold directory = record directory { entries = map (with_hits 0) (left_after (epoch_turns threshold directory)) }
+after_epoch threshold directory = record directory { entries = map (with_hits 0) (entries_left (epoch_turns threshold directory)) }
 
 -- the notes of an epoch: the merges in order, and then the splits in order
 abbrev pub epoch_notes : ℕ → DirectoryView → List Note

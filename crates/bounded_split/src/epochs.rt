@@ -1,3 +1,5 @@
+//! An epoch: cold entries merge, hot ones split, and all hits go back to 0.
+
 ghost use Rattle.std.specs.Prelude.{◌≡◌, ◌+◌, ◌*◌, ◌≤◌, ◌++◌, length, IfOk, OnOk, OnErr};
 ghost use Rattle.region_directory.specs.Directory.{IsDirectory};
 ghost use Rattle.bounded_split.specs.Epoch.{after_epoch, epoch_notes, epoch_turns, merge_notes, split_notes, total_hits};

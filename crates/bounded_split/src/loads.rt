@@ -1,3 +1,5 @@
+//! What an entry has been asked since the last epoch, and what is to become of it.
+
 /// What a policy knows of an entry: the logarithm of its block's pages, 0 to 9, and how many pages were
 /// given up or lowered for others since the last epoch.
 #[derive(Clone, Copy, Debug, PartialEq, Eq)]

@@ -1,7 +1,8 @@
+//! Cold neighbours become one entry.
+
 ghost use Rattle.std.specs.Prelude.{◌≡◌, ◌+◌, ◌≤◌, ◌<◌, ◌++◌, length};
 ghost use Rattle.region_directory.specs.Merge.{with_merge};
-ghost use Rattle.bounded_split.specs.Verdict.{is_cold};
-ghost use Rattle.bounded_split.specs.Epoch.{judged, cold_at, left_after, merge_noted, merge_notes, turns_of_merges};
+ghost use Rattle.bounded_split.specs.Epoch.{judged, cold_at, entries_left, merge_noted, merge_notes, turns_of_merges};
 
 use crate::{Load, Policy, Verdict};
 use mind_base::{Log, Note};
@@ -15,15 +16,6 @@ pub fn judge(policy: &Policy, entry: &Entry) -> Verdict
         log: entry.range.log,
         hits: entry.hits,
     })
-}
-
-fn is_cold(policy: &Policy, entry: &Entry) -> bool
-    ensures { result ≡ is_cold (judged policy.now.threshold entry.now) }
-{
-    match judge(policy, entry) {
-        Verdict::Cold => true,
-        Verdict::Split | Verdict::Keep => false,
-    }
 }
 
 /// Merges the entry with this index and the next one, where both are cold and they may become one, and
@@ -45,9 +37,9 @@ fn merge_cold(directory: &mut Directory, policy: &Policy, log: &mut Log, i: u32)
     }
     let lower = directory.entry(i);
     let upper = directory.entry(i + 1);
-    if !is_cold(policy, &lower) || !is_cold(policy, &upper) {
+    let (Verdict::Cold, Verdict::Cold) = (judge(policy, &lower), judge(policy, &upper)) else {
         return 0;
-    }
+    };
     let Some(range) = directory.merge(i) else {
         return 0;
     };
@@ -60,7 +52,7 @@ fn merge_cold(directory: &mut Directory, policy: &Policy, log: &mut Log, i: u32)
 pub fn merge_all(directory: &mut Directory, policy: &Policy, log: &mut Log) -> u32
     requires { length directory.old.entries ≤ log.old.spare }
     ensures changed { directory.new ≡ record directory.old {
-      entries = left_after (turns_of_merges policy.now.threshold directory.old);
+      entries = entries_left (turns_of_merges policy.now.threshold directory.old);
     } }
     ensures notes { log.new.notes
         ≡ log.old.notes ++ merge_notes (turns_of_merges policy.now.threshold directory.old) }

@@ -1,6 +1,8 @@
+//! The policy that judges the load of an entry: a threshold, or a closure.
+
 ghost use Rattle.std.specs.Prelude.{◌≡◌, ◌≤◌};
 ghost use Rattle.bounded_split.specs.Verdict.{verdict_of};
-ghost use Rattle.bounded_split.specs.Policy.{Judges};
+ghost use Rattle.bounded_split.specs.Policy.{JudgesLoads};
 
 use crate::{Load, Verdict};
 
@@ -13,13 +15,13 @@ pub type Judge = Box<dyn Fn(Load) -> Verdict>;
 pub struct Policy {
     threshold: u32,
     judge: Judge,
-    ghost judges: { Judges (Judge.pre judge) (Judge.post judge) threshold },
+    ghost judges: { JudgesLoads (Judge.pre judge) (Judge.post judge) threshold },
 }
 
 impl Policy {
     /// The policy with this threshold and closure.
     pub fn new(threshold: u32, judge: Judge) -> Policy
-        requires { Judges (Judge.pre judge) (Judge.post judge) threshold }
+        requires { JudgesLoads (Judge.pre judge) (Judge.post judge) threshold }
         ensures { result.threshold ≡ threshold }
     {
         Policy { threshold, judge }

@@ -1,22 +1,14 @@
+//! Hot entries become two while a slot is free.
+
 ghost use Rattle.std.specs.Prelude.{◌≡◌, ◌+◌, ◌≤◌, ◌<◌, ◌++◌, length};
 ghost use Rattle.region_directory.specs.Split.{with_split};
-ghost use Rattle.bounded_split.specs.Epoch.{judged, hot_at, left_after, split_notes};
+ghost use Rattle.bounded_split.specs.Epoch.{hot_at, entries_left, split_notes};
 ghost use Rattle.bounded_split.specs.Hot.{hot_block, hot_turns_in, split_noted};
-ghost use Rattle.bounded_split.specs.Verdict.{is_split};
 
 use crate::merges::judge;
 use crate::{Policy, Verdict};
 use mind_base::{Log, Note};
-use region_directory::{Directory, Entry};
-
-fn is_hot(policy: &Policy, entry: &Entry) -> bool
-    ensures { result ≡ is_split (judged policy.now.threshold entry.now) }
-{
-    match judge(policy, entry) {
-        Verdict::Split => true,
-        Verdict::Keep | Verdict::Cold => false,
-    }
-}
+use region_directory::Directory;
 
 /// Splits the entry with this index, where the verdict says so and a slot is free, and notes its block;
 /// gives how many splits there were, 0 or 1.
@@ -32,7 +24,7 @@ fn split_hot(directory: &mut Directory, policy: &Policy, log: &mut Log, i: u32) 
     ensures spare { log.old.spare ≤ log.new.spare + result }
 {
     let entry = directory.entry(i);
-    if !is_hot(policy, &entry) || !directory.split(i) {
+    if !matches!(judge(policy, &entry), Verdict::Split) || !directory.split(i) {
         return 0;
     }
     log.add(Note::Split { range: entry.range }).unwrap();
@@ -44,7 +36,7 @@ fn split_hot(directory: &mut Directory, policy: &Policy, log: &mut Log, i: u32) 
 pub fn split_all(directory: &mut Directory, policy: &Policy, log: &mut Log) -> u32
     requires { length directory.old.entries ≤ log.old.spare }
     ensures changed { directory.new ≡ record directory.old {
-      entries = left_after (hot_turns_in policy.now.threshold directory.old);
+      entries = entries_left (hot_turns_in policy.now.threshold directory.old);
     } }
     ensures notes { log.new.notes
         ≡ log.old.notes ++ split_notes (hot_turns_in policy.now.threshold directory.old) }

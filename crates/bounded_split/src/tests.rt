@@ -1,3 +1,5 @@
+//! Epochs over small directories, by rows.
+
 ghost use Rattle.std.specs.Prelude.{◌≡◌};
 ghost use Rattle.bounded_split.specs.Verdict.{verdict_of};
 
@@ -6,11 +8,11 @@ use mind_base::{Log, Note, Page, State};
 use region_directory::{Busy, Directory};
 use std::test::Fail;
 
-/// The verdict of the policy with threshold 4.
-fn by_four(load: Load) -> Verdict
-    ensures { result ≡ verdict_of 4 load }
+/// The verdict of the policy with a threshold.
+fn verdict_by(threshold: u32, load: Load) -> Verdict
+    ensures { result ≡ verdict_of threshold load }
 {
-    if load.log > 0 && load.hits > 4 {
+    if load.log > 0 && load.hits > threshold {
         Verdict::Split
     } else if load.hits == 0 {
         Verdict::Cold
@@ -56,9 +58,19 @@ fn noted(log: &Log, i: usize) -> Option<(char, u32, u8)> {
     }
 }
 
+fn sums_of(merges: u32, splits: u32, hits: u64) -> EpochSums
+    ensures { result ≡ record { merges = merges; splits = splits; hits = hits } }
+{
+    EpochSums {
+        merges,
+        splits,
+        hits,
+    }
+}
+
 #[test]
 fn merges_cold_neighbours_once_and_then_splits(rt: HostRuntime) -> Result<(), Fail> {
-    let policy = Policy::new(4, Box::new(rt.alloc(), by_four)?);
+    let policy = Policy::new(4, Box::new(rt.alloc(), |load: Load| verdict_by(4, load))?);
     let mut log = Log::new(rt.alloc());
     let mut directory = Directory::new(rt.alloc(), 7, 2)?;
     for (number, size, hits) in [
@@ -73,14 +85,7 @@ fn merges_cold_neighbours_once_and_then_splits(rt: HostRuntime) -> Result<(), Fa
         put(&mut directory, number, size, hits);
     }
     let sums = epoch(&mut directory, &policy, &mut log)?;
-    assert_eq!(rt;
-        sums,
-        EpochSums {
-            merges: 2,
-            splits: 2,
-            hits: 15
-        }
-    );
+    assert_eq!(rt; sums, sums_of(2, 2, 15));
     let notes = [('j', 0, 1), ('j', 2, 1), ('s', 8, 1), ('s', 12, 1)];
     for (i, note) in notes.iter().enumerate() {
         assert_eq!(rt; noted(&log, i), Some(*note));
@@ -91,14 +96,7 @@ fn merges_cold_neighbours_once_and_then_splits(rt: HostRuntime) -> Result<(), Fa
         assert_eq!(rt; block(&directory, i as u32), Some(*whole));
     }
     let sums = epoch(&mut directory, &policy, &mut log)?;
-    assert_eq!(rt;
-        sums,
-        EpochSums {
-            merges: 3,
-            splits: 0,
-            hits: 0
-        }
-    );
+    assert_eq!(rt; sums, sums_of(3, 0, 0));
     assert_eq!(rt; noted(&log, 4), Some(('j', 0, 2)));
     assert_eq!(rt; noted(&log, 5), Some(('j', 8, 1)));
     Ok(())
@@ -106,20 +104,13 @@ fn merges_cold_neighbours_once_and_then_splits(rt: HostRuntime) -> Result<(), Fa
 
 #[test]
 fn splits_while_a_slot_is_free(rt: HostRuntime) -> Result<(), Fail> {
-    let policy = Policy::new(4, Box::new(rt.alloc(), by_four)?);
+    let policy = Policy::new(4, Box::new(rt.alloc(), |load: Load| verdict_by(4, load))?);
     let mut log = Log::new(rt.alloc());
     let mut directory = Directory::new(rt.alloc(), 3, 9)?;
     put(&mut directory, 0, 1, 5);
     put(&mut directory, 2, 1, 4_294_967_295);
     let sums = epoch(&mut directory, &policy, &mut log)?;
-    assert_eq!(rt;
-        sums,
-        EpochSums {
-            merges: 0,
-            splits: 1,
-            hits: 4_294_967_300
-        }
-    );
+    assert_eq!(rt; sums, sums_of(0, 1, 4_294_967_300));
     assert_eq!(rt; noted(&log, 0), Some(('s', 0, 1)));
     assert_eq!(rt;
         (block(&directory, 1), block(&directory, 2)),
@@ -130,16 +121,7 @@ fn splits_while_a_slot_is_free(rt: HostRuntime) -> Result<(), Fail> {
 
 #[test]
 fn splits_a_busy_entry_in_its_transition(rt: HostRuntime) -> Result<(), Fail> {
-    let judge = |load: Load| {
-        if load.log > 0 && load.hits > 0 {
-            Verdict::Split
-        } else if load.hits == 0 {
-            Verdict::Cold
-        } else {
-            Verdict::Keep
-        }
-    };
-    let policy = Policy::new(0, Box::new(rt.alloc(), judge)?);
+    let policy = Policy::new(0, Box::new(rt.alloc(), |load: Load| verdict_by(0, load))?);
     let mut log = Log::new(rt.alloc());
     let mut directory = Directory::new(rt.alloc(), 8, 9)?;
     put(&mut directory, 2, 1, 1);
@@ -155,14 +137,7 @@ fn splits_a_busy_entry_in_its_transition(rt: HostRuntime) -> Result<(), Fail> {
     assert!(rt; 0 < directory.len());
     directory.set_busy(0, Some(busy));
     let sums = epoch(&mut directory, &policy, &mut log)?;
-    assert_eq!(rt;
-        sums,
-        EpochSums {
-            merges: 0,
-            splits: 1,
-            hits: 1
-        }
-    );
+    assert_eq!(rt; sums, sums_of(0, 1, 1));
     assert_eq!(rt; directory.len(), 2);
     for i in 0..2 {
         assert!(rt; i < directory.len());

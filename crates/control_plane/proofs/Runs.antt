@@ -4,15 +4,14 @@ use Rattle.std.specs.List.{list_any}
 use Rattle.std.proofs.lemmas.Bool.{cases_Bool, both_ways, false_from_ne_true}
 use Rattle.mind_base.specs.Page.{PageView}
 use Rattle.mind_base.specs.Span.{SpanView, InSpan, in_span}
-use Rattle.mind_base.specs.Home.{place_in, home_from, home_of}
+use Rattle.mind_base.specs.Home.{number_in_homes, home_from, home_of}
 use Rattle.mind_base.specs.Cover.{all_below, level}
 use Rattle.mind_base.specs.declared.commands.Perm.{Perm}
 use Rattle.mind_base.specs.declared.commands.Perm.TheVariants.{No, R, Rw}
-use Rattle.mind_base.specs.declared.commands.Command.TheVariants.{Map, Protect}
 use Rattle.mind_base.specs.declared.plans.MemoryPlan.{MemoryPlan}
-use Rattle.protect_table.specs.Protect.{FirstPage, changed}
+use Rattle.protect_table.specs.Protect.{FirstPage}
 use Rattle.protect_table.proofs.Counting.{all_below-holds, all_below-from}
-use Rattle.control_plane.specs.Outcome.{all_in, are_placed, are_mapped, are_unmapped, outcome_in, outcome_of}
+use Rattle.control_plane.specs.Outcome.{all_in, are_mapped, are_unmapped}
 
 -- one page more
 pub all_below-more : (test : ℕ → Bool) (n : ℕ) → all_below test n ≡ true → test n ≡ true → all_below test (n + 1) ≡ true
@@ -44,19 +43,19 @@ is_some-pair : (f : ℕ → ℕ × ℕ) (o : Option ℕ) → is_some (option_map
 is_some-pair f None = refl
 is_some-pair f (Some n) = refl
 
-is_some-place : (spans : List SpanView) (page : PageView) → is_some (place_in spans page) ≡ list_any (λ span. in_span span page) spans
+is_some-place : (spans : List SpanView) (page : PageView) → is_some (number_in_homes spans page) ≡ list_any (λ span. in_span span page) spans
 is_some-place [] page = refl
 is_some-place (span ∷ spans) page = elim (cases_Bool (in_span span page)) [
   | inl e ↦ rw e refl
-  | inr e ↦ rw e (is_some-map (λ n. span.pages + n) (place_in spans page) ∙ is_some-place spans page)
+  | inr e ↦ rw e (is_some-map (λ n. span.pages + n) (number_in_homes spans page) ∙ is_some-place spans page)
 ]
 
 is_some-home : (blade : ℕ) (memories : List MemoryPlan) (page : PageView) → is_some (home_from blade memories page) ≡ list_any (λ memory. list_any (λ span. in_span span page) memory.homes) memories
 is_some-home blade [] page = refl
-is_some-home blade (memory ∷ memories) page = elim (cases_Bool (is_some (place_in memory.homes page))) [
+is_some-home blade (memory ∷ memories) page = elim (cases_Bool (is_some (number_in_homes memory.homes page))) [
   | inl e ↦
       let f = sym (is_some-place memory.homes page) ∙ e in
-      rw (e, f) (is_some-pair (λ n. (blade, n)) (place_in memory.homes page) ∙ e)
+      rw (e, f) (is_some-pair (λ n. (blade, n)) (number_in_homes memory.homes page) ∙ e)
   | inr e ↦
       let f = sym (is_some-place memory.homes page) ∙ e in
       rw (e, f) (is_some-home (blade + 1) memories page)
@@ -104,9 +103,3 @@ is_none-by (Some page) false e = refl
 -- whether the first pages of a run have a home
 abbrev pub placed_below : List MemoryPlan → SpanView → ℕ → Bool
 placed_below memories span n = all_below (λ i. is_some (home_of memories (record { domain = span.domain; number = span.base + i }))) n
-
-pub outcome_of-map : (memories : List MemoryPlan) (permissions : PageView → Perm) (slots : ℕ) (span : SpanView) (perm : Perm) → are_placed memories span ≡ true → are_unmapped permissions span ≡ true → outcome_of (Map span perm) memories permissions slots ≡ outcome_in (changed permissions span perm) slots
-outcome_of-map memories permissions slots span perm placed unmapped = rw (placed, unmapped) refl
-
-pub outcome_of-protect : (memories : List MemoryPlan) (permissions : PageView → Perm) (slots : ℕ) (span : SpanView) (perm : Perm) → are_mapped permissions span ≡ true → outcome_of (Protect span perm) memories permissions slots ≡ outcome_in (changed permissions span perm) slots
-outcome_of-protect memories permissions slots span perm mapped = rw mapped refl

@@ -16,6 +16,10 @@ pub record ControlView : Type 0 where
   pub asked : ℕ
   pub last : ℕ
 
+-- a control with these parts
+abbrev pub control_of : ℕ → Phase → Option Command → List Asked → ℕ → ℕ → ControlView
+control_of blades phase current waiting asked last = record { blades = blades; phase = phase; current = current; waiting = waiting; asked = asked; last = last }
+
 -- a command is under way except in the phase Free, with the last number; while its pages are being closed,
 -- some of the rack's blades are waited for
 abbrev pub FitsPhase : ControlView → Phase → Type 0
@@ -66,22 +70,22 @@ abbrev pub after_begin : ControlView → ControlView
 after_begin c = if is_free c.phase then begun_from c.waiting c else c
 
 -- the phase waits for the answer of this blade to this number
-abbrev pub WaitsFor : ℕ → ℕ → Phase → Type 0
-WaitsFor number blade Free = ⊥
-WaitsFor number blade (Closing index n waiting) = (n ≡ number) × (bit_at waiting blade ≡ 1)
-WaitsFor number blade (Applying index n) = ⊥
+abbrev pub PhaseWaitsFor : ℕ → ℕ → Phase → Type 0
+PhaseWaitsFor number blade Free = ⊥
+PhaseWaitsFor number blade (Closing index n waiting) = (n ≡ number) × (bit_at waiting blade ≡ 1)
+PhaseWaitsFor number blade (Applying index n) = ⊥
 
 -- an answer takes the blade's bit, which is set, out of those waited for; the last answer makes the command applied
 abbrev pub closed_by : ℕ → ℕ → ℕ → Phase
 closed_by index number left = if left == 0 then Applying index number else Closing index number left
 
-abbrev pub answered : ℕ → Phase → Phase
-answered blade Free = Free
-answered blade (Closing index number waiting) = closed_by index number (bit_xor waiting (2 ^ blade))
-answered blade (Applying index number) = Applying index number
+abbrev pub phase_answered : ℕ → Phase → Phase
+phase_answered blade Free = Free
+phase_answered blade (Closing index number waiting) = closed_by index number (bit_xor waiting (2 ^ blade))
+phase_answered blade (Applying index number) = Applying index number
 
 abbrev pub after_closed : ControlView → ℕ → ControlView
-after_closed c blade = record c { phase = answered blade c.phase }
+after_closed c blade = record c { phase = phase_answered blade c.phase }
 
 abbrev pub IsApplying : Phase → Type 0
 IsApplying Free = ⊥

@@ -1,11 +1,13 @@
+//! How a command ends, and the permissions that it leaves.
+
 ghost use Rattle.std.specs.Prelude.{◌≡◌, ◌≤◌, OnOk, OnErr};
 ghost use Rattle.std.specs.List.{list_any};
 ghost use Rattle.mind_base.specs.Span.{in_span};
 ghost use Rattle.mind_base.specs.Cover.{cover_of};
 ghost use Rattle.protect_table.specs.Protect.{permission_at, changed};
-ghost use Rattle.control_plane.specs.Outcome.{are_placed, are_mapped, are_unmapped, outcome_in, IsChange, permissions_after, outcome_of};
+ghost use Rattle.control_plane.specs.Outcome.{are_placed, are_mapped, are_unmapped, outcome_in, IsChange, setting_of, refusal_of, refusal_of_unmapped, permissions_after, outcome_of};
 
-use mind_base::{Command, MemoryPlan, NoMemory, Outcome, Page, Perm, Span};
+use mind_base::{Command, MapPlan, MemoryPlan, NoMemory, Outcome, Page, Perm, Span};
 use protect_table::{Protect, SetRefusal};
 
 /// How a command that is no migrate ends: the first outcome that fits. `homes` are the memory blades,
@@ -16,30 +18,13 @@ pub fn decide(command: &Command, homes: &[MemoryPlan], protect: &Protect) -> Out
     ensures room { result ≡ Outcome.Fine
         → cover_of (permissions_after command.now (permission_at protect.now)) ≤ protect.now.slots }
 {
-    match command {
-        Command::Map { span, perm } => {
-            if !are_placed(homes, span) {
-                return Outcome::Unplaced;
-            }
-            if !are_unmapped(protect, span) {
-                return Outcome::Overlap;
-            }
-            within_slots(protect, span, *perm)
-        }
-        Command::Unmap { span } => {
-            if !are_mapped(protect, span) {
-                return Outcome::Unmapped;
-            }
-            within_slots(protect, span, Perm::No)
-        }
-        Command::Protect { span, perm } => {
-            if !are_mapped(protect, span) {
-                return Outcome::Unmapped;
-            }
-            within_slots(protect, span, *perm)
-        }
-        Command::Migrate { .. } => unreachable!(),
+    if let Some(refusal) = refusal_of(command, homes, protect) {
+        return refusal;
     }
+    let Some(MapPlan { span, perm }) = setting_of(command) else {
+        unreachable!();
+    };
+    within_slots(protect, &span, perm)
 }
 
 /// Sets the command's run of pages to its permission, none for an unmap. After an error the table is
@@ -51,11 +36,61 @@ pub fn apply(command: &Command, protect: &mut Protect) -> Result<(), NoMemory>
     ensures slots { protect.new.slots ≡ protect.old.slots }
     ensures refused { OnErr result (protect.new ≡ protect.old) }
 {
+    let Some(MapPlan { span, perm }) = setting_of(command) else {
+        unreachable!();
+    };
+    set(protect, &span, perm)
+}
+
+/// What the command sets: a run of pages and the permission that they get, none by an unmap. A migrate
+/// sets nothing.
+fn setting_of(command: &Command) -> Option<MapPlan>
+    ensures { result ≡ setting_of command.now }
+{
     match command {
-        Command::Map { span, perm } => set(protect, span, *perm),
-        Command::Unmap { span } => set(protect, span, Perm::No),
-        Command::Protect { span, perm } => set(protect, span, *perm),
-        Command::Migrate { .. } => unreachable!(),
+        Command::Map { span, perm } => Some(MapPlan {
+            span: *span,
+            perm: *perm,
+        }),
+        Command::Unmap { span } => Some(MapPlan {
+            span: *span,
+            perm: Perm::No,
+        }),
+        Command::Protect { span, perm } => Some(MapPlan {
+            span: *span,
+            perm: *perm,
+        }),
+        Command::Migrate { .. } => None,
+    }
+}
+
+/// Why the command is refused, whatever slots there are.
+fn refusal_of(command: &Command, homes: &[MemoryPlan], protect: &Protect) -> Option<Outcome>
+    ensures { result ≡ refusal_of command.now homes.now (permission_at protect.now) }
+{
+    match command {
+        Command::Map { span, .. } => {
+            if !are_placed(homes, span) {
+                Some(Outcome::Unplaced)
+            } else if !are_unmapped(protect, span) {
+                Some(Outcome::Overlap)
+            } else {
+                None
+            }
+        }
+        Command::Unmap { span } => refusal_of_unmapped(protect, span),
+        Command::Protect { span, .. } => refusal_of_unmapped(protect, span),
+        Command::Migrate { .. } => None,
+    }
+}
+
+fn refusal_of_unmapped(protect: &Protect, span: &Span) -> Option<Outcome>
+    ensures { result ≡ refusal_of_unmapped span.now (permission_at protect.now) }
+{
+    if are_mapped(protect, span) {
+        None
+    } else {
+        Some(Outcome::Unmapped)
     }
 }
 

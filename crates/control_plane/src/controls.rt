@@ -1,6 +1,8 @@
+//! The commands of a rack, of which one is under way at a time.
+
 ghost use Rattle.std.specs.Prelude.{◌≡◌, ◌≢◌, ◌↔◌, ◌^◌, IsNone, OnOk, OnErr, bit_xor};
 ghost use Rattle.std.specs.Int.{bit_at};
-ghost use Rattle.control_plane.specs.Control.{ControlView, IsControl, WaitsFor, IsApplying, no_commands, can_begin, answered, closed_by, after_ask, after_begin, after_closed, after_finish};
+ghost use Rattle.control_plane.specs.Control.{ControlView, IsControl, PhaseWaitsFor, IsApplying, no_commands, can_begin, phase_answered, closed_by, after_ask, after_begin, after_closed, after_finish};
 
 use crate::{Asked, Phase};
 use mind_base::{Command, Stop};
@@ -22,27 +24,13 @@ pub struct Control {
 }
 
 impl Model for Control {
-    ghost use Rattle.control_plane.specs.Control.{ControlView, IsControl};
+    ghost use Rattle.control_plane.specs.Control.{ControlView, IsControl, control_of};
 
     ghost Value = { ControlView };
 
-    ghost view = { λ c. record {
-      blades = c.blades;
-      phase = c.phase;
-      current = c.current;
-      waiting = c.waiting.items;
-      asked = c.asked;
-      last = c.last;
-    } };
+    ghost view = { λ c. control_of c.blades c.phase c.current c.waiting.items c.asked c.last };
 
-    ghost invariant = { λ c. IsControl (record {
-      blades = c.blades;
-      phase = c.phase;
-      current = c.current;
-      waiting = c.waiting.items;
-      asked = c.asked;
-      last = c.last;
-    }) };
+    ghost invariant = { λ c. IsControl (control_of c.blades c.phase c.current c.waiting.items c.asked c.last) };
 }
 
 impl Control {
@@ -122,7 +110,7 @@ impl Control {
     /// Takes the answer of a blade that has closed the pages of the command with this number. When all
     /// blades have answered, the command is applied.
     pub fn closed(&mut self, number: u32, blade: u8)
-        requires { WaitsFor number blade self.old.phase }
+        requires { PhaseWaitsFor number blade self.old.phase }
         ensures closed { self.new ≡ after_closed self.old blade }
         ensures valid { IsControl self.new }
     {
@@ -142,8 +130,8 @@ impl Control {
 
 /// The phase when a blade that it waits for has answered.
 fn answered(phase: Phase, number: u32, blade: u8) -> Phase
-    requires { WaitsFor number blade phase }
-    ensures { result ≡ answered blade phase }
+    requires { PhaseWaitsFor number blade phase }
+    ensures { result ≡ phase_answered blade phase }
 {
     match phase {
         Phase::Closing {

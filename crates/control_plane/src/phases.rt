@@ -1,3 +1,5 @@
+//! How far the command under way is.
+
 use mind_base::Command;
 
 /// A command that was asked for, with the index that tells it from all others.

@@ -5,7 +5,7 @@ use Rattle.std.specs.List.{range_with_len, filter}
 use Rattle.std.proofs.lemmas.Bool.{cases_Bool, cases_lt, eqb-true}
 use Rattle.std.proofs.lemmas.List.{append-nil, map-append}
 use Rattle.std.proofs.lemmas.List.Elements.{filter-append}
-use Rattle.std.proofs.lemmas.Nat.{one_shl, pow_pos, shr-shr, shr_split}
+use Rattle.std.proofs.lemmas.Nat.{pow_pos, shr-shr, shr_split}
 use Rattle.std.proofs.lemmas.Grind.{pow_more}
 use Rattle.std.proofs.lemmas.Nat.Bits.{bit_at_above, bit_at_cat_low, bit_at_cat_high}
 use Rattle.invalidate_multicast.specs.Blades.{has_blade, without_blade, cast_to}
@@ -71,16 +71,6 @@ bit-other w b i e (inr lt) =
     ap (λ x. bit_at x i) s.less ∙ bit_at_cat_high (w / 2 ^ (b + 1)) (b + 1) (w % 2 ^ b) i (omega (arith, s.top)) (omega arith) ∙
     sym (ap (λ x. bit_at x i) s.all ∙ bit_at_cat_high (w / 2 ^ (b + 1)) (b + 1) (1 * 2 ^ b + w % 2 ^ b) i s.top (omega arith))
 
--- the blade of a set of 8
-pub has-blade_below : (w b : ℕ) → w < 256 → has_blade w b ≡ true → b < 8
-has-blade_below w b lt t = elim (cases_lt b 8) [
-  | inl small ↦ small
-  | inr big ↦
-      let one : bit_at w b ≡ 1 = eqb-true (bit_at w b) 1 t in
-      let none : bit_at w b ≡ 0 = bit_at_above w 8 b lt big in
-      absurd (omega arith)
-]
-
 pub has-blade_above : (w b : ℕ) → w < 256 → 8 ≤ b → has_blade w b ≡ false
 has-blade_above w b lt big = ap (λ x. x == 1) (bit_at_above w 8 b lt big)
 
@@ -103,5 +93,5 @@ without-other w b i ne =
     ]
 
 -- the code's way to take a blade off
-pub without-taken : (w b : ℕ) → b < 8 → has_blade w b ≡ true → w - 1 * 2 ^ b % 256 ≡ without_blade w b
-without-taken w b lt t = ap (λ x. w - x) (one_shl b 8 lt) ∙ sym (ap (λ v. cond v (w - 2 ^ b) w) t)
+pub without-taken : (w b : ℕ) → has_blade w b ≡ true → w - 2 ^ b ≡ without_blade w b
+without-taken w b t = sym (ap (λ v. cond v (w - 2 ^ b) w) t)

@@ -1,3 +1,4 @@
 pub mod AnswerLemmas
 pub mod BladeLemmas
 pub mod FirstLemmas
+pub mod Sets

@@ -1,5 +1,7 @@
-ghost use Rattle.std.specs.Prelude.{◌≡◌, ℕ, false, IfOk};
-ghost use Rattle.invalidate_multicast.specs.Blades.{has_blade, without_blade, casts_of};
+//! Sets of blades, and the messages that tell each of a set.
+
+ghost use Rattle.std.specs.Prelude.{◌≡◌, ◌<◌, ◌^◌, ℕ, false, IfOk};
+ghost use Rattle.invalidate_multicast.specs.Blades.{has_blade, with_blade, without_blade, casts_of};
 
 use mind_base::NoMemory;
 use std::alloc::Global;
@@ -17,6 +19,26 @@ pub fn is_among(blades: u8, blade: u8) -> bool
     blade < 8 && (blades >> blade) % 2 == 1
 }
 
+/// The set of this blade alone.
+pub fn only(blade: u8) -> u8
+    requires { blade < 8 }
+    ensures { result ≡ 2 ^ blade }
+{
+    1 << blade
+}
+
+/// The set with one blade more.
+pub fn with_blade(blades: u8, blade: u8) -> u8
+    requires { blade < 8 }
+    ensures { result ≡ with_blade blades blade }
+{
+    if is_among(blades, blade) {
+        blades
+    } else {
+        blades + only(blade)
+    }
+}
+
 /// The set without this blade.
 pub fn without(blades: u8, blade: u8) -> u8
     ensures rest { result ≡ without_blade blades blade }
@@ -25,7 +47,7 @@ pub fn without(blades: u8, blade: u8) -> u8
         → has_blade result other ≡ has_blade blades other }
 {
     if is_among(blades, blade) {
-        blades - (1 << blade)
+        blades - only(blade)
     } else {
         blades
     }

@@ -4,7 +4,7 @@
 mod casts;
 mod transitions;
 
-pub use casts::{Cast, is_among, targets, without};
+pub use casts::{Cast, is_among, only, targets, with_blade, without};
 pub use transitions::{ack, begin, ended};
 
 #[cfg(test)]

@@ -1,3 +1,5 @@
+//! Transitions from their beginning to their last answer, by rows.
+
 ghost use Rattle.std.specs.Prelude.{◌<◌, ◌^◌, ◌≢◌};
 
 use crate::{Cast, ack, begin, ended, targets};

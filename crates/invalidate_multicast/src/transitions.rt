@@ -1,3 +1,5 @@
+//! Transitions of directory entries: begun, answered blade by blade, ended.
+
 ghost use Rattle.std.specs.Prelude.{◌≡◌, ◌≢◌, ◌↔◌, false, length, map, slice_get, All, IsNone, IsSomeAnd, IfSome, IfNone, Some};
 ghost use Rattle.region_directory.specs.Directory.{IsDirectory};
 ghost use Rattle.region_directory.specs.Entry.{with_busy, changed_at};

@@ -9,7 +9,7 @@ use Rattle.protect_table.specs.declared.blocks.Sought.{Sought}
 use Rattle.protect_table.specs.declared.blocks.Sought.TheVariants.{Unmapped, Mapped}
 use Rattle.protect_table.specs.Protect.{permission_among, FirstPage}
 use Rattle.protect_table.proofs.Tables.{page-of-domain}
-use Rattle.protect_table.specs.Block.{BlockView, whole, halves, permission_in, IsHalved, is_apart, is_sought, first_in, first_of}
+use Rattle.protect_table.specs.Block.{BlockView, whole, halves, permission_in, IsHalved, lies_apart, is_sought, first_in, first_some}
 use Rattle.protect_table.proofs.Halving.{sizes, lower-page, upper-page, apart-false, apart-among, among-in}
 
 -- the number is the first from one number to below another, and below a size, that passes
@@ -24,11 +24,11 @@ abbrev pub First : (ℕ → Bool) → ℕ → ℕ → ℕ → Option ℕ → Typ
 First test size from to None = (i : ℕ) → i < size → from ≤ i → i < to → test i ≡ false
 First test size from to (Some n) = IsFirst test size from to n
 
-first-apart : (test : ℕ → Bool) (size from to : ℕ) → is_apart size from to ≡ true → First test size from to None
+first-apart : (test : ℕ → Bool) (size from to : ℕ) → lies_apart size from to ≡ true → First test size from to None
 first-apart test size from to e i inside above below =
     absurd (both_ways _ (apart-among size from to i inside e) (among-in from to i above below))
 
-first-halves : (test low high : ℕ → Bool) (size half from to : ℕ) → size ≡ half + half → ((n : ℕ) → n < half → test n ≡ low n) → ((n : ℕ) → n < half → test (half + n) ≡ high n) → (a b : Option ℕ) → First low half from to a → First high half (from - half) (to - half) b → First test size from to (first_of a (option_map (λ n. half + n) b))
+first-halves : (test low high : ℕ → Bool) (size half from to : ℕ) → size ≡ half + half → ((n : ℕ) → n < half → test n ≡ low n) → ((n : ℕ) → n < half → test (half + n) ≡ high n) → (a b : Option ℕ) → First low half from to a → First high half (from - half) (to - half) b → First test size from to (first_some a (option_map (λ n. half + n) b))
 first-halves test low high size half from to whole_size l h (Some n) b p q = record {
   inside = omega (arith, p.inside);
   above = p.above;
@@ -57,7 +57,7 @@ first-halves test low high size half from to whole_size l h None (Some m) p q = 
 }
 
 pub first_in-finds : (sought : Sought) (block : BlockView) (k from to : ℕ) → IsHalved block k → First (λ n. is_sought sought (permission_in block k n)) (2 ^ k) from to (first_in sought block k from to)
-first_in-finds sought (whole p) k from to s = elim (cases_Bool (is_apart (2 ^ k) from to)) [
+first_in-finds sought (whole p) k from to s = elim (cases_Bool (lies_apart (2 ^ k) from to)) [
   | inl e ↦ rw e (first-apart (λ n. is_sought sought p) (2 ^ k) from to e)
   | inr e ↦ elim (cases_Bool (is_sought sought p)) [
     | inl fits ↦
@@ -66,7 +66,7 @@ first_in-finds sought (whole p) k from to s = elim (cases_Bool (is_apart (2 ^ k)
     | inr fails ↦ rw (e, fails) (λ i inside above below. refl)
   ]
 ]
-first_in-finds sought (halves l u) k from to s = elim (cases_Bool (is_apart (2 ^ k) from to)) [
+first_in-finds sought (halves l u) k from to s = elim (cases_Bool (lies_apart (2 ^ k) from to)) [
   | inl e ↦ rw e (first-apart (λ n. is_sought sought (permission_in (halves l u) k n)) (2 ^ k) from to e)
   | inr e ↦ rw e (first-halves (λ n. is_sought sought (permission_in (halves l u) k n)) (λ n. is_sought sought (permission_in l (k - 1) n)) (λ n. is_sought sought (permission_in u (k - 1) n)) (2 ^ k) (2 ^ (k - 1)) from to (sizes k s.0)
       (λ n lt. ap (is_sought sought) (lower-page l u k n lt)) (λ n lt. ap (is_sought sought) (upper-page l u k n))

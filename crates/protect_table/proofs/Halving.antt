@@ -7,7 +7,7 @@ use Rattle.mind_base.specs.Cover.{level}
 use Rattle.mind_base.specs.declared.commands.Perm.{Perm}
 use Rattle.mind_base.specs.declared.commands.Perm.TheVariants.{No, R, Rw}
 use Rattle.protect_table.specs.declared.blocks.Sought.{Sought}
-use Rattle.protect_table.specs.Block.{BlockView, whole, halves, permission_in, blocks_in, whole_of, is_same, IsHalved, lower_of, upper_of, joined, is_apart, is_inside, is_among, set_in, tally_of, joined_tally, first_in}
+use Rattle.protect_table.specs.Block.{BlockView, whole, halves, permission_in, blocks_in, whole_of, is_same, IsHalved, lower_of, upper_of, joined, lies_apart, lies_inside, is_among, block_set, tally_of, joined_tally, first_in}
 use Rattle.protect_table.proofs.Uniform.{uniform, cover, uniform-holds, cover-whole, cover-halves, two_halves}
 
 level-same : (p q : Perm) → level p ≡ level q → p ≡ q
@@ -125,13 +125,13 @@ IsHalved-joined l u k some a b = elim (cases_Bool (is_same (whole_of l) (whole_o
   | inr e ↦ rw e (some, (e, (a, b)))
 ]
 
-apart-true : (size from to : ℕ) → is_apart size from to ≡ true → (size ≤ from) ⊎ (to ≤ from)
+apart-true : (size from to : ℕ) → lies_apart size from to ≡ true → (size ≤ from) ⊎ (to ≤ from)
 apart-true size from to e = elim (or_cases _ _ e) [ inl a ↦ inl (leb-true size from a) | inr b ↦ inr (leb-true to from b) ]
 
-pub apart-false : (size from to : ℕ) → is_apart size from to ≡ false → (from < size) × (from < to)
+pub apart-false : (size from to : ℕ) → lies_apart size from to ≡ false → (from < size) × (from < to)
 apart-false size from to e = let p = or_parts _ _ e in (leb-false size from p.0, leb-false to from p.1)
 
-inside-true : (size from to : ℕ) → is_inside size from to ≡ true → (from ≡ 0) × (size ≤ to)
+inside-true : (size from to : ℕ) → lies_inside size from to ≡ true → (from ≡ 0) × (size ≤ to)
 inside-true size from to e = let p = and_parts _ _ e in (eqb-true from 0 p.0, leb-true size to p.1)
 
 pub among-in : (from to n : ℕ) → from ≤ n → n < to → is_among from to n ≡ true
@@ -143,7 +143,7 @@ among-low from to n a = and_left _ _ (lt-leb from n a)
 among-high : (from to n : ℕ) → to ≤ n → is_among from to n ≡ false
 among-high from to n a = and_right _ _ (le-ltb n to a)
 
-pub apart-among : (size from to n : ℕ) → n < size → is_apart size from to ≡ true → is_among from to n ≡ false
+pub apart-among : (size from to n : ℕ) → n < size → lies_apart size from to ≡ true → is_among from to n ≡ false
 apart-among size from to n lt e = elim (apart-true size from to e) [
   | inl a ↦ among-low from to n (omega arith)
   | inr b ↦ elim (cases_lt n from) [ inl low ↦ among-low from to n low | inr high ↦ among-high from to n (omega arith) ]
@@ -159,25 +159,25 @@ among-shift from to half n le = elim (cases_lt n from) [
 ]
 
 -- the pages of a block after a change
-pub permission_in-set : (k : ℕ) (block : BlockView) (from to : ℕ) (perm : Perm) (n : ℕ) → n < 2 ^ k → permission_in (set_in k block from to perm) k n ≡ (if is_among from to n then perm else permission_in block k n)
-unfolding set_in
-permission_in-set zero block from to perm n lt = elim (cases_Bool (is_apart 1 from to)) [
+pub permission_in-set : (k : ℕ) (block : BlockView) (from to : ℕ) (perm : Perm) (n : ℕ) → n < 2 ^ k → permission_in (block_set k block from to perm) k n ≡ (if is_among from to n then perm else permission_in block k n)
+unfolding block_set
+permission_in-set zero block from to perm n lt = elim (cases_Bool (lies_apart 1 from to)) [
   | inl e ↦ let m = apart-among 1 from to n lt e in rw (e, m) refl
   | inr e ↦
       let a = apart-false 1 from to e in
       let m = among-in from to n (omega arith) (omega arith) in
       rw (e, m) refl
 ]
-permission_in-set (suc k) block from to perm n lt = elim (cases_Bool (is_apart (2 ^ suc k) from to)) [
+permission_in-set (suc k) block from to perm n lt = elim (cases_Bool (lies_apart (2 ^ suc k) from to)) [
   | inl e ↦ let m = apart-among (2 ^ suc k) from to n lt e in rw (e, m) refl
-  | inr e ↦ elim (cases_Bool (is_inside (2 ^ suc k) from to)) [
+  | inr e ↦ elim (cases_Bool (lies_inside (2 ^ suc k) from to)) [
     | inl i ↦
         let a = inside-true (2 ^ suc k) from to i in
         let m = among-in from to n (omega arith) (omega arith) in
         rw (e, i, m) refl
     | inr i ↦
         let half : suc k - 1 ≡ k = omega arith in
-        let j = permission_in-joined (set_in k (lower_of block) from to perm) (set_in k (upper_of block) (from - 2 ^ k) (to - 2 ^ k) perm) (suc k) n in
+        let j = permission_in-joined (block_set k (lower_of block) from to perm) (block_set k (upper_of block) (from - 2 ^ k) (to - 2 ^ k) perm) (suc k) n in
         let b = permission_in-parts block (suc k) n in
         rw (e, i, j, b, half) (elim (cases_lt n (2 ^ k)) [
           | inl low ↦
@@ -193,12 +193,12 @@ permission_in-set (suc k) block from to perm n lt = elim (cases_Bool (is_apart (
   ]
 ]
 
-pub IsHalved-set : (k : ℕ) (block : BlockView) (from to : ℕ) (perm : Perm) → IsHalved block k → IsHalved (set_in k block from to perm) k
-unfolding set_in
-IsHalved-set zero block from to perm s = elim (cases_Bool (is_apart 1 from to)) [ inl e ↦ rw e s | inr e ↦ rw e tt ]
-IsHalved-set (suc k) block from to perm s = elim (cases_Bool (is_apart (2 ^ suc k) from to)) [
+pub IsHalved-set : (k : ℕ) (block : BlockView) (from to : ℕ) (perm : Perm) → IsHalved block k → IsHalved (block_set k block from to perm) k
+unfolding block_set
+IsHalved-set zero block from to perm s = elim (cases_Bool (lies_apart 1 from to)) [ inl e ↦ rw e s | inr e ↦ rw e tt ]
+IsHalved-set (suc k) block from to perm s = elim (cases_Bool (lies_apart (2 ^ suc k) from to)) [
   | inl e ↦ rw e s
-  | inr e ↦ elim (cases_Bool (is_inside (2 ^ suc k) from to)) [
+  | inr e ↦ elim (cases_Bool (lies_inside (2 ^ suc k) from to)) [
     | inl i ↦ rw (e, i) tt
     | inr i ↦
         let half : suc k - 1 ≡ k = omega arith in
@@ -211,24 +211,24 @@ IsHalved-set (suc k) block from to perm s = elim (cases_Bool (is_apart (2 ^ suc 
 ]
 
 -- one step of a change
-pub set_in-apart : (k : ℕ) (block : BlockView) (from to : ℕ) (perm : Perm) → is_apart (2 ^ k) from to ≡ true → set_in k block from to perm ≡ block
-unfolding set_in
+pub set_in-apart : (k : ℕ) (block : BlockView) (from to : ℕ) (perm : Perm) → lies_apart (2 ^ k) from to ≡ true → block_set k block from to perm ≡ block
+unfolding block_set
 set_in-apart zero block from to perm e = rw e refl
 set_in-apart (suc k) block from to perm e = rw e refl
 
-pub set_in-inside : (k : ℕ) (block : BlockView) (from to : ℕ) (perm : Perm) → is_apart (2 ^ k) from to ≡ false → is_inside (2 ^ k) from to ≡ true → set_in k block from to perm ≡ whole perm
-unfolding set_in
+pub set_in-inside : (k : ℕ) (block : BlockView) (from to : ℕ) (perm : Perm) → lies_apart (2 ^ k) from to ≡ false → lies_inside (2 ^ k) from to ≡ true → block_set k block from to perm ≡ whole perm
+unfolding block_set
 set_in-inside zero block from to perm e i = rw e refl
 set_in-inside (suc k) block from to perm e i = rw (e, i) refl
 
-pub set_in-some : (k from to : ℕ) → is_apart (2 ^ k) from to ≡ false → is_inside (2 ^ k) from to ≡ false → 0 < k
+pub set_in-some : (k from to : ℕ) → lies_apart (2 ^ k) from to ≡ false → lies_inside (2 ^ k) from to ≡ false → 0 < k
 set_in-some zero from to e i =
     let a = apart-false 1 from to e in
-    absurd (both_ways (is_inside 1 from to) i (and_from _ _ (eq-eqb from 0 (omega arith)) (le-leb 1 to (omega arith))))
+    absurd (both_ways (lies_inside 1 from to) i (and_from _ _ (eq-eqb from 0 (omega arith)) (le-leb 1 to (omega arith))))
 set_in-some (suc k) from to e i = omega arith
 
-pub set_in-split : (k : ℕ) (block : BlockView) (from to : ℕ) (perm : Perm) → is_apart (2 ^ k) from to ≡ false → is_inside (2 ^ k) from to ≡ false → set_in k block from to perm ≡ joined (set_in (k - 1) (lower_of block) from to perm) (set_in (k - 1) (upper_of block) (from - 2 ^ (k - 1)) (to - 2 ^ (k - 1)) perm)
-unfolding set_in
+pub set_in-split : (k : ℕ) (block : BlockView) (from to : ℕ) (perm : Perm) → lies_apart (2 ^ k) from to ≡ false → lies_inside (2 ^ k) from to ≡ false → block_set k block from to perm ≡ joined (block_set (k - 1) (lower_of block) from to perm) (block_set (k - 1) (upper_of block) (from - 2 ^ (k - 1)) (to - 2 ^ (k - 1)) perm)
+unfolding block_set
 set_in-split zero block from to perm e i = absurd (omega (arith, set_in-some 0 from to e i))
 set_in-split (suc k) block from to perm e i = let half : suc k - 1 ≡ k = omega arith in rw (e, i, half) refl
 
@@ -238,6 +238,6 @@ tally_of-joined l u = elim (cases_Bool (is_same (whole_of l) (whole_of u))) [ in
 pub pow_most : (k : ℕ) → k ≤ 20 → 2 ^ k ≤ 1048576
 pow_most k le = pow_mono le
 
-pub first_in-apart : (sought : Sought) (block : BlockView) (k from to : ℕ) → is_apart (2 ^ k) from to ≡ true → first_in sought block k from to ≡ None
+pub first_in-apart : (sought : Sought) (block : BlockView) (k from to : ℕ) → lies_apart (2 ^ k) from to ≡ true → first_in sought block k from to ≡ None
 first_in-apart sought (whole p) k from to e = rw e refl
 first_in-apart sought (halves l u) k from to e = rw e refl

@@ -12,7 +12,7 @@ use Rattle.mind_base.specs.declared.plans.MapPlan.{MapPlan}
 use Rattle.mind_base.specs.Cover.{level, sum_below, cover_of, is_in_cover, is_uniform, has_uniform_parent}
 use Rattle.mind_base.specs.declared.commands.Perm.{Perm}
 use Rattle.mind_base.specs.declared.commands.Perm.TheVariants.{No}
-use Rattle.protect_table.specs.Block.{BlockView, whole, permission_in, blocks_in, IsHalved, set_in}
+use Rattle.protect_table.specs.Block.{BlockView, whole, permission_in, blocks_in, IsHalved, block_set}
 use Rattle.protect_table.specs.Protect.{permission_among, changed, IsProtect}
 use Rattle.protect_table.proofs.Counting.{sum_below-same, sum_below-first, sum_below-most}
 use Rattle.protect_table.proofs.Uniform.{uniform, in_cover, cover, cover-most}
@@ -58,7 +58,7 @@ outside-domain span page fits high = and_right _ _ (le-ltb page.number (span.bas
 
 -- a domain with a run of pages changed
 abbrev pub domain_with : List BlockView → SpanView → Perm → BlockView
-domain_with domains span perm = set_in 20 (get_or domains span.domain (whole No)) span.base (span.base + span.pages) perm
+domain_with domains span perm = block_set 20 (get_or domains span.domain (whole No)) span.base (span.base + span.pages) perm
 
 changed-page : (domains : List BlockView) (span : SpanView) (perm : Perm) (page : PageView) → span.domain < length domains → span.base + span.pages ≤ 2 ^ 20 → permission_among (set domains span.domain (domain_with domains span perm)) page ≡ changed (permission_among domains) span perm page
 changed-page domains span perm page there fits = elim (cases_lt page.number (2 ^ 20)) [

@@ -14,9 +14,9 @@ pub data BlockView : Type 0 where
   halves : BlockView → BlockView → BlockView
 
 -- a block of the code, without where it lies in memory
-abbrev pub view_of : Block → BlockView
-view_of (Whole perm) = whole perm
-view_of (Halves' p lower q upper) = halves (view_of lower) (view_of upper)
+abbrev pub block_view : Block → BlockView
+block_view (Whole perm) = whole perm
+block_view (Halves' p lower q upper) = halves (block_view lower) (block_view upper)
 
 -- the permission of page n, counted from 0 in a block of 2 ^ k pages
 abbrev pub permission_in : BlockView → ℕ → ℕ → Perm
@@ -60,20 +60,20 @@ abbrev pub joined : BlockView → BlockView → BlockView
 joined lower upper = if is_same (whole_of lower) (whole_of upper) then lower else halves lower upper
 
 -- no page of a block of this size is among those numbered from one number to below another
-abbrev pub is_apart : ℕ → ℕ → ℕ → Bool
-is_apart size from to = nat_le size from || nat_le to from
+abbrev pub lies_apart : ℕ → ℕ → ℕ → Bool
+lies_apart size from to = nat_le size from || nat_le to from
 
 -- each page of a block of this size is among them
-abbrev pub is_inside : ℕ → ℕ → ℕ → Bool
-is_inside size from to = from == 0 && nat_le size to
+abbrev pub lies_inside : ℕ → ℕ → ℕ → Bool
+lies_inside size from to = from == 0 && nat_le size to
 
 -- a block of 2 ^ k pages with the pages numbered from one number to below another set to a permission
-unfoldable pub set_in : ℕ → BlockView → ℕ → ℕ → Perm → BlockView
-set_in zero block from to perm = if is_apart 1 from to then block else whole perm
-set_in (suc k) block from to perm =
-    if is_apart (2 ^ suc k) from to then block
-    else if is_inside (2 ^ suc k) from to then whole perm
-    else joined (set_in k (lower_of block) from to perm) (set_in k (upper_of block) (from - 2 ^ k) (to - 2 ^ k) perm)
+unfoldable pub block_set : ℕ → BlockView → ℕ → ℕ → Perm → BlockView
+block_set zero block from to perm = if lies_apart 1 from to then block else whole perm
+block_set (suc k) block from to perm =
+    if lies_apart (2 ^ suc k) from to then block
+    else if lies_inside (2 ^ suc k) from to then whole perm
+    else joined (block_set k (lower_of block) from to perm) (block_set k (upper_of block) (from - 2 ^ k) (to - 2 ^ k) perm)
 
 -- page n is one of them
 abbrev pub is_among : ℕ → ℕ → ℕ → Bool
@@ -93,14 +93,14 @@ abbrev pub is_sought : Sought → Perm → Bool
 is_sought Unmapped perm = level perm == 0
 is_sought Mapped perm = nat_lt 0 (level perm)
 
-abbrev pub first_of : Option ℕ → Option ℕ → Option ℕ
-first_of None b = b
-first_of (Some n) b = Some n
+abbrev pub first_some : Option ℕ → Option ℕ → Option ℕ
+first_some None b = b
+first_some (Some n) b = Some n
 
 -- the first page of a block of 2 ^ k pages that is numbered from one number to below another, and whose permission is looked for
 abbrev pub first_in : Sought → BlockView → ℕ → ℕ → ℕ → Option ℕ
 first_in sought (whole perm) k from to =
-    if is_apart (2 ^ k) from to then None else if is_sought sought perm then Some from else None
+    if lies_apart (2 ^ k) from to then None else if is_sought sought perm then Some from else None
 first_in sought (halves lower upper) k from to =
-    if is_apart (2 ^ k) from to then None
-    else first_of (first_in sought lower (k - 1) from to) (option_map (λ n. 2 ^ (k - 1) + n) (first_in sought upper (k - 1) (from - 2 ^ (k - 1)) (to - 2 ^ (k - 1))))
+    if lies_apart (2 ^ k) from to then None
+    else first_some (first_in sought lower (k - 1) from to) (option_map (λ n. 2 ^ (k - 1) + n) (first_in sought upper (k - 1) (from - 2 ^ (k - 1)) (to - 2 ^ (k - 1))))

@@ -7,9 +7,9 @@ use Rattle.mind_base.specs.declared.commands.Perm.TheVariants.{No, R, Rw}
 use Rattle.protect_table.specs.Block.{BlockView, whole, halves}
 
 -- the level of each block of one permission, and 3 behind the two halves of a block
-abbrev pub spelled : BlockView → List ℕ → List ℕ
-spelled (whole perm) words = level perm ∷ words
-spelled (halves lower upper) words = spelled lower (spelled upper (3 ∷ words))
+abbrev pub block_words : BlockView → List ℕ → List ℕ
+block_words (whole perm) words = level perm ∷ words
+block_words (halves lower upper) words = block_words lower (block_words upper (3 ∷ words))
 
 -- the blocks that stand after a word, the last one first
 abbrev pub after_word : ℕ → List BlockView → List BlockView
@@ -28,13 +28,13 @@ abbrev pub first_block : List BlockView → BlockView
 first_block [] = whole No
 first_block (block ∷ blocks) = block
 
-pub after_words-spelled : (block : BlockView) (words : List ℕ) (blocks : List BlockView) → after_words (spelled block words) blocks ≡ after_words words (block ∷ blocks)
+pub after_words-spelled : (block : BlockView) (words : List ℕ) (blocks : List BlockView) → after_words (block_words block words) blocks ≡ after_words words (block ∷ blocks)
 after_words-spelled (whole No) words blocks = refl
 after_words-spelled (whole R) words blocks = refl
 after_words-spelled (whole Rw) words blocks = refl
 after_words-spelled (halves lower upper) words blocks =
-    after_words-spelled lower (spelled upper (3 ∷ words)) blocks ∙ after_words-spelled upper (3 ∷ words) (lower ∷ blocks)
+    after_words-spelled lower (block_words upper (3 ∷ words)) blocks ∙ after_words-spelled upper (3 ∷ words) (lower ∷ blocks)
 
 abbrev pub block_code : Coded BlockView
 block_code =
-    code_by (List ℕ) (coded_list coded_ℕ) (λ block. spelled block []) (λ words. first_block (after_words words [])) (λ block. ap first_block (after_words-spelled block [] []))
+    code_by (List ℕ) (coded_list coded_ℕ) (λ block. block_words block []) (λ words. first_block (after_words words [])) (λ block. ap first_block (after_words-spelled block [] []))

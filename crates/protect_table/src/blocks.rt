@@ -1,5 +1,7 @@
+//! Permissions as a tree of aligned blocks, halved where they differ.
+
 ghost use Rattle.std.specs.Prelude.{◌≡◌, ◌≤◌, ◌<◌, ◌^◌, ◌-◌, ◌+◌, IfOk, IfSome};
-ghost use Rattle.protect_table.specs.Block.{whole, view_of, permission_in, whole_of, is_same, is_apart, is_inside, IsHalved, lower_of, upper_of, joined, set_in, tally_of, joined_tally, is_sought, first_in};
+ghost use Rattle.protect_table.specs.Block.{whole, block_view, permission_in, whole_of, is_same, lies_apart, lies_inside, IsHalved, lower_of, upper_of, joined, block_set, tally_of, joined_tally, is_sought, first_in};
 
 use mind_base::{NoMemory, Perm};
 use std::alloc::Global;
@@ -66,7 +68,7 @@ impl Tally {
 }
 
 /// How many pages a block of this logarithm has.
-fn pages_of(log: u32) -> u32
+fn block_size(log: u32) -> u32
     requires { log ≤ 20 }
     ensures { result ≡ 2 ^ log }
 {
@@ -75,14 +77,14 @@ fn pages_of(log: u32) -> u32
 
 /// No page of a block of so many pages is numbered `from` to below `to`.
 fn is_apart(pages: u32, from: u32, to: u32) -> bool
-    ensures { result ≡ is_apart pages from to }
+    ensures { result ≡ lies_apart pages from to }
 {
     pages <= from || to <= from
 }
 
 /// Each page of it is.
 fn is_inside(pages: u32, from: u32, to: u32) -> bool
-    ensures { result ≡ is_inside pages from to }
+    ensures { result ≡ lies_inside pages from to }
 {
     from == 0 && pages <= to
 }
@@ -100,13 +102,13 @@ impl Block {
     /// The permission of one page of a block of 2^`log` pages, numbered from 0.
     pub fn permission(&self, log: u32, page: u32) -> Perm
         requires log { log ≤ 20 }
-        requires halved { IsHalved (view_of self.now) log }
-        ensures { result ≡ permission_in (view_of self.now) log page }
+        requires halved { IsHalved (block_view self.now) log }
+        ensures { result ≡ permission_in (block_view self.now) log page }
     {
         match self {
             Block::Whole(perm) => *perm,
             Block::Halves(lower, upper) => {
-                let half = pages_of(log - 1);
+                let half = block_size(log - 1);
                 if page < half {
                     lower.permission(log - 1, page)
                 } else {
@@ -118,7 +120,7 @@ impl Block {
 
     /// An equal block.
     pub fn copy(&self, alloc: Global) -> Result<Block, NoMemory>
-        ensures { IfOk result (λ block. view_of block ≡ view_of self.now) }
+        ensures { IfOk result (λ block. block_view block ≡ block_view self.now) }
     {
         match self {
             Block::Whole(perm) => Ok(Block::Whole(*perm)),
@@ -131,7 +133,7 @@ impl Block {
     }
 
     fn whole(&self) -> Option<Perm>
-        ensures { result ≡ whole_of (view_of self.now) }
+        ensures { result ≡ whole_of (block_view self.now) }
     {
         match self {
             Block::Whole(perm) => Some(*perm),
@@ -140,7 +142,7 @@ impl Block {
     }
 
     fn lower(&self) -> &Block
-        ensures { view_of result.now ≡ lower_of (view_of self.now) }
+        ensures { block_view result.now ≡ lower_of (block_view self.now) }
     {
         match self {
             Block::Whole(_) => self,
@@ -149,7 +151,7 @@ impl Block {
     }
 
     fn upper(&self) -> &Block
-        ensures { view_of result.now ≡ upper_of (view_of self.now) }
+        ensures { block_view result.now ≡ upper_of (block_view self.now) }
     {
         match self {
             Block::Whole(_) => self,
@@ -158,7 +160,7 @@ impl Block {
     }
 
     fn joined(alloc: Global, lower: Block, upper: Block) -> Result<Block, NoMemory>
-        ensures { IfOk result (λ block. view_of block ≡ joined (view_of lower) (view_of upper)) }
+        ensures { IfOk result (λ block. block_view block ≡ joined (block_view lower) (block_view upper)) }
     {
         if same(lower.whole(), upper.whole()) {
             return Ok(lower);
@@ -171,8 +173,8 @@ impl Block {
     /// What a block of 2^`log` pages counts.
     pub fn tally(&self, log: u32) -> Tally
         requires log { log ≤ 20 }
-        requires halved { IsHalved (view_of self.now) log }
-        ensures tally { result ≡ tally_of (view_of self.now) }
+        requires halved { IsHalved (block_view self.now) log }
+        ensures tally { result ≡ tally_of (block_view self.now) }
         ensures most { result.blocks ≤ 2 ^ log }
     {
         match self {
@@ -199,16 +201,16 @@ impl Block {
         perm: Perm,
     ) -> Result<Block, NoMemory>
         requires log { log ≤ 20 }
-        ensures { IfOk result (λ block. view_of block ≡ set_in log (view_of self.now) from to perm) }
+        ensures { IfOk result (λ block. block_view block ≡ block_set log (block_view self.now) from to perm) }
     {
-        let pages = pages_of(log);
+        let pages = block_size(log);
         if is_apart(pages, from, to) {
             return self.copy(alloc);
         }
         if is_inside(pages, from, to) {
             return Ok(Block::Whole(perm));
         }
-        let half = pages_of(log - 1);
+        let half = block_size(log - 1);
         let lower = self.lower().with(alloc, log - 1, from, to, perm)?;
         let upper = self.upper().with(
             alloc,
@@ -223,18 +225,18 @@ impl Block {
     /// What that block would count.
     pub fn tally_with(&self, log: u32, from: u32, to: u32, perm: Perm) -> Tally
         requires log { log ≤ 20 }
-        requires halved { IsHalved (view_of self.now) log }
-        ensures tally { result ≡ tally_of (set_in log (view_of self.now) from to perm) }
+        requires halved { IsHalved (block_view self.now) log }
+        ensures tally { result ≡ tally_of (block_set log (block_view self.now) from to perm) }
         ensures most { result.blocks ≤ 2 ^ log }
     {
-        let pages = pages_of(log);
+        let pages = block_size(log);
         if is_apart(pages, from, to) {
             return self.tally(log);
         }
         if is_inside(pages, from, to) {
             return Tally::of(perm);
         }
-        let half = pages_of(log - 1);
+        let half = block_size(log - 1);
         let lower = self.lower().tally_with(log - 1, from, to, perm);
         let upper = self.upper().tally_with(
             log - 1,
@@ -249,18 +251,18 @@ impl Block {
     /// for.
     pub fn first(&self, log: u32, from: u32, to: u32, sought: Sought) -> Option<u32>
         requires log { log ≤ 20 }
-        requires halved { IsHalved (view_of self.now) log }
-        ensures first { result ≡ first_in sought (view_of self.now) log from to }
+        requires halved { IsHalved (block_view self.now) log }
+        ensures first { result ≡ first_in sought (block_view self.now) log from to }
         ensures within { IfSome result (λ n. n < 2 ^ log) }
     {
-        let pages = pages_of(log);
+        let pages = block_size(log);
         if is_apart(pages, from, to) {
             return None;
         }
         match self {
             Block::Whole(perm) => { if sought.fits(*perm) { Some(from) } else { None } }
             Block::Halves(lower, upper) => {
-                let half = pages_of(log - 1);
+                let half = block_size(log - 1);
                 if let Some(n) = lower.first(log - 1, from, to, sought) {
                     return Some(n);
                 }

@@ -1,9 +1,11 @@
+//! The permissions of all pages of all domains, within so many slots.
+
 ghost use Rattle.std.specs.Prelude.{◌≡◌, ◌≢◌, ◌≤◌, ◌<◌, ◌↔◌, IfOk, OnOk, OnErr, slice_index_or, true};
 ghost use Rattle.mind_base.specs.Page.{PageView};
 ghost use Rattle.mind_base.specs.Permission.{permission_of};
 ghost use Rattle.mind_base.specs.declared.commands.Perm.TheVariants.{No};
 ghost use Rattle.mind_base.specs.Cover.{cover_of};
-ghost use Rattle.protect_table.specs.Block.{is_sought, whole, view_of, IsHalved};
+ghost use Rattle.protect_table.specs.Block.{is_sought, whole, block_view, IsHalved};
 ghost use Rattle.protect_table.specs.Protect.{permission_at, changed, FirstPage};
 
 use crate::blocks::{Block, Sought};
@@ -34,16 +36,16 @@ pub struct Protect {
 
 impl Model for Protect {
     ghost use Rattle.std.specs.Prelude.{map};
-    ghost use Rattle.protect_table.specs.Block.{view_of};
+    ghost use Rattle.protect_table.specs.Block.{block_view};
     ghost use Rattle.protect_table.specs.Protect.{ProtectView, protect_code, IsProtect};
 
     ghost Value = { ProtectView };
 
     ghost coded = { protect_code };
 
-    ghost view = { λ s. record { slots = s.slots; domains = map view_of s.domains.items } };
+    ghost view = { λ s. record { slots = s.slots; domains = map block_view s.domains.items } };
 
-    ghost invariant = { λ s. IsProtect s.slots s.cover (map view_of s.domains.items) };
+    ghost invariant = { λ s. IsProtect s.slots s.cover (map block_view s.domains.items) };
 }
 
 impl Protect {
@@ -171,8 +173,8 @@ impl Protect {
 
     fn domain(&self, number: u8) -> &Block
         requires { number < 16 }
-        ensures block { view_of result.now ≡ slice_index_or self.now.domains number (whole No) }
-        ensures halved { IsHalved (view_of result.now) 20 }
+        ensures block { block_view result.now ≡ slice_index_or self.now.domains number (whole No) }
+        ensures halved { IsHalved (block_view result.now) 20 }
     {
         &self.domains[number as usize]
     }

@@ -11,19 +11,19 @@ use Rattle.mind_base.specs.Range.{RangeView, InRange, in_range}
 use Rattle.mind_base.specs.Home.{home_of}
 use Rattle.mind_base.specs.declared.commands.Outcome.{Outcome}
 use Rattle.mind_base.specs.declared.plans.MemoryPlan.{MemoryPlan}
-use Rattle.range_translate.specs.Block.{is_inside, encloses}
+use Rattle.range_translate.specs.Block.{block_lies_inside, encloses}
 use Rattle.range_translate.specs.Order.{IsOrdered, put_in_order}
-use Rattle.range_translate.specs.Place.{place_of, smallest_of, place_or_home, place_in_outlier, IsSmallest}
+use Rattle.range_translate.specs.Place.{physical_place, smallest_of, place_or_home, place_in_outlier, IsSmallest}
 use Rattle.range_translate.specs.Table.{IsTable}
 use Rattle.range_translate.specs.declared.outliers.Outlier.{Outlier}
 use Rattle.range_translate.proofs.BlockOrder.{ordered-filter}
 use Rattle.range_translate.proofs.SmallestLaw.{moved, at_home, in_range-has}
 use Rattle.spare_pool.specs.Pool.{PoolView, all_free}
 use Rattle.spare_pool.proofs.Pages.{in_range as in_list, range_has}
-use Rattle.range_migrate.specs.Run.{home_pages, spare_pages, IsFreeAt, first_of, lies_in, users, FitsRun, AreRuns}
-use Rattle.range_migrate.specs.Plan.{each_page, is_at, way_of, outside, IsFreeRunAt, new_move, EndsBy, Plans, Uses, Takes, target_of}
-use Rattle.range_migrate.specs.Ending.{outlier_of, given_up, Frees}
-use Rattle.range_migrate.specs.Accepted.{place_after, in_force, first_page, has_spare, IsFreeAfter, others_in_force, EndsAfter}
+use Rattle.range_migrate.specs.Run.{home_pages, spare_pages, IsFreeAt, first_spare_of, has_spare_page, users, FitsRun, AreRuns}
+use Rattle.range_migrate.specs.Plan.{each_page, is_at, way_of, outside, IsFreeRunAt, new_move, EndsBy, Plans, Uses, Takes, wanted_place}
+use Rattle.range_migrate.specs.Ending.{outlier_of, pages_given_up, Frees}
+use Rattle.range_migrate.specs.Accepted.{place_after, moves_in_force, first_of_run, has_spare, IsFreeAfter, others_in_force, EndsAfter}
 use Rattle.range_migrate.specs.Migrates.{Migrate, accepted_in, accepted, table_with, Ended, Reached}
 use Rattle.range_migrate.specs.declared.moves.Move.{Move}
 use Rattle.range_migrate.proofs.Counting.{filter-same, filter-filter, parts_of_test, any-count}
@@ -34,15 +34,15 @@ use Rattle.range_migrate.proofs.PlanFacts.{each_page-at, accepts, way-same, ends
 
 -- a move in force as an outlier
 abbrev pub as_outlier : List MemoryPlan → Move → Outlier
-as_outlier homes move = outlier_of homes move (first_page move)
+as_outlier homes move = outlier_of homes move (first_of_run move)
 
 -- the outliers are the moves in force, in another order: as many pass each test
 abbrev pub AreInForce : List MemoryPlan → List Move → List Outlier → Type 0
-AreInForce homes moves outliers = (t : Outlier → Bool) → length (filter t outliers) ≡ length (filter (λ m. t (as_outlier homes m)) (in_force moves))
+AreInForce homes moves outliers = (t : Outlier → Bool) → length (filter t outliers) ≡ length (filter (λ m. t (as_outlier homes m)) (moves_in_force moves))
 
 pub record Kept (homes : List MemoryPlan) (slots : ℕ) (moves : List Move) (outliers : List Outlier) (pools : List PoolView) : Type 0 where
   pub table : IsTable (table_with homes slots outliers)
-  pub places : (page : PageView) → place_of homes outliers page ≡ place_after homes moves page
+  pub places : (page : PageView) → physical_place homes outliers page ≡ place_after homes moves page
   pub same : AreInForce homes moves outliers
   pub runs : AreRuns homes outliers pools
   pub free : (memory page : ℕ) → IsFreeAt pools memory page ↔ ((page < spare_pages homes memory) × (users homes outliers memory page ≡ 0))
@@ -63,16 +63,16 @@ at_first homes slots table = record {
 }
 
 -- Places.
-not_in_inside : (a r : RangeView) (page : PageView) → in_range r page ≡ false → not (is_inside a r) ≡ false → in_range a page ≡ false
+not_in_inside : (a r : RangeView) (page : PageView) → in_range r page ≡ false → not (block_lies_inside a r) ≡ false → in_range a page ≡ false
 not_in_inside a r page f e = grind (arith, nat_tests)
 
 elsewhere : (homes : List MemoryPlan) (range : RangeView) (page : PageView) (outliers : List Outlier) → in_range range page ≡ false → smallest_of (outside range outliers) page ≡ smallest_of outliers page
-elsewhere homes range page outliers f = left-smallest (λ o. not (is_inside o.range range)) page outliers (each outliers) where
-  each : (xs : List Outlier) → AllByRecursion (λ x. not (is_inside x.range range) ≡ false → in_range x.range page ≡ false) xs
+elsewhere homes range page outliers f = left-smallest (λ o. not (block_lies_inside o.range range)) page outliers (each outliers) where
+  each : (xs : List Outlier) → AllByRecursion (λ x. not (block_lies_inside x.range range) ≡ false → in_range x.range page ≡ false) xs
   each [] = tt
   each (x ∷ xs) = (λ e. not_in_inside x.range range page f e, each xs)
 
-is_inside-itself : (r : RangeView) → is_inside r r ≡ true
+is_inside-itself : (r : RangeView) → block_lies_inside r r ≡ true
 is_inside-itself r = grind (arith, nat_tests)
 
 not_false : (b : Bool) → not b ≡ true → b ≡ true → ⊥
@@ -80,24 +80,24 @@ not_false true h e = false≢true h
 not_false false h e = false≢true e
 
 pub new_outside : (range : RangeView) (outliers : List Outlier) → IsNew range (outside range outliers)
-new_outside range outliers = all-passing (λ o. o.range ≢ range) (λ o. not (is_inside o.range range)) outliers (each outliers) where
-  each : (xs : List Outlier) → AllByRecursion (λ x. not (is_inside x.range range) ≡ true → x.range ≢ range) xs
+new_outside range outliers = all-passing (λ o. o.range ≢ range) (λ o. not (block_lies_inside o.range range)) outliers (each outliers) where
+  each : (xs : List Outlier) → AllByRecursion (λ x. not (block_lies_inside x.range range) ≡ true → x.range ≢ range) xs
   each [] = tt
-  each (x ∷ xs) = (λ h e. not_false (is_inside x.range range) h (subst (λ (r : RangeView). is_inside r range ≡ true) (sym e) (is_inside-itself range)), each xs)
+  each (x ∷ xs) = (λ h e. not_false (block_lies_inside x.range range) h (subst (λ (r : RangeView). block_lies_inside r range ≡ true) (sym e) (is_inside-itself range)), each xs)
 
 -- an outlier that is left and has a page of the block is larger
 abbrev Larger : RangeView → PageView → Outlier → Type 0
-Larger range page o = InRange o.range page → (range.log < o.range.log) × (is_inside range o.range ≡ true)
+Larger range page o = InRange o.range page → (range.log < o.range.log) × (block_lies_inside range o.range ≡ true)
 
 larger : (range : RangeView) (page : PageView) (outliers : List Outlier) → IsBlock range → InRange range page → AllByRecursion (λ o. IsBlock o.range) outliers → AllByRecursion (Larger range page) (outside range outliers)
-larger range page outliers block has blocks = all-passing (Larger range page) (λ o. not (is_inside o.range range)) outliers (each outliers blocks) where
-  one : (o : Outlier) → IsBlock o.range → not (is_inside o.range range) ≡ true → Larger range page o
+larger range page outliers block has blocks = all-passing (Larger range page) (λ o. not (block_lies_inside o.range range)) outliers (each outliers blocks) where
+  one : (o : Outlier) → IsBlock o.range → not (block_lies_inside o.range range) ≡ true → Larger range page o
   one o b out h = elim (cases_lt range.log o.range.log) [
     | inl l ↦ (l, inside-by_size range o.range page block b has h (omega (arith, l)))
-    | inr l ↦ absurd (not_false (is_inside o.range range) out (inside-by_size o.range range page b block h has l))
+    | inr l ↦ absurd (not_false (block_lies_inside o.range range) out (inside-by_size o.range range page b block h has l))
   ]
 
-  each : (xs : List Outlier) → AllByRecursion (λ o. IsBlock o.range) xs → AllByRecursion (λ x. not (is_inside x.range range) ≡ true → Larger range page x) xs
+  each : (xs : List Outlier) → AllByRecursion (λ o. IsBlock o.range) xs → AllByRecursion (λ x. not (block_lies_inside x.range range) ≡ true → Larger range page x) xs
   each [] h = tt
   each (x ∷ xs) h = (one x h.0, each xs h.1)
 
@@ -109,7 +109,7 @@ option_map-some y (Some x) e = refl
 place-by_run : (homes : List MemoryPlan) (slots : ℕ) (outliers : List Outlier) (move : Move) (first : ℕ) (page : PageView) → IsBlock move.range →
     AllByRecursion (λ o. IsBlock o.range) outliers → IsTable (table_with homes slots (put_in_order (outlier_of homes move first) (outside move.range outliers))) →
     is_some (home_of homes page) ≡ true → InRange move.range page →
-    place_of homes (put_in_order (outlier_of homes move first) (outside move.range outliers)) page ≡ target_of homes move page (Some first)
+    physical_place homes (put_in_order (outlier_of homes move first) (outside move.range outliers)) page ≡ wanted_place homes move page (Some first)
 place-by_run homes slots outliers move first page block blocks table placed has =
     let o = outlier_of homes move first in
     let left = outside move.range outliers in
@@ -129,10 +129,10 @@ less a b l = grind (arith, nat_tests)
 
 none_larger : (range : RangeView) (page : PageView) (xs : List Outlier) → list_any (λ o. encloses o.range range) xs ≡ false → AllByRecursion (Larger range page) (outside range xs) → AllByRecursion (λ o. InRange o.range page → ⊥) (outside range xs)
 none_larger range page [] e h = tt
-none_larger range page (x ∷ xs) e h = step (not (is_inside x.range range)) (encloses x.range range) refl e h (λ g w. none_larger range page xs g w) where
+none_larger range page (x ∷ xs) e h = step (not (block_lies_inside x.range range)) (encloses x.range range) refl e h (λ g w. none_larger range page xs g w) where
   encloses-larger : Larger range page x → encloses x.range range ≡ false → InRange x.range page → ⊥
   encloses-larger w f has = let l = (w has).0 in let i = (w has).1 in false≢true (sym f ∙ both i l) where
-    both : is_inside range x.range ≡ true → range.log < x.range.log → encloses x.range range ≡ true
+    both : block_lies_inside range x.range ≡ true → range.log < x.range.log → encloses x.range range ≡ true
     both i l = ap (λ b. b && nat_lt range.log x.range.log) i ∙ less range.log x.range.log l
 
   step : (b c : Bool) → encloses x.range range ≡ c → (c || list_any (λ o. encloses o.range range) xs) ≡ false →
@@ -144,10 +144,10 @@ none_larger range page (x ∷ xs) e h = step (not (is_inside x.range range)) (en
 
 -- what the latest move decides
 by_latest : (homes : List MemoryPlan) (moves : List Move) (move : Move) (page : PageView) (o : Option (ℕ × ℕ)) →
-    (in_range move.range page ≡ true → o ≡ target_of homes move page move.run) → (in_range move.range page ≡ false → o ≡ place_after homes moves page) → o ≡ place_after homes (move ∷ moves) page
+    (in_range move.range page ≡ true → o ≡ wanted_place homes move page move.run) → (in_range move.range page ≡ false → o ≡ place_after homes moves page) → o ≡ place_after homes (move ∷ moves) page
 by_latest homes moves move page o here there = elim (cases_Bool (in_range move.range page)) [
-  | inl t ↦ here t ∙ sym (ap (λ b. cond b (target_of homes move page move.run) (place_after homes moves page)) t)
-  | inr f ↦ there f ∙ sym (ap (λ b. cond b (target_of homes move page move.run) (place_after homes moves page)) f)
+  | inl t ↦ here t ∙ sym (ap (λ b. cond b (wanted_place homes move page move.run) (place_after homes moves page)) t)
+  | inr f ↦ there f ∙ sym (ap (λ b. cond b (wanted_place homes move page move.run) (place_after homes moves page)) f)
 ]
 
 -- Moves in force.
@@ -156,11 +156,11 @@ len-cons true x xs y ys e = omega (arith, e)
 len-cons false x xs y ys e = e
 
 left_in_force : (homes : List MemoryPlan) (moves : List Move) (outliers : List Outlier) (range : RangeView) (t : Outlier → Bool) → AreInForce homes moves outliers →
-    length (filter t (outside range outliers)) ≡ length (filter (λ m. t (as_outlier homes m)) (filter (λ e. not (is_inside e.range range)) (in_force moves)))
+    length (filter t (outside range outliers)) ≡ length (filter (λ m. t (as_outlier homes m)) (filter (λ e. not (block_lies_inside e.range range)) (moves_in_force moves)))
 left_in_force homes moves outliers range t same =
-    ap length (filter-filter t (λ o. not (is_inside o.range range)) outliers)
-    ∙ same (λ o. not (is_inside o.range range) && t o)
-    ∙ sym (ap length (filter-filter (λ (m : Move). t (as_outlier homes m)) (λ e. not (is_inside e.range range)) (in_force moves)))
+    ap length (filter-filter t (λ o. not (block_lies_inside o.range range)) outliers)
+    ∙ same (λ o. not (block_lies_inside o.range range) && t o)
+    ∙ sym (ap length (filter-filter (λ (m : Move). t (as_outlier homes m)) (λ e. not (block_lies_inside e.range range)) (moves_in_force moves)))
 
 -- Uses of spare pages.
 abbrev PageKept : List MemoryPlan → List Outlier → List PoolView → ℕ → ℕ → Type 0
@@ -168,10 +168,10 @@ PageKept homes outliers pools memory page =
     (users homes outliers memory page ≤ 1) × (IsFreeAt pools memory page ↔ ((page < spare_pages homes memory) × (users homes outliers memory page ≡ 0)))
 
 pub left_users : (homes : List MemoryPlan) (range : RangeView) (outliers : List Outlier) (memory page : ℕ) →
-    users homes (outside range outliers) memory page + given_up homes range outliers memory page ≡ users homes outliers memory page
+    users homes (outside range outliers) memory page + pages_given_up homes range outliers memory page ≡ users homes outliers memory page
 left_users homes range outliers memory page =
-    ap (λ (xs : List Outlier). length xs + given_up homes range outliers memory page) (filter-filter (lies_in homes memory page) (λ o. not (is_inside o.range range)) outliers)
-    ∙ parts_of_test (lies_in homes memory page) (λ o. is_inside o.range range) outliers
+    ap (λ (xs : List Outlier). length xs + pages_given_up homes range outliers memory page) (filter-filter (has_spare_page homes memory page) (λ o. not (block_lies_inside o.range range)) outliers)
+    ∙ parts_of_test (has_spare_page homes memory page) (λ o. block_lies_inside o.range range) outliers
 
 runs_from : (homes : List MemoryPlan) (outliers : List Outlier) (pools : List PoolView) → AllByRecursion (FitsRun homes) outliers → ((memory page : ℕ) → PageKept homes outliers pools memory page) → AreRuns homes outliers pools
 runs_from homes outliers pools fits pages = record {
@@ -188,12 +188,12 @@ homeward : (homes : List MemoryPlan) (slots : ℕ) (moves : List Move) (outliers
 homeward homes slots moves outliers new_outliers pools between new_pools range memory k block enclosed taken e frees table =
     subst (λ os. Kept homes slots (new_move range memory None ∷ moves) os new_pools) (sym e) record {
       table = left_table;
-      places = λ page. by_latest homes moves (new_move range memory None) page (place_of homes (outside range outliers) page)
+      places = λ page. by_latest homes moves (new_move range memory None) page (physical_place homes (outside range outliers) page)
           (λ t. at_home (table_with homes slots (outside range outliers)) page (All-from_recursion (λ (o : Outlier). InRange o.range page → ⊥) (outside range outliers)
           (none_larger range page outliers enclosed (larger range page outliers block (in_range-has range page t) blocks))))
           (λ f. ap (λ s. option_map (place_or_home s page) (home_of homes page)) (elsewhere homes range page outliers f) ∙ k.places page);
       same = λ t. left_in_force homes moves outliers range t k.same;
-      runs = runs_from homes (outside range outliers) new_pools (all-left (FitsRun homes) (λ o. not (is_inside o.range range)) outliers k.runs.runs) pages;
+      runs = runs_from homes (outside range outliers) new_pools (all-left (FitsRun homes) (λ o. not (block_lies_inside o.range range)) outliers k.runs.runs) pages;
       free = λ m page. (pages m page).1;
     } where
       left_table : IsTable (table_with homes slots (outside range outliers))
@@ -205,7 +205,7 @@ homeward homes slots moves outliers new_outliers pools between new_pools range m
       pages : (m page : ℕ) → PageKept homes (outside range outliers) new_pools m page
       pages m page =
           let s = page_step (IsFreeAt pools m page) (IsFreeAt between m page) (IsFreeAt new_pools m page) (Uses (new_move range memory None) m page) (page < spare_pages homes m)
-          false (users homes outliers m page) (given_up homes range outliers m page) (users homes (outside range outliers) m page)
+          false (users homes outliers m page) (pages_given_up homes range outliers m page) (users homes (outside range outliers) m page)
           (left_users homes range outliers m page) (k.runs.apart m page) (k.free m page) (taken m page) (frees m page)
           (λ w. absurd w.1) (λ f. absurd (false≢true f)) (λ w. absurd w.1) (used-inside homes m page outliers k.runs.runs) in
           let z : 0 + users homes (outside range outliers) m page ≡ users homes (outside range outliers) m page = omega arith in
@@ -235,7 +235,7 @@ run-inside homes pools outliers memory log first free run =
 
 pub entered-fits : (homes : List MemoryPlan) (range : RangeView) (memory first : ℕ) → first % 2 ^ range.log ≡ 0 → first + 2 ^ range.log ≤ spare_pages homes memory → FitsRun homes (entered homes range memory first)
 entered-fits homes range memory first aligned inside =
-    let same : first_of homes (entered homes range memory first) ≡ first = omega arith in
+    let same : first_spare_of homes (entered homes range memory first) ≡ first = omega arith in
     record {
       from = omega arith;
       run = record { aligned = subst (λ n. n % 2 ^ range.log ≡ 0) (sym same) aligned; inside = subst (λ n. n + 2 ^ range.log ≤ spare_pages homes memory) (sym same) inside };
@@ -250,14 +250,14 @@ by_run homes slots moves outliers new_outliers pools between new_pools range mem
     let o = entered homes range memory first in
     let left = outside range outliers in
     let new = new_outside range outliers in
-    let out : Outlier → Bool = λ x. not (is_inside x.range range) in
+    let out : Outlier → Bool = λ x. not (block_lies_inside x.range range) in
     subst (λ os. Kept homes slots (run_move range memory first ∷ moves) os new_pools) (sym e) record {
       table = new_table;
-      places = λ page. by_latest homes moves move page (place_of homes (put_in_order o left) page)
+      places = λ page. by_latest homes moves move page (physical_place homes (put_in_order o left) page)
           (λ t. let has = in_range-has range page t in place-by_run homes slots outliers move first page block blocks new_table (each_page-at range (λ p. is_some (home_of homes p)) page placed has) has)
           (λ f. ap (λ s. option_map (place_or_home s page) (home_of homes page)) (put-smallest o page left ordered new f ∙ elsewhere homes range page outliers f) ∙ k.places page);
       same = λ t. put-count t o left ordered new
-          ∙ len-cons (t o) o (filter t left) move (filter (λ m. t (as_outlier homes m)) (filter (λ e. not (is_inside e.range range)) (in_force moves))) (left_in_force homes moves outliers range t k.same);
+          ∙ len-cons (t o) o (filter t left) move (filter (λ m. t (as_outlier homes m)) (filter (λ e. not (block_lies_inside e.range range)) (moves_in_force moves))) (left_in_force homes moves outliers range t k.same);
       runs = runs_from homes (put_in_order o left) new_pools (all-put (FitsRun homes) o left fits (all-left (FitsRun homes) out outliers k.runs.runs)) pages;
       free = λ m page. (pages m page).1;
     } where
@@ -268,7 +268,7 @@ by_run homes slots moves outliers new_outliers pools between new_pools range mem
       blocks = recursion_from_All (λ (x : Outlier). IsBlock x.range) outliers k.table.blocks
 
       ordered : IsOrdered (outside range outliers)
-      ordered = ordered-filter (λ x. not (is_inside x.range range)) outliers k.table.ordered
+      ordered = ordered-filter (λ x. not (block_lies_inside x.range range)) outliers k.table.ordered
 
       fits : FitsRun homes (entered homes range memory first)
       fits = entered-fits homes range memory first run.aligned (run-inside homes pools outliers memory range.log first (k.free memory) run)
@@ -278,14 +278,14 @@ by_run homes slots moves outliers new_outliers pools between new_pools range mem
           let o = entered homes range memory first in
           let left = outside range outliers in
           let s = page_step (IsFreeAt pools m page) (IsFreeAt between m page) (IsFreeAt new_pools m page) (Uses (run_move range memory first) m page) (page < spare_pages homes m)
-          (lies_in homes m page o) (users homes outliers m page) (given_up homes range outliers m page) (users homes left m page)
+          (has_spare_page homes m page o) (users homes outliers m page) (pages_given_up homes range outliers m page) (users homes left m page)
           (left_users homes range outliers m page) (k.runs.apart m page) (k.free m page) (taken m page) (frees m page)
           (λ w. subst (λ n. IsFreeAt pools n page) w.0 (run.each page w.1))
           (lies_to memory m (home_pages homes memory) first page (2 ^ range.log))
           (λ w. lies_from memory m (home_pages homes memory) first page (2 ^ range.log) w.0 w.1.0 w.1.1)
           (used-inside homes m page outliers k.runs.runs) in
-          let count : users homes (put_in_order o left) m page ≡ cond (lies_in homes m page o) 1 0 + users homes left m page =
-          put-count (lies_in homes m page) o left ordered (new_outside range outliers) ∙ one_more (lies_in homes m page o) o (filter (lies_in homes m page) left) in
+          let count : users homes (put_in_order o left) m page ≡ cond (has_spare_page homes m page o) 1 0 + users homes left m page =
+          put-count (has_spare_page homes m page) o left ordered (new_outside range outliers) ∙ one_more (has_spare_page homes m page o) o (filter (has_spare_page homes m page) left) in
           subst (λ n. (n ≤ 1) × (IsFreeAt new_pools m page ↔ ((page < spare_pages homes m) × (n ≡ 0)))) (sym count) s
 
 abbrev Onward : List MemoryPlan → ℕ → List Move → List Outlier → List Outlier → List PoolView → List PoolView → List PoolView → Move → Type 0
@@ -297,7 +297,7 @@ moves_on : (homes : List MemoryPlan) (slots : ℕ) (moves : List Move) (outliers
     Kept homes slots moves outliers pools → IsBlock range → Plans (table_with homes slots outliers) pools range memory (Ok move) → Takes pools (Ok move) between →
     Ended homes (Ok move) outliers between new_outliers new_pools → IsTable (table_with homes slots new_outliers) → Kept homes slots (move ∷ moves) new_outliers new_pools
 moves_on homes slots moves outliers new_outliers pools between new_pools range memory move k block plans taken ended table =
-    let a = accepts range memory (each_page range (λ page. is_some (home_of homes page))) (each_page range (λ page. is_at memory (place_of homes outliers page)))
+    let a = accepts range memory (each_page range (λ page. is_some (home_of homes page))) (each_page range (λ page. is_at memory (physical_place homes outliers page)))
     (each_page range (λ page. is_at memory (home_of homes page))) (list_any (λ o. encloses o.range range) outliers) (length (outside range outliers)) slots (IsFreeAt pools) move plans in
     elim a.way [
       | inl home ↦ subst (Onward homes slots moves outliers new_outliers pools between new_pools) (sym home.1) (λ t d. homeward homes slots moves outliers new_outliers pools between new_pools range memory k block home.0 t d.0 d.1 table) taken ended
@@ -323,9 +323,9 @@ always homes slots (migrate ∷ earlier) outliers pools r =
 -- what the moves in force say of the free pages
 pub free-after : (homes : List MemoryPlan) (slots : ℕ) (moves : List Move) (outliers : List Outlier) (pools : List PoolView) (memory page : ℕ) → Kept homes slots moves outliers pools → IsFreeAt pools memory page ↔ IsFreeAfter homes moves memory page
 free-after homes slots moves outliers pools memory page k =
-    let count : users homes outliers memory page ≡ length (filter (has_spare memory page) (in_force moves)) =
-    k.same (lies_in homes memory page) ∙ ap length (filter-same (λ m. lies_in homes memory page (as_outlier homes m)) (has_spare memory page) (in_force moves)
-    (λ m. ap (λ n. (m.memory == memory && nat_le n page) && nat_lt page (n + 2 ^ m.range.log)) (let e : home_pages homes m.memory + first_page m - home_pages homes m.memory ≡ first_page m = omega arith in e))) in
+    let count : users homes outliers memory page ≡ length (filter (has_spare memory page) (moves_in_force moves)) =
+    k.same (has_spare_page homes memory page) ∙ ap length (filter-same (λ m. has_spare_page homes memory page (as_outlier homes m)) (has_spare memory page) (moves_in_force moves)
+    (λ m. ap (λ n. (m.memory == memory && nat_le n page) && nat_lt page (n + 2 ^ m.range.log)) (let e : home_pages homes m.memory + first_of_run m - home_pages homes m.memory ≡ first_of_run m = omega arith in e))) in
     subst (λ n. IsFreeAt pools memory page ↔ ((page < spare_pages homes memory) × (n ≡ 0))) count (k.free memory page)
 
 -- and of how the next move ends
@@ -333,12 +333,12 @@ pub ends-after : (homes : List MemoryPlan) (slots : ℕ) (moves : List Move) (ou
     Kept homes slots moves outliers pools → Plans (table_with homes slots outliers) pools range memory result ↔ EndsAfter homes slots moves range memory result
 ends-after homes slots moves outliers pools range memory result k =
     let home = home_of homes in
-    let enclosed : list_any (λ o. encloses o.range range) outliers ≡ list_any (λ e. encloses e.range range) (in_force moves) =
-    any-count (λ o. encloses o.range range) outliers ∙ ap (λ n. nat_lt 0 n) (k.same (λ o. encloses o.range range)) ∙ sym (any-count (λ e. encloses e.range range) (in_force moves)) in
-    let one = way_of range memory (place_of homes outliers) home (list_any (λ o. encloses o.range range) outliers) in
-    let other = way_of range memory (place_after homes moves) home (list_any (λ e. encloses e.range range) (in_force moves)) in
-    let way : one ≡ other = way-same range memory (place_of homes outliers) (place_after homes moves) home (list_any (λ o. encloses o.range range) outliers) (list_any (λ e. encloses e.range range) (in_force moves)) k.places enclosed in
-    let others : length (outside range outliers) ≡ length (others_in_force range moves) = k.same (λ o. not (is_inside o.range range)) in
+    let enclosed : list_any (λ o. encloses o.range range) outliers ≡ list_any (λ e. encloses e.range range) (moves_in_force moves) =
+    any-count (λ o. encloses o.range range) outliers ∙ ap (λ n. nat_lt 0 n) (k.same (λ o. encloses o.range range)) ∙ sym (any-count (λ e. encloses e.range range) (moves_in_force moves)) in
+    let one = way_of range memory (physical_place homes outliers) home (list_any (λ o. encloses o.range range) outliers) in
+    let other = way_of range memory (place_after homes moves) home (list_any (λ e. encloses e.range range) (moves_in_force moves)) in
+    let way : one ≡ other = way-same range memory (physical_place homes outliers) (place_after homes moves) home (list_any (λ o. encloses o.range range) outliers) (list_any (λ e. encloses e.range range) (moves_in_force moves)) k.places enclosed in
+    let others : length (outside range outliers) ≡ length (others_in_force range moves) = k.same (λ o. not (block_lies_inside o.range range)) in
     let agree = λ (m page : ℕ). free-after homes slots moves outliers pools m page k in
     let back : (m page : ℕ) → IsFreeAfter homes moves m page ↔ IsFreeAt pools m page = λ m page. ((agree m page).1, (agree m page).0) in (
       λ w. subst (λ v. EndsBy v range memory (length (others_in_force range moves)) slots (IsFreeAfter homes moves) result) way

@@ -1,5 +1,5 @@
 -- From one list of migrates to the next.
-use Rattle.std.proofs.Common.{◌≡◌, ℕ, ◌<◌, List, [], ◌∷◌, length, map, Option, Some, None, Ok, Err, refl, sym, ap, ◌∙◌, subst}
+use Rattle.std.proofs.Common.{◌≡◌, ℕ, ◌<◌, List, [], ◌∷◌, length, map, Option, Some, None, Result, Ok, Err, refl, sym, ap, ◌∙◌, subst}
 use Rattle.mind_base.specs.Range.{RangeView}
 use Rattle.mind_base.specs.declared.commands.Outcome.{Outcome}
 use Rattle.mind_base.specs.declared.plans.MemoryPlan.{MemoryPlan}
@@ -9,7 +9,7 @@ use Rattle.spare_pool.specs.Pool.{PoolView, all_free}
 use Rattle.range_migrate.specs.Run.{ArePools}
 use Rattle.range_migrate.specs.Plan.{Plans, Takes}
 use Rattle.range_migrate.specs.Ending.{IsUnderWay, Frees, outliers_after, table_after}
-use Rattle.range_migrate.specs.Migrates.{Migrate, Reached, AreReached}
+use Rattle.range_migrate.specs.Migrates.{Migrate, Reached, AreReached, Ended, table_with}
 use Rattle.range_migrate.specs.declared.moves.Move.{Move}
 use Rattle.range_migrate.proofs.Nested.{IsBlock}
 use Rattle.range_migrate.proofs.Kept.{always}
@@ -23,32 +23,12 @@ pub pools-reached : (homes : List MemoryPlan) (slots : ℕ) (migrates : List Mig
 pools-reached homes slots [] outliers pools r = subst (ArePools homes) (sym r.2) (all_free-pages homes)
 pools-reached homes slots (migrate ∷ earlier) outliers pools r = r.3.one_each
 
--- a migrate that was accepted, and one that was refused
-pub accepted-next : (table new_table : TableView) (pools between new_pools : List PoolView) (range : RangeView) (memory : ℕ) (move : Move) (migrates : List Migrate) →
-    Reached table.homes table.slots migrates table.outliers pools → IsBlock range → memory < length table.homes → Plans table pools range memory (Ok move) → Takes pools (Ok move) between →
-    new_table ≡ table_after move table → Frees table.homes move.range table.outliers between new_pools → ArePools table.homes new_pools → IsTable new_table →
-    Reached new_table.homes new_table.slots (record { range = range; memory = memory; result = Ok move } ∷ migrates) new_table.outliers new_pools
-accepted-next table new_table pools between new_pools range memory move migrates r block there planned taken e frees one_each is =
-    subst (λ (t : TableView). Reached t.homes t.slots (record { range = range; memory = memory; result = Ok move } ∷ migrates) t.outliers new_pools) (sym e) (
-      table.outliers,
-      pools,
-      r,
-      record {
-        block = block;
-        there = there;
-        planned = planned;
-        between = between;
-        taken = taken;
-        ended = (refl, frees);
-        one_each = one_each;
-        table = subst IsTable e is;
-      },
-    )
-
-pub refused-next : (table : TableView) (pools new_pools : List PoolView) (range : RangeView) (memory : ℕ) (outcome : Outcome) (migrates : List Migrate) →
-    Reached table.homes table.slots migrates table.outliers pools → IsBlock range → memory < length table.homes → Plans table pools range memory (Err outcome) → Takes pools (Err outcome) new_pools →
-    ArePools table.homes new_pools → Reached table.homes table.slots (record { range = range; memory = memory; result = Err outcome } ∷ migrates) table.outliers new_pools
-refused-next table pools new_pools range memory outcome migrates r block there planned taken one_each = (
+-- one migrate more, however it was answered
+next : (table : TableView) (pools between new_pools : List PoolView) (new_outliers : List Outlier) (range : RangeView) (memory : ℕ) (result : Result Move Outcome) (migrates : List Migrate) →
+    Reached table.homes table.slots migrates table.outliers pools → IsBlock range → memory < length table.homes → Plans table pools range memory result → Takes pools result between →
+    Ended table.homes result table.outliers between new_outliers new_pools → ArePools table.homes new_pools → IsTable (table_with table.homes table.slots new_outliers) →
+    Reached table.homes table.slots (record { range = range; memory = memory; result = result } ∷ migrates) new_outliers new_pools
+next table pools between new_pools new_outliers range memory result migrates r block there planned taken ended one_each is = (
   table.outliers,
   pools,
   r,
@@ -56,13 +36,28 @@ refused-next table pools new_pools range memory outcome migrates r block there p
     block = block;
     there = there;
     planned = planned;
-    between = new_pools;
+    between = between;
     taken = taken;
-    ended = (refl, refl);
+    ended = ended;
     one_each = one_each;
-    table = (always table.homes table.slots migrates table.outliers pools r).table;
+    table = is;
   },
 )
+
+-- a migrate that was accepted, and one that was refused
+pub accepted-next : (table new_table : TableView) (pools between new_pools : List PoolView) (range : RangeView) (memory : ℕ) (move : Move) (migrates : List Migrate) →
+    Reached table.homes table.slots migrates table.outliers pools → IsBlock range → memory < length table.homes → Plans table pools range memory (Ok move) → Takes pools (Ok move) between →
+    new_table ≡ table_after move table → Frees table.homes move.range table.outliers between new_pools → ArePools table.homes new_pools → IsTable new_table →
+    Reached new_table.homes new_table.slots (record { range = range; memory = memory; result = Ok move } ∷ migrates) new_table.outliers new_pools
+accepted-next table new_table pools between new_pools range memory move migrates r block there planned taken e frees one_each is =
+    subst (λ (t : TableView). Reached t.homes t.slots (record { range = range; memory = memory; result = Ok move } ∷ migrates) t.outliers new_pools) (sym e)
+    (next table pools between new_pools (outliers_after table.homes move move.run table.outliers) range memory (Ok move) migrates r block there planned taken (refl, frees) one_each (subst IsTable e is))
+
+pub refused-next : (table : TableView) (pools new_pools : List PoolView) (range : RangeView) (memory : ℕ) (outcome : Outcome) (migrates : List Migrate) →
+    Reached table.homes table.slots migrates table.outliers pools → IsBlock range → memory < length table.homes → Plans table pools range memory (Err outcome) → Takes pools (Err outcome) new_pools →
+    ArePools table.homes new_pools → Reached table.homes table.slots (record { range = range; memory = memory; result = Err outcome } ∷ migrates) table.outliers new_pools
+refused-next table pools new_pools range memory outcome migrates r block there planned taken one_each =
+    next table pools new_pools new_pools table.outliers range memory (Err outcome) migrates r block there planned taken (refl, refl) one_each (always table.homes table.slots migrates table.outliers pools r).table
 
 -- a move stays under way while its pages are copied
 pub under_way-copied : (table : TableView) (pools : List PoolView) (move : Move) (n : ℕ) → IsUnderWay table pools move → IsUnderWay table pools (record move { next = n })

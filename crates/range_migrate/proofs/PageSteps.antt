@@ -5,7 +5,7 @@ use Rattle.std.proofs.lemmas.Bool.{cases_Bool, cases_lt, false≢true}
 use Rattle.std.proofs.lemmas.Bool.Decides.{nat_tests}
 use Rattle.mind_base.specs.declared.plans.MemoryPlan.{MemoryPlan}
 use Rattle.range_translate.specs.declared.outliers.Outlier.{Outlier}
-use Rattle.range_migrate.specs.Run.{spare_pages, lies_in, first_of, users, FitsRun}
+use Rattle.range_migrate.specs.Run.{spare_pages, has_spare_page, first_spare_of, users, FitsRun}
 
 -- Before: free where it is a spare page without use, and used at most once. The move takes it or not. Then the
 -- uses inside the block are given up. After: the same again, with the use that the move makes of it.
@@ -47,10 +47,10 @@ lies_of memory m first page size e = (grind (arith, nat_tests), grind (arith, na
 -- a page that is used is a spare page
 pub used-inside : (homes : List MemoryPlan) (m page : ℕ) (xs : List Outlier) → AllByRecursion (FitsRun homes) xs → 0 < users homes xs m page → page < spare_pages homes m
 used-inside homes m page [] fits l = absurd (omega (arith, l))
-used-inside homes m page (x ∷ xs) fits l = elim (cases_Bool (lies_in homes m page x)) [
+used-inside homes m page (x ∷ xs) fits l = elim (cases_Bool (has_spare_page homes m page x)) [
   | inl t ↦
-      (let h = lies_of x.memory m (first_of homes x) page (2 ^ x.range.log) t in
+      (let h = lies_of x.memory m (first_spare_of homes x) page (2 ^ x.range.log) t in
       let inside = fits.0.run.inside in
       subst (λ k. page < spare_pages homes k) h.0 (let w : page < spare_pages homes x.memory = omega (arith, inside, h.1) in w))
-  | inr f ↦ used-inside homes m page xs fits.1 (subst (λ (b : Bool). 0 < length (cond b (x ∷ filter (lies_in homes m page) xs) (filter (lies_in homes m page) xs))) f l)
+  | inr f ↦ used-inside homes m page xs fits.1 (subst (λ (b : Bool). 0 < length (cond b (x ∷ filter (has_spare_page homes m page) xs) (filter (has_spare_page homes m page) xs))) f l)
 ]

@@ -6,7 +6,7 @@ use Rattle.mind_base.specs.Range.{RangeView, InRange}
 use Rattle.mind_base.specs.Cover.{all_below}
 use Rattle.mind_base.specs.declared.commands.Outcome.{Outcome}
 use Rattle.mind_base.specs.declared.commands.Outcome.TheVariants.{Fine, Unplaced, Overlap, Unmapped, Slots, Same, Room}
-use Rattle.range_migrate.specs.Plan.{page_at, each_page, is_at, Way, Refused, Homeward, ByRun, way_of, IsFreeRunAt, HasFreeRun, IsLowestRunAt, new_move, EndsByRun, EndsBy}
+use Rattle.range_migrate.specs.Plan.{block_page, each_page, is_at, Way, Refused, Homeward, ByRun, way_of, IsFreeRunAt, HasFreeRun, IsLowestRunAt, new_move, EndsByRun, EndsBy}
 use Rattle.range_migrate.specs.declared.moves.Move.{Move}
 
 -- all numbers below n pass a test that passes at each
@@ -50,8 +50,8 @@ all_below-fails test n i l f = elim (cases_Bool (all_below test n)) [
 pub each_page-at : (range : RangeView) (test : PageView → Bool) (page : PageView) → each_page range test ≡ true → InRange range page → test page ≡ true
 each_page-at range test page e h =
     let number : range.base + (page.number - range.base) ≡ page.number = omega (arith, h.from) in
-    let here = all_below-at (λ n. test (page_at range n)) (2 ^ range.log) (page.number - range.base) e (omega (arith, h.below, h.from)) in
-    let same : page_at range (page.number - range.base) ≡ page =
+    let here = all_below-at (λ n. test (block_page range n)) (2 ^ range.log) (page.number - range.base) e (omega (arith, h.below, h.from)) in
+    let same : block_page range (page.number - range.base) ≡ page =
     ap (λ (n : ℕ). let p : PageView = record { domain = range.domain; number = n } in p) number
     ∙ ap (λ (d : ℕ). let p : PageView = record { domain = d; number = page.number } in p) (sym h.domain) in
     subst (λ p. test p ≡ true) same here
@@ -89,7 +89,7 @@ accepts range memory true false at_home enclosed others slots free move e = step
 pub way-same : (range : RangeView) (memory : ℕ) (p q home : PageView → Option (ℕ × ℕ)) (a b : Bool) → ((page : PageView) → p page ≡ q page) → a ≡ b → way_of range memory p home a ≡ way_of range memory q home b
 way-same range memory p q home a b same e =
     ap (λ t. cond (not (each_page range (λ page. is_some (home page)))) (Refused Unplaced) (cond t (Refused Same) (cond (each_page range (λ page. is_at memory (home page)) && not a) Homeward ByRun)))
-    (all_below-same (λ n. is_at memory (p (page_at range n))) (λ n. is_at memory (q (page_at range n))) (2 ^ range.log) (λ n. ap (is_at memory) (same (page_at range n))))
+    (all_below-same (λ n. is_at memory (p (block_page range n))) (λ n. is_at memory (q (block_page range n))) (2 ^ range.log) (λ n. ap (is_at memory) (same (block_page range n))))
     ∙ ap (λ c. way_of range memory q home c) e
 
 abbrev Agree : (ℕ → ℕ → Type 0) → (ℕ → ℕ → Type 0) → Type 0

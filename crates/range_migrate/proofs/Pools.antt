@@ -11,6 +11,8 @@ use Rattle.spare_pool.specs.Pool.{PoolView, IsPool, InRun, IsFreeRun, IsLowestRu
 use Rattle.range_translate.specs.Place.{pages_of}
 use Rattle.range_migrate.specs.Run.{home_pages, spare_pages, ArePools, IsFreeAt}
 use Rattle.range_migrate.specs.Plan.{IsFreeRunAt, IsLowestRunAt}
+use Rattle.range_migrate.specs.Ending.{FitsSpare}
+use Rattle.range_migrate.specs.declared.moves.Move.{Move}
 
 pub free-at : (pools : List PoolView) (memory page : ℕ) (pool : PoolView) → slice_get pools memory ≡ Some pool → IsFreeAt pools memory page ↔ Contains pool.free page
 free-at pools memory page pool e = subst (λ (o : Option PoolView). IsSomeAnd o (λ p. Contains p.free page) ↔ Contains pool.free page) (sym e) (λ w. w, λ w. w)
@@ -111,6 +113,12 @@ spare-few homes memory all = step homes memory (recursion_from_All (λ (m : Memo
   step [] i h = omega arith
   step (m ∷ ms) zero h = h.0
   step (m ∷ ms) (suc i) h = step ms i h.1
+
+-- so a run of them ends early
+pub run-few : (homes : List MemoryPlan) (move : Move) (run : Option ℕ) (first : ℕ) → All (λ m. m.spare ≤ 4096) homes → run ≡ Some first → FitsSpare homes move run → first + 2 ^ move.range.log ≤ 4096
+run-few homes move run first all is fits =
+    let inside : first + 2 ^ move.range.log ≤ spare_pages homes move.memory = subst (FitsSpare homes move) is fits in
+    omega (arith, inside, spare-few homes move.memory all)
 
 spare-there : (homes : List MemoryPlan) (memory : ℕ) → 0 < spare_pages homes memory → memory < length homes
 spare-there [] i l = absurd (omega (arith, l))

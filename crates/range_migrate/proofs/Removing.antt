@@ -5,17 +5,17 @@ use Rattle.std.specs.Option.{unwrap_or}
 use Rattle.std.proofs.lemmas.Bool.{cases_Bool, false≢true}
 use Rattle.std.proofs.lemmas.Bool.Decides.{nat_tests}
 use Rattle.std.proofs.lemmas.Nat.{pow_pos}
-use Rattle.mind_base.specs.Range.{RangeView}
+use Rattle.mind_base.specs.Range.{RangeView, same_range}
 use Rattle.mind_base.specs.declared.plans.MemoryPlan.{MemoryPlan}
-use Rattle.range_translate.specs.Block.{is_inside, is_same, comes_before}
+use Rattle.mind_base.proofs.SameRange.{same_range-refl, same_range-true}
+use Rattle.range_translate.specs.Block.{block_lies_inside, comes_before}
 use Rattle.range_translate.specs.Order.{IsOrdered}
 use Rattle.range_translate.specs.Table.{TableView}
 use Rattle.range_translate.specs.declared.outliers.Outlier.{Outlier}
-use Rattle.range_translate.proofs.BlockOrder.{equal_blocks}
 use Rattle.spare_pool.specs.Pool.{PoolView, InRun}
-use Rattle.range_migrate.specs.Run.{spare_pages, ArePools, IsFreeAt, first_of, lies_in, users, FitsRun, AreRuns}
+use Rattle.range_migrate.specs.Run.{spare_pages, ArePools, IsFreeAt, first_spare_of, has_spare_page, users, FitsRun, AreRuns}
 use Rattle.range_migrate.specs.Plan.{outside}
-use Rattle.range_migrate.specs.Ending.{given_up, Frees}
+use Rattle.range_migrate.specs.Ending.{pages_given_up, Frees}
 use Rattle.range_migrate.proofs.Counting.{filter-same, filter-filter, bit_of}
 use Rattle.range_migrate.proofs.InOrder.{all-left}
 
@@ -47,18 +47,15 @@ pub none_left : (test t : Outlier → Bool) (xs : List Outlier) → AllByRecursi
 none_left test t [] h = refl
 none_left test t (x ∷ xs) h = ap (λ b. length (cond (b && t x) (x ∷ filter (λ y. test y && t y) xs) (filter (λ y. test y && t y) xs))) h.0 ∙ none_left test t xs h.1
 
-is_same-itself : (r : RangeView) → is_same r r ≡ true
-is_same-itself r = grind (arith, nat_tests)
-
-not_same-before : (a b : RangeView) → comes_before a b ≡ true → is_same a b ≡ false
+not_same-before : (a b : RangeView) → comes_before a b ≡ true → same_range a b ≡ false
 not_same-before a b h = grind (arith, nat_tests)
 
-not_same-after : (a b : RangeView) → comes_before a b ≡ true → is_same b a ≡ false
+not_same-after : (a b : RangeView) → comes_before a b ≡ true → same_range b a ≡ false
 not_same-after a b h = grind (arith, nat_tests)
 
 -- the outliers of other blocks
 abbrev pub without : RangeView → List Outlier → List Outlier
-without range outliers = filter (λ o. not (is_same o.range range)) outliers
+without range outliers = filter (λ o. not (same_range o.range range)) outliers
 
 later_stay : (x : Outlier) (xs : List Outlier) → AllByRecursion (λ p. IsTrue (comes_before x.range p.range)) xs → without x.range xs ≡ xs
 later_stay x [] h = refl
@@ -70,7 +67,7 @@ pub removed-count : (t : Outlier → Bool) (o : Outlier) (xs : List Outlier) →
 removed-count t o [] ordered c = absurd (omega (arith, c.1))
 removed-count t o (x ∷ xs) ordered (zero, l, e) =
     subst (λ p. length (filter t (x ∷ xs)) ≡ length (filter t (without p.range (x ∷ xs))) + cond (t p) 1 0) e
-    (here (t x) (filter t xs) ∙ ap (λ ys. length (filter t ys) + cond (t x) 1 0) (sym (ap (λ b. cond (not b) (x ∷ without x.range xs) (without x.range xs)) (is_same-itself x.range) ∙ later_stay x xs ordered.0))) where
+    (here (t x) (filter t xs) ∙ ap (λ ys. length (filter t ys) + cond (t x) 1 0) (sym (ap (λ b. cond (not b) (x ∷ without x.range xs) (without x.range xs)) (same_range-refl x.range) ∙ later_stay x xs ordered.0))) where
       here : (b : Bool) (ys : List Outlier) → length (cond b (x ∷ ys) ys) ≡ length ys + cond b 1 0
       here true ys = omega arith
       here false ys = omega arith
@@ -83,21 +80,21 @@ removed-count t o (x ∷ xs) ordered (suc k, l, e) =
       there true ys zs n e = omega (arith, e)
       there false ys zs n e = e
 
-same-inside : (a b r : RangeView) → is_same a b ≡ true → is_inside b r ≡ true → is_inside a r ≡ true
-same-inside a b r s i = subst (λ (x : RangeView). is_inside x r ≡ true) (sym (equal_blocks a b s)) i
+same-inside : (a b r : RangeView) → same_range a b ≡ true → block_lies_inside b r ≡ true → block_lies_inside a r ≡ true
+same-inside a b r s i = subst (λ (x : RangeView). block_lies_inside x r ≡ true) (sym (same_range-true a b s)) i
 
 -- taking out one inside the block leaves the same outside it
-pub same-outside : (range : RangeView) (o : Outlier) (xs : List Outlier) → is_inside o.range range ≡ true → outside range (without o.range xs) ≡ outside range xs
+pub same-outside : (range : RangeView) (o : Outlier) (xs : List Outlier) → block_lies_inside o.range range ≡ true → outside range (without o.range xs) ≡ outside range xs
 same-outside range o xs inside =
-    filter-filter (λ p. not (is_inside p.range range)) (λ p. not (is_same p.range o.range)) xs
-    ∙ filter-same (λ p. not (is_same p.range o.range) && not (is_inside p.range range)) (λ p. not (is_inside p.range range)) xs (λ p. same p) where
+    filter-filter (λ p. not (block_lies_inside p.range range)) (λ p. not (same_range p.range o.range)) xs
+    ∙ filter-same (λ p. not (same_range p.range o.range) && not (block_lies_inside p.range range)) (λ p. not (block_lies_inside p.range range)) xs (λ p. same p) where
       both : (a b : Bool) → (a ≡ true → b ≡ true) → (not a && not b) ≡ not b
       both true true h = refl
       both true false h = absurd (false≢true (h refl))
       both false b h = refl
 
-      same : (p : Outlier) → (not (is_same p.range o.range) && not (is_inside p.range range)) ≡ not (is_inside p.range range)
-      same p = both (is_same p.range o.range) (is_inside p.range range) (λ s. same-inside p.range o.range range s inside)
+      same : (p : Outlier) → (not (same_range p.range o.range) && not (block_lies_inside p.range range)) ≡ not (block_lies_inside p.range range)
+      same p = both (same_range p.range o.range) (block_lies_inside p.range range) (λ s. same-inside p.range o.range range s inside)
 
 -- uses that end, and uses to come
 pub page_removed : (Old New First : Type 0) (b : Bool) (g rest : ℕ) → g ≡ rest + cond b 1 0 → (New ↔ (Old ⊎ (b ≡ true))) → ((Old ⊎ (0 < g)) ↔ First) → ((New ⊎ (0 < rest)) ↔ First)
@@ -125,26 +122,26 @@ page_removed Old New First b g rest count new to_do = (λ w. to_do.0 (there w), 
 
 -- the runs of those that are left
 pub runs-left : (homes : List MemoryPlan) (o : Outlier) (xs : List Outlier) (pools new_pools : List PoolView) → IsOrdered xs → Contains xs o → AreRuns homes xs pools →
-    ((m page : ℕ) → IsFreeAt new_pools m page ↔ (IsFreeAt pools m page ⊎ IsTrue (lies_in homes m page o))) → AreRuns homes (without o.range xs) new_pools
+    ((m page : ℕ) → IsFreeAt new_pools m page ↔ (IsFreeAt pools m page ⊎ IsTrue (has_spare_page homes m page o))) → AreRuns homes (without o.range xs) new_pools
 runs-left homes o xs pools new_pools ordered there runs freed = record {
-  runs = all-left (FitsRun homes) (λ p. not (is_same p.range o.range)) xs runs.runs;
-  apart = λ m page. (let n = removed-count (lies_in homes m page) o xs ordered there in let u = runs.apart m page in omega (arith, n, u));
+  runs = all-left (FitsRun homes) (λ p. not (same_range p.range o.range)) xs runs.runs;
+  apart = λ m page. (let n = removed-count (has_spare_page homes m page) o xs ordered there in let u = runs.apart m page in omega (arith, n, u));
   taken = λ m page w. none m page ((freed m page).0 w);
 } where
-  none : (m page : ℕ) → (IsFreeAt pools m page ⊎ IsTrue (lies_in homes m page o)) → users homes (without o.range xs) m page ≡ 0
-  none m page (inl f) = let n = removed-count (lies_in homes m page) o xs ordered there in let z = runs.taken m page f in omega (arith, n, z)
+  none : (m page : ℕ) → (IsFreeAt pools m page ⊎ IsTrue (has_spare_page homes m page o)) → users homes (without o.range xs) m page ≡ 0
+  none m page (inl f) = let n = removed-count (has_spare_page homes m page) o xs ordered there in let z = runs.taken m page f in omega (arith, n, z)
   none m page (inr t) =
-      let n = removed-count (lies_in homes m page) o xs ordered there in
+      let n = removed-count (has_spare_page homes m page) o xs ordered there in
       let u = runs.apart m page in
-      let one : bit_of (lies_in homes m page o) ≡ 1 = ap bit_of t in
+      let one : bit_of (has_spare_page homes m page o) ≡ 1 = ap bit_of t in
       omega (arith, n, u, one)
 
 -- a page of an outlier's run is used, so it is not free
-pub used-taken : (homes : List MemoryPlan) (o : Outlier) (xs : List Outlier) (pools : List PoolView) (m page : ℕ) → IsOrdered xs → Contains xs o → AreRuns homes xs pools → lies_in homes m page o ≡ true → IsFreeAt pools m page → ⊥
+pub used-taken : (homes : List MemoryPlan) (o : Outlier) (xs : List Outlier) (pools : List PoolView) (m page : ℕ) → IsOrdered xs → Contains xs o → AreRuns homes xs pools → has_spare_page homes m page o ≡ true → IsFreeAt pools m page → ⊥
 used-taken homes o xs pools m page ordered there runs t f =
-    let n = removed-count (lies_in homes m page) o xs ordered there in
+    let n = removed-count (has_spare_page homes m page) o xs ordered there in
     let z = runs.taken m page f in
-    let one : bit_of (lies_in homes m page o) ≡ 1 = ap bit_of t in
+    let one : bit_of (has_spare_page homes m page o) ≡ 1 = ap bit_of t in
     omega (arith, n, z, one)
 
 -- the spare pages that a pool has, by the plans of the memory blades
@@ -171,25 +168,25 @@ from_lies : (memory m first page size : ℕ) → (memory == m && nat_le first pa
 from_lies memory m first page size e = (grind (arith, nat_tests), (grind (arith, nat_tests), grind (arith, nat_tests)))
 
 pub can-give : (homes : List MemoryPlan) (pools : List PoolView) (xs : List Outlier) (o : Outlier) (first : ℕ) → ArePools homes pools → IsOrdered xs → Contains xs o → AreRuns homes xs pools →
-    first ≡ first_of homes o → CanGive pools o.memory first o.range.log
+    first ≡ first_spare_of homes o → CanGive pools o.memory first o.range.log
 can-give homes pools xs o first same ordered there runs e = subst (λ n. CanGive pools o.memory n o.range.log) (sym e) record {
   there = pool.0;
   aligned = fits.run.aligned;
   inside = pool.1;
-  taken = λ page r w. used-taken homes o xs pools o.memory page ordered there runs (to_lies o.memory o.memory (first_of homes o) page (2 ^ o.range.log) refl r.0 r.1) w;
+  taken = λ page r w. used-taken homes o xs pools o.memory page ordered there runs (to_lies o.memory o.memory (first_spare_of homes o) page (2 ^ o.range.log) refl r.0 r.1) w;
 } where
   fits : FitsRun homes o
   fits = all-at (FitsRun homes) xs o runs.runs there
 
-  pool : (o.memory < length pools) × IsSomeAnd (slice_get pools o.memory) (λ pool. first_of homes o + 2 ^ o.range.log ≤ pool.pages)
-  pool = pool_at homes pools o.memory (first_of homes o + 2 ^ o.range.log) same (let some = pow_pos o.range.log in omega (arith, some)) fits.run.inside
+  pool : (o.memory < length pools) × IsSomeAnd (slice_get pools o.memory) (λ pool. first_spare_of homes o + 2 ^ o.range.log ≤ pool.pages)
+  pool = pool_at homes pools o.memory (first_spare_of homes o + 2 ^ o.range.log) same (let some = pow_pos o.range.log in omega (arith, some)) fits.run.inside
 
 -- What is still to do while the outliers inside a block are taken out, one after another, is what was to do at first.
 pub record Removal (range : RangeView) (first : TableView) (first_pools : List PoolView) (table : TableView) (pools : List PoolView) : Type 0 where
   pub homes : table.homes ≡ first.homes
   pub slots : table.slots ≡ first.slots
   pub left : outside range table.outliers ≡ outside range first.outliers
-  pub freed : (m page : ℕ) → (IsFreeAt pools m page ⊎ (0 < given_up first.homes range table.outliers m page)) ↔ (IsFreeAt first_pools m page ⊎ (0 < given_up first.homes range first.outliers m page))
+  pub freed : (m page : ℕ) → (IsFreeAt pools m page ⊎ (0 < pages_given_up first.homes range table.outliers m page)) ↔ (IsFreeAt first_pools m page ⊎ (0 < pages_given_up first.homes range first.outliers m page))
   pub one_each : ArePools first.homes pools
   pub runs : AreRuns first.homes table.outliers pools
 
@@ -204,59 +201,59 @@ removal-start range table pools same runs = record {
 }
 
 abbrev pub FreedBy : List MemoryPlan → Outlier → List PoolView → List PoolView → Type 0
-FreedBy homes o pools new_pools = (m page : ℕ) → IsFreeAt new_pools m page ↔ (IsFreeAt pools m page ⊎ IsTrue (lies_in homes m page o))
+FreedBy homes o pools new_pools = (m page : ℕ) → IsFreeAt new_pools m page ↔ (IsFreeAt pools m page ⊎ IsTrue (has_spare_page homes m page o))
 
-pub freed-by : (homes : List MemoryPlan) (o : Outlier) (pools new_pools : List PoolView) (first : ℕ) → first ≡ first_of homes o →
+pub freed-by : (homes : List MemoryPlan) (o : Outlier) (pools new_pools : List PoolView) (first : ℕ) → first ≡ first_spare_of homes o →
     ((m page : ℕ) → IsFreeAt new_pools m page ↔ (IsFreeAt pools m page ⊎ ((o.memory ≡ m) × InRun o.range.log first page))) → FreedBy homes o pools new_pools
 freed-by homes o pools new_pools first e given m page = (λ w. there (g.0 w), λ w. g.1 (back w)) where
-  g : IsFreeAt new_pools m page ↔ (IsFreeAt pools m page ⊎ ((o.memory ≡ m) × InRun o.range.log (first_of homes o) page))
+  g : IsFreeAt new_pools m page ↔ (IsFreeAt pools m page ⊎ ((o.memory ≡ m) × InRun o.range.log (first_spare_of homes o) page))
   g = subst (λ n. IsFreeAt new_pools m page ↔ (IsFreeAt pools m page ⊎ ((o.memory ≡ m) × InRun o.range.log n page))) e (given m page)
 
-  there : (IsFreeAt pools m page ⊎ ((o.memory ≡ m) × InRun o.range.log (first_of homes o) page)) → IsFreeAt pools m page ⊎ IsTrue (lies_in homes m page o)
+  there : (IsFreeAt pools m page ⊎ ((o.memory ≡ m) × InRun o.range.log (first_spare_of homes o) page)) → IsFreeAt pools m page ⊎ IsTrue (has_spare_page homes m page o)
   there (inl w) = inl w
-  there (inr r) = inr (to_lies o.memory m (first_of homes o) page (2 ^ o.range.log) r.0 r.1.0 r.1.1)
+  there (inr r) = inr (to_lies o.memory m (first_spare_of homes o) page (2 ^ o.range.log) r.0 r.1.0 r.1.1)
 
-  back : (IsFreeAt pools m page ⊎ IsTrue (lies_in homes m page o)) → IsFreeAt pools m page ⊎ ((o.memory ≡ m) × InRun o.range.log (first_of homes o) page)
+  back : (IsFreeAt pools m page ⊎ IsTrue (has_spare_page homes m page o)) → IsFreeAt pools m page ⊎ ((o.memory ≡ m) × InRun o.range.log (first_spare_of homes o) page)
   back (inl w) = inl w
-  back (inr t) = inr (from_lies o.memory m (first_of homes o) page (2 ^ o.range.log) t)
+  back (inr t) = inr (from_lies o.memory m (first_spare_of homes o) page (2 ^ o.range.log) t)
 
 pub removal-step : (range : RangeView) (first : TableView) (first_pools : List PoolView) (table new_table : TableView) (pools new_pools : List PoolView) (o : Outlier) → Removal range first first_pools table pools →
-    IsOrdered table.outliers → find (λ p. is_inside p.range range) table.outliers ≡ Some o → new_table ≡ record table { outliers = without o.range table.outliers } →
+    IsOrdered table.outliers → find (λ p. block_lies_inside p.range range) table.outliers ≡ Some o → new_table ≡ record table { outliers = without o.range table.outliers } →
     FreedBy table.homes o pools new_pools → ArePools table.homes new_pools → Removal range first first_pools new_table new_pools
 removal-step range first first_pools table new_table pools new_pools o r ordered e made freed_here same_here =
     subst (λ t. Removal range first first_pools t new_pools) (sym made) record {
       homes = r.homes;
       slots = r.slots;
       left = same-outside range o table.outliers f.1 ∙ r.left;
-      freed = λ m page. page_removed (IsFreeAt pools m page) (IsFreeAt new_pools m page) (IsFreeAt first_pools m page ⊎ (0 < given_up first.homes range first.outliers m page))
-          (lies_in first.homes m page o) (given_up first.homes range table.outliers m page) (given_up first.homes range (without o.range table.outliers) m page)
-          (removed-count (λ p. is_inside p.range range && lies_in first.homes m page p) o table.outliers ordered f.0
-          ∙ ap (λ b. given_up first.homes range (without o.range table.outliers) m page + cond (b && lies_in first.homes m page o) 1 0) f.1)
+      freed = λ m page. page_removed (IsFreeAt pools m page) (IsFreeAt new_pools m page) (IsFreeAt first_pools m page ⊎ (0 < pages_given_up first.homes range first.outliers m page))
+          (has_spare_page first.homes m page o) (pages_given_up first.homes range table.outliers m page) (pages_given_up first.homes range (without o.range table.outliers) m page)
+          (removed-count (λ p. block_lies_inside p.range range && has_spare_page first.homes m page p) o table.outliers ordered f.0
+          ∙ ap (λ b. pages_given_up first.homes range (without o.range table.outliers) m page + cond (b && has_spare_page first.homes m page o) 1 0) f.1)
           (freed m page) (r.freed m page);
       one_each = subst (λ hs. ArePools hs new_pools) r.homes same_here;
       runs = runs-left first.homes o table.outliers pools new_pools ordered f.0 r.runs freed;
     } where
-      f : Contains table.outliers o × (is_inside o.range range ≡ true)
-      f = found (λ p. is_inside p.range range) table.outliers o e
+      f : Contains table.outliers o × (block_lies_inside o.range range ≡ true)
+      f = found (λ p. block_lies_inside p.range range) table.outliers o e
 
       freed : FreedBy first.homes o pools new_pools
       freed = subst (λ hs. FreedBy hs o pools new_pools) r.homes freed_here
 
 pub removal-end : (range : RangeView) (first : TableView) (first_pools : List PoolView) (table : TableView) (pools : List PoolView) → Removal range first first_pools table pools →
-    find (λ p. is_inside p.range range) table.outliers ≡ None →
+    find (λ p. block_lies_inside p.range range) table.outliers ≡ None →
     (table ≡ record first { outliers = outside range first.outliers }) × Frees first.homes range first.outliers first_pools pools
 removal-end range first first_pools table pools r e = (
   ap (λ hs. let t : TableView = record { homes = hs; slots = table.slots; outliers = table.outliers } in t) r.homes
       ∙ ap (λ n. let t : TableView = record { homes = first.homes; slots = n; outliers = table.outliers } in t) r.slots
-      ∙ ap (λ os. let t : TableView = record { homes = first.homes; slots = first.slots; outliers = os } in t) (sym (all_left (λ p. is_inside p.range range) table.outliers none) ∙ r.left),
+      ∙ ap (λ os. let t : TableView = record { homes = first.homes; slots = first.slots; outliers = os } in t) (sym (all_left (λ p. block_lies_inside p.range range) table.outliers none) ∙ r.left),
   λ m page. (λ w. (r.freed m page).0 (inl w), λ w. only m page ((r.freed m page).1 w)),
 ) where
-  none : AllByRecursion (λ p. is_inside p.range range ≡ false) table.outliers
-  none = none_found (λ p. is_inside p.range range) table.outliers e
+  none : AllByRecursion (λ p. block_lies_inside p.range range ≡ false) table.outliers
+  none = none_found (λ p. block_lies_inside p.range range) table.outliers e
 
-  only : (m page : ℕ) → (IsFreeAt pools m page ⊎ (0 < given_up first.homes range table.outliers m page)) → IsFreeAt pools m page
+  only : (m page : ℕ) → (IsFreeAt pools m page ⊎ (0 < pages_given_up first.homes range table.outliers m page)) → IsFreeAt pools m page
   only m page (inl w) = w
-  only m page (inr l) = let z = none_left (λ p. is_inside p.range range) (lies_in first.homes m page) table.outliers none in absurd (omega (arith, l, z))
+  only m page (inr l) = let z = none_left (λ p. block_lies_inside p.range range) (has_spare_page first.homes m page) table.outliers none in absurd (omega (arith, l, z))
 
 -- there is one outlier less
 pub fewer-left : (o : Outlier) (xs : List Outlier) → IsOrdered xs → Contains xs o → length (without o.range xs) < length xs

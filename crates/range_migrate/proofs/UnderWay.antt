@@ -4,14 +4,14 @@ use Rattle.std.proofs.lemmas.Bool.{false≢true}
 use Rattle.mind_base.specs.Range.{RangeView}
 use Rattle.mind_base.specs.Home.{home_of}
 use Rattle.mind_base.specs.declared.plans.MemoryPlan.{MemoryPlan}
-use Rattle.range_translate.specs.Block.{is_inside}
+use Rattle.range_translate.specs.Block.{block_lies_inside}
 use Rattle.range_translate.specs.Order.{IsOrdered, put_in_order}
 use Rattle.range_translate.specs.Table.{TableView}
 use Rattle.range_translate.specs.declared.outliers.Outlier.{Outlier}
 use Rattle.spare_pool.specs.Pool.{PoolView, InRun}
-use Rattle.range_migrate.specs.Run.{home_pages, spare_pages, ArePools, IsFreeAt, lies_in, users, FitsRun, AreRuns}
+use Rattle.range_migrate.specs.Run.{home_pages, spare_pages, ArePools, IsFreeAt, has_spare_page, users, FitsRun, AreRuns}
 use Rattle.range_migrate.specs.Plan.{each_page, outside, IsFreeRunAt, new_move}
-use Rattle.range_migrate.specs.Ending.{IsPlaced, FitsSpare, outlier_of, outliers_after, given_up, Frees, OwnsRun, IsUnderWay, table_after}
+use Rattle.range_migrate.specs.Ending.{IsPlaced, FitsSpare, outlier_of, outliers_after, pages_given_up, Frees, OwnsRun, IsUnderWay, table_after}
 use Rattle.range_migrate.specs.declared.moves.Move.{Move}
 use Rattle.range_migrate.proofs.InOrder.{put-count, all-left, all-put}
 use Rattle.range_migrate.proofs.PageSteps.{lies_to}
@@ -34,12 +34,12 @@ page_after FreeB New false u g n parts once unused new own = (omega (arith, once
 
 pub after_home : (homes : List MemoryPlan) (range : RangeView) (outliers : List Outlier) (pools new_pools : List PoolView) → AreRuns homes outliers pools → Frees homes range outliers pools new_pools → AreRuns homes (outside range outliers) new_pools
 after_home homes range outliers pools new_pools runs frees = record {
-  runs = all-left (FitsRun homes) (λ o. not (is_inside o.range range)) outliers runs.runs;
+  runs = all-left (FitsRun homes) (λ o. not (block_lies_inside o.range range)) outliers runs.runs;
   apart = λ m page. let h = (page_at m page).0 in omega (arith, h);
   taken = λ m page w. let h = (page_at m page).1 w in omega (arith, h);
 } where
   page_at : (m page : ℕ) → (0 + users homes (outside range outliers) m page ≤ 1) × (IsFreeAt new_pools m page → 0 + users homes (outside range outliers) m page ≡ 0)
-  page_at m page = page_after (IsFreeAt pools m page) (IsFreeAt new_pools m page) false (users homes outliers m page) (given_up homes range outliers m page) (users homes (outside range outliers) m page)
+  page_at m page = page_after (IsFreeAt pools m page) (IsFreeAt new_pools m page) false (users homes outliers m page) (pages_given_up homes range outliers m page) (users homes (outside range outliers) m page)
       (left_users homes range outliers m page) (runs.apart m page) (runs.taken m page) (frees m page) (λ e. absurd (false≢true e))
 
 after_run : (homes : List MemoryPlan) (move : Move) (first : ℕ) (outliers : List Outlier) (pools new_pools : List PoolView) → IsOrdered (outside move.range outliers) → AreRuns homes outliers pools → first + 2 ^ move.range.log ≤ spare_pages homes move.memory → first % 2 ^ move.range.log ≡ 0 →
@@ -47,19 +47,19 @@ after_run : (homes : List MemoryPlan) (move : Move) (first : ℕ) (outliers : Li
     Frees homes move.range outliers pools new_pools → AreRuns homes (put_in_order (outlier_of homes move first) (outside move.range outliers)) new_pools
 after_run homes move first outliers pools new_pools ordered runs inside aligned own frees = record {
   runs = all-put (FitsRun homes) (outlier_of homes move first) (outside move.range outliers) (entered-fits homes move.range move.memory first aligned inside)
-      (all-left (FitsRun homes) (λ o. not (is_inside o.range move.range)) outliers runs.runs);
+      (all-left (FitsRun homes) (λ o. not (block_lies_inside o.range move.range)) outliers runs.runs);
   apart = λ m page. subst (λ n. n ≤ 1) (sym (count m page)) (page_at m page).0;
   taken = λ m page w. count m page ∙ (page_at m page).1 w;
 } where
   count : (m page : ℕ) → users homes (put_in_order (outlier_of homes move first) (outside move.range outliers)) m page
-      ≡ cond (lies_in homes m page (outlier_of homes move first)) 1 0 + users homes (outside move.range outliers) m page
+      ≡ cond (has_spare_page homes m page (outlier_of homes move first)) 1 0 + users homes (outside move.range outliers) m page
   count m page =
-      put-count (lies_in homes m page) (outlier_of homes move first) (outside move.range outliers) ordered (new_outside move.range outliers)
-      ∙ one_more (lies_in homes m page (outlier_of homes move first)) (outlier_of homes move first) (filter (lies_in homes m page) (outside move.range outliers))
+      put-count (has_spare_page homes m page) (outlier_of homes move first) (outside move.range outliers) ordered (new_outside move.range outliers)
+      ∙ one_more (has_spare_page homes m page (outlier_of homes move first)) (outlier_of homes move first) (filter (has_spare_page homes m page) (outside move.range outliers))
 
-  page_at : (m page : ℕ) → (cond (lies_in homes m page (outlier_of homes move first)) 1 0 + users homes (outside move.range outliers) m page ≤ 1)
-      × (IsFreeAt new_pools m page → cond (lies_in homes m page (outlier_of homes move first)) 1 0 + users homes (outside move.range outliers) m page ≡ 0)
-  page_at m page = page_after (IsFreeAt pools m page) (IsFreeAt new_pools m page) (lies_in homes m page (outlier_of homes move first)) (users homes outliers m page) (given_up homes move.range outliers m page)
+  page_at : (m page : ℕ) → (cond (has_spare_page homes m page (outlier_of homes move first)) 1 0 + users homes (outside move.range outliers) m page ≤ 1)
+      × (IsFreeAt new_pools m page → cond (has_spare_page homes m page (outlier_of homes move first)) 1 0 + users homes (outside move.range outliers) m page ≡ 0)
+  page_at m page = page_after (IsFreeAt pools m page) (IsFreeAt new_pools m page) (has_spare_page homes m page (outlier_of homes move first)) (users homes outliers m page) (pages_given_up homes move.range outliers m page)
       (users homes (outside move.range outliers) m page) (left_users homes move.range outliers m page) (runs.apart m page) (runs.taken m page) (frees m page)
       (λ e. (let h = lies_to move.memory m (home_pages homes move.memory) first page (2 ^ move.range.log) e in
       subst (λ k. (IsFreeAt pools k page → ⊥) × (users homes outliers k page ≡ 0)) h.0 (own page h.1)))

@@ -4,12 +4,12 @@ use Rattle.mind_base.specs.Page.{PageView}
 use Rattle.mind_base.specs.Range.{RangeView, InRange}
 use Rattle.mind_base.specs.Home.{home_of}
 use Rattle.mind_base.specs.declared.plans.MemoryPlan.{MemoryPlan}
-use Rattle.range_translate.specs.Block.{is_inside}
+use Rattle.range_translate.specs.Block.{block_lies_inside}
 use Rattle.range_translate.specs.Order.{put_in_order}
 use Rattle.range_translate.specs.Table.{TableView}
 use Rattle.range_translate.specs.declared.outliers.Outlier.{Outlier}
 use Rattle.spare_pool.specs.Pool.{PoolView, InRun}
-use Rattle.range_migrate.specs.Run.{home_pages, spare_pages, users, lies_in, AreRuns, ArePools, IsFreeAt}
+use Rattle.range_migrate.specs.Run.{home_pages, spare_pages, users, has_spare_page, AreRuns, ArePools, IsFreeAt}
 use Rattle.range_migrate.specs.Plan.{outside}
 use Rattle.range_migrate.specs.declared.moves.Move.{Move}
 
@@ -35,12 +35,12 @@ abbrev pub table_after : Move → TableView → TableView
 table_after move table = record { homes = table.homes; slots = table.slots; outliers = outliers_after table.homes move move.run table.outliers }
 
 -- how many outliers inside the block have the spare page
-abbrev pub given_up : List MemoryPlan → RangeView → List Outlier → ℕ → ℕ → ℕ
-given_up homes range outliers memory page = length (filter (λ o. is_inside o.range range && lies_in homes memory page o) outliers)
+abbrev pub pages_given_up : List MemoryPlan → RangeView → List Outlier → ℕ → ℕ → ℕ
+pages_given_up homes range outliers memory page = length (filter (λ o. block_lies_inside o.range range && has_spare_page homes memory page o) outliers)
 
 -- the pages of the outliers inside the block become free, and all others stay as they were
 abbrev pub Frees : List MemoryPlan → RangeView → List Outlier → List PoolView → List PoolView → Type 0
-Frees homes range outliers old new = (memory page : ℕ) → IsFreeAt new memory page ↔ (IsFreeAt old memory page ⊎ (0 < given_up homes range outliers memory page))
+Frees homes range outliers old new = (memory page : ℕ) → IsFreeAt new memory page ↔ (IsFreeAt old memory page ⊎ (0 < pages_given_up homes range outliers memory page))
 
 -- the move's run, if it has one, starts at a multiple of its size, and none of its pages is free or in another run
 abbrev pub OwnsRun : TableView → List PoolView → Move → Option ℕ → Type 0

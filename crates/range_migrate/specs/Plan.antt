@@ -8,8 +8,8 @@ use Rattle.mind_base.specs.Cover.{all_below}
 use Rattle.mind_base.specs.declared.commands.Outcome.{Outcome}
 use Rattle.mind_base.specs.declared.commands.Outcome.TheVariants.{Fine, Unplaced, Overlap, Unmapped, Slots, Same, Room}
 use Rattle.mind_base.specs.declared.plans.MemoryPlan.{MemoryPlan}
-use Rattle.range_translate.specs.Block.{is_inside, encloses}
-use Rattle.range_translate.specs.Place.{place_of}
+use Rattle.range_translate.specs.Block.{block_lies_inside, encloses}
+use Rattle.range_translate.specs.Place.{physical_place}
 use Rattle.range_translate.specs.Table.{TableView}
 use Rattle.range_translate.specs.declared.outliers.Outlier.{Outlier}
 use Rattle.spare_pool.specs.Pool.{PoolView, InRun}
@@ -17,12 +17,12 @@ use Rattle.range_migrate.specs.Run.{IsFreeAt, home_pages}
 use Rattle.range_migrate.specs.declared.moves.Move.{Move}
 
 -- a page of a block, counted from its first one
-abbrev pub page_at : RangeView → ℕ → PageView
-page_at range n = record { domain = range.domain; number = range.base + n }
+abbrev pub block_page : RangeView → ℕ → PageView
+block_page range n = record { domain = range.domain; number = range.base + n }
 
 -- whether each page of the block passes a test
 abbrev pub each_page : RangeView → (PageView → Bool) → Bool
-each_page range test = all_below (λ n. test (page_at range n)) (2 ^ range.log)
+each_page range test = all_below (λ n. test (block_page range n)) (2 ^ range.log)
 
 -- whether a place is one in this memory blade
 abbrev pub is_at : ℕ → Option (ℕ × ℕ) → Bool
@@ -59,7 +59,7 @@ pub record IsLowestRunAt (free : ℕ → ℕ → Type 0) (memory log first : ℕ
 
 -- the outliers that are not inside the block
 abbrev pub outside : RangeView → List Outlier → List Outlier
-outside range outliers = filter (λ o. not (is_inside o.range range)) outliers
+outside range outliers = filter (λ o. not (block_lies_inside o.range range)) outliers
 
 -- the move that begins: no page was copied yet
 abbrev pub new_move : RangeView → ℕ → Option ℕ → Move
@@ -87,7 +87,7 @@ EndsBy ByRun range memory others slots free result = EndsByRun range memory othe
 -- moved one give up their slots.
 abbrev pub Plans : TableView → List PoolView → RangeView → ℕ → Result Move Outcome → Type 0
 Plans table pools range memory result =
-    EndsBy (way_of range memory (place_of table.homes table.outliers) (home_of table.homes) (list_any (λ o. encloses o.range range) table.outliers))
+    EndsBy (way_of range memory (physical_place table.homes table.outliers) (home_of table.homes) (list_any (λ o. encloses o.range range) table.outliers))
     range memory (length (outside range table.outliers)) table.slots (IsFreeAt pools) result
 
 -- the run has this page
@@ -105,6 +105,6 @@ Takes old (Ok move) new = (memory page : ℕ) → IsFreeAt new memory page ↔ (
 Takes old (Err outcome) new = new ≡ old
 
 -- where a page of the block is to lie: in the run, or at home
-abbrev pub target_of : List MemoryPlan → Move → PageView → Option ℕ → Option (ℕ × ℕ)
-target_of homes move page None = home_of homes page
-target_of homes move page (Some first) = Some (move.memory, home_pages homes move.memory + first + (page.number - move.range.base))
+abbrev pub wanted_place : List MemoryPlan → Move → PageView → Option ℕ → Option (ℕ × ℕ)
+wanted_place homes move page None = home_of homes page
+wanted_place homes move page (Some first) = Some (move.memory, home_pages homes move.memory + first + (page.number - move.range.base))

@@ -28,21 +28,21 @@ pub record IsRun (homes : List MemoryPlan) (memory log first : ℕ) : Type 0 whe
   pub inside : first + 2 ^ log ≤ spare_pages homes memory
 
 -- the number of an outlier's first page among the spare pages
-abbrev pub first_of : List MemoryPlan → Outlier → ℕ
-first_of homes o = o.first - home_pages homes o.memory
+abbrev pub first_spare_of : List MemoryPlan → Outlier → ℕ
+first_spare_of homes o = o.first - home_pages homes o.memory
 
 -- whether the outlier's run has this spare page of this memory blade
-abbrev pub lies_in : List MemoryPlan → ℕ → ℕ → Outlier → Bool
-lies_in homes memory page o = o.memory == memory && nat_le (first_of homes o) page && nat_lt page (first_of homes o + 2 ^ o.range.log)
+abbrev pub has_spare_page : List MemoryPlan → ℕ → ℕ → Outlier → Bool
+has_spare_page homes memory page o = o.memory == memory && nat_le (first_spare_of homes o) page && nat_lt page (first_spare_of homes o + 2 ^ o.range.log)
 
 -- how many of the outliers have the spare page
 abbrev pub users : List MemoryPlan → List Outlier → ℕ → ℕ → ℕ
-users homes outliers memory page = length (filter (lies_in homes memory page) outliers)
+users homes outliers memory page = length (filter (has_spare_page homes memory page) outliers)
 
 -- the outlier's pages are a run of spare pages of a memory blade
 pub record FitsRun (homes : List MemoryPlan) (o : Outlier) : Type 0 where
   pub from : home_pages homes o.memory ≤ o.first
-  pub run : IsRun homes o.memory o.range.log (first_of homes o)
+  pub run : IsRun homes o.memory o.range.log (first_spare_of homes o)
 
 -- each outlier has a run of spare pages, no spare page is in two of them, and a free one is in none
 pub record AreRuns (homes : List MemoryPlan) (outliers : List Outlier) (pools : List PoolView) : Type 0 where

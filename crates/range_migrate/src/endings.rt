@@ -1,8 +1,10 @@
+//! The end of a move: the table and the pools that it leaves.
+
 ghost use Rattle.std.specs.Prelude.{◌≡◌, ℕ, ◌≤◌, ◌^◌, ◌↔◌, ◌⊎◌, Some, filter, not, Contains, IsTrue};
-ghost use Rattle.range_translate.specs.Block.{is_same};
+ghost use Rattle.mind_base.specs.Range.{same_range};
 ghost use Rattle.range_translate.specs.Place.{FitsOutlier};
 ghost use Rattle.range_translate.specs.Table.{IsTable};
-ghost use Rattle.range_migrate.specs.Run.{ArePools, AreRuns, FitsRun, IsFreeAt, first_of, lies_in};
+ghost use Rattle.range_migrate.specs.Run.{ArePools, AreRuns, FitsRun, IsFreeAt, first_spare_of, has_spare_page};
 ghost use Rattle.range_migrate.specs.Plan.{outside};
 ghost use Rattle.range_migrate.specs.Ending.{FitsSpare, IsUnderWay, Frees, outlier_of, table_after};
 
@@ -64,9 +66,9 @@ fn remove_one(outlier: &Outlier, table: &mut Table, pools: &mut Vec<Pool>)
     requires there { Contains table.old.outliers outlier.now }
     requires pools { ArePools table.old.homes pools.old.items }
     requires runs { AreRuns table.old.homes table.old.outliers pools.old.items }
-    ensures table { table.new ≡ record table.old { outliers = filter (λ o. not (is_same o.range outlier.now.range)) table.old.outliers } }
+    ensures table { table.new ≡ record table.old { outliers = filter (λ o. not (same_range o.range outlier.now.range)) table.old.outliers } }
     ensures freed { (m page : ℕ) → IsFreeAt pools.new.items m page
-        ↔ (IsFreeAt pools.old.items m page ⊎ IsTrue (lies_in table.old.homes m page outlier.now)) }
+        ↔ (IsFreeAt pools.old.items m page ⊎ IsTrue (has_spare_page table.old.homes m page outlier.now)) }
     ensures pools { ArePools table.old.homes pools.new.items }
     ensures runs { AreRuns table.old.homes table.new.outliers pools.new.items }
     ensures valid { IsTable table.new }
@@ -79,7 +81,7 @@ fn remove_one(outlier: &Outlier, table: &mut Table, pools: &mut Vec<Pool>)
 /// The first page of the outlier's run, counted among the spare pages.
 fn first_of(outlier: &Outlier, table: &Table) -> u32
     requires { FitsRun table.now.homes outlier.now }
-    ensures first { result ≡ first_of table.now.homes outlier.now }
+    ensures first { result ≡ first_spare_of table.now.homes outlier.now }
     ensures table { IsTable table.now }
 {
     outlier.first - table.spare_base(outlier.memory)

@@ -1,9 +1,11 @@
+//! The law of accepted moves: a function that does nothing, with the law as clauses.
+
 ghost use Rattle.std.specs.Prelude.{◌≡◌, ◌↔◌, ℕ, List, [], Result, map};
 ghost use Rattle.mind_base.specs.Page.{PageView};
 ghost use Rattle.mind_base.specs.Range.{RangeView};
 ghost use Rattle.mind_base.specs.declared.commands.Outcome.{Outcome as Refusal};
 ghost use Rattle.mind_base.specs.declared.plans.MemoryPlan.{MemoryPlan};
-ghost use Rattle.range_translate.specs.Place.{place_of};
+ghost use Rattle.range_translate.specs.Place.{physical_place};
 ghost use Rattle.range_translate.specs.Table.{IsTable};
 ghost use Rattle.range_translate.specs.declared.outliers.Outlier.{Outlier};
 ghost use Rattle.spare_pool.specs.Pool.{PoolView, all_free};
@@ -23,7 +25,7 @@ pub fn accepted_moves_decide()
     ensures first { (homes : List MemoryPlan) (slots : ℕ) → IsTable (table_with homes slots []) → Reached homes slots [] [] (map (λ m. all_free m.spare) homes) }
     ensures places { (homes : List MemoryPlan) (slots : ℕ) (migrates : List Migrate) (outliers : List Outlier) (pools : List PoolView) (page : PageView)
         → Reached homes slots migrates outliers pools
-        → place_of homes outliers page ≡ place_after homes (accepted migrates) page }
+        → physical_place homes outliers page ≡ place_after homes (accepted migrates) page }
     ensures free { (homes : List MemoryPlan) (slots : ℕ) (migrates : List Migrate) (outliers : List Outlier) (pools : List PoolView) (memory page : ℕ)
         → Reached homes slots migrates outliers pools
         → IsFreeAt pools memory page ↔ IsFreeAfter homes (accepted migrates) memory page }

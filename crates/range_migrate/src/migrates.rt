@@ -1,3 +1,5 @@
+//! A migrate command, from its question to its answer.
+
 ghost use Rattle.std.specs.Prelude.{◌≡◌, ◌<◌, ◌≤◌, ◌^◌, ◌∷◌, List, length};
 ghost use Rattle.range_migrate.specs.Plan.{Plans};
 ghost use Rattle.range_migrate.specs.Ending.{IsPlaced, FitsSpare};

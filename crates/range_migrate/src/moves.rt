@@ -1,3 +1,5 @@
+//! A move of a block, and one copy of a page.
+
 use mind_base::{Page, Range};
 
 /// A move of a block of pages to a memory blade: to a run of its spare pages, whose first one has the

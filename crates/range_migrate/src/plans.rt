@@ -1,3 +1,5 @@
+//! Whether a block may move, and where to.
+
 ghost use Rattle.std.specs.Prelude.{◌≡◌, ◌<◌, length, IfOk};
 ghost use Rattle.mind_base.specs.Range.{IsRange};
 ghost use Rattle.range_migrate.specs.Run.{ArePools, AreRuns};

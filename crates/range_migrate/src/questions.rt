@@ -1,8 +1,10 @@
+//! Where the pages of a block lie.
+
 ghost use Rattle.std.specs.Prelude.{◌≡◌, ◌<◌, ◌^◌, is_some};
 ghost use Rattle.mind_base.specs.Range.{IsRange};
 ghost use Rattle.mind_base.specs.Home.{home_of};
-ghost use Rattle.range_translate.specs.Place.{place_of};
-ghost use Rattle.range_migrate.specs.Plan.{page_at, each_page, is_at};
+ghost use Rattle.range_translate.specs.Place.{physical_place};
+ghost use Rattle.range_migrate.specs.Plan.{block_page, each_page, is_at};
 
 use mind_base::{Page, Range};
 use range_translate::Table;
@@ -18,7 +20,7 @@ pub fn pages_in(range: &Range) -> u32
 /// The page of the block with this number, counted from its first one.
 pub fn page_at(range: &Range, n: u32) -> Page
     requires { n < 2 ^ range.now.log }
-    ensures { result ≡ page_at range.now n }
+    ensures { result ≡ block_page range.now n }
 {
     Page {
         domain: range.domain,
@@ -51,7 +53,7 @@ pub fn are_placed(range: &Range, table: &Table) -> bool
 
 /// Whether all pages of the block lie in this memory blade.
 pub fn lie_at(range: &Range, memory: u8, table: &Table) -> bool
-    ensures { result ≡ each_page range.now (λ page. is_at memory (place_of table.now.homes table.now.outliers page)) }
+    ensures { result ≡ each_page range.now (λ page. is_at memory (physical_place table.now.homes table.now.outliers page)) }
 {
     for n in 0..pages_in(range) {
         if !is_at(table.place(page_at(range, n)), memory) {

@@ -1,3 +1,5 @@
+//! Runs of spare pages, taken from the pools and given back.
+
 ghost use Rattle.std.specs.Prelude.{◌≡◌, ◌+◌, ◌<◌, ◌≤◌, ◌^◌, ◌%◌, ◌↔◌, ◌⊎◌, ℕ, length, map, slice_get, IsTrue, IsSomeAnd};
 ghost use Rattle.spare_pool.specs.Pool.{PoolView, IsPool, InRun};
 ghost use Rattle.range_migrate.specs.Run.{IsFreeAt};

@@ -1,3 +1,5 @@
+//! Moves one after another, by rows.
+
 ghost use Rattle.std.specs.Prelude.{◌≡◌, ◌+◌, ◌<◌, ◌≤◌, ◌%◌, ◌^◌, [], ◌∷◌, IfOk};
 ghost use Rattle.range_translate.specs.Table.{IsTable};
 ghost use Rattle.spare_pool.specs.Pool.{all_free};
@@ -10,16 +12,24 @@ use spare_pool::Pool;
 use std::alloc::Global;
 use std::test::Fail;
 
-fn sixteen_pages(alloc: Global, base: u32) -> Result<MemoryPlan, NoMemory>
+fn sixteen_pages(base: u32) -> Span
     requires { base + 16 ≤ 1048576 }
-    ensures { IfOk result (λ m. m ≡ record { homes = record { domain = 0; base = base; pages = 16 } ∷ []; spare = 4 }) }
+    ensures { result ≡ record { domain = 0; base = base; pages = 16 } }
 {
-    let mut homes = Sequence::new(alloc);
-    homes.push(Span {
+    let pages = 16;
+    Span {
         domain: 0,
         base,
-        pages: 16,
-    })?;
+        pages,
+    }
+}
+
+/// A memory blade with one run of homes and four spare pages.
+fn memory_with(alloc: Global, home: Span) -> Result<MemoryPlan, NoMemory>
+    ensures { IfOk result (λ m. m ≡ record { homes = home ∷ []; spare = 4 }) }
+{
+    let mut homes = Sequence::new(alloc);
+    homes.push(home)?;
     Ok(MemoryPlan { homes, spare: 4 })
 }
 
@@ -34,8 +44,8 @@ fn base_table(alloc: Global) -> Result<Table, NoMemory>
     ensures table { IfOk result IsTable }
 {
     let mut memories = Vec::new(alloc);
-    memories.push(sixteen_pages(alloc, 0)?)?;
-    memories.push(sixteen_pages(alloc, 16)?)?;
+    memories.push(memory_with(alloc, sixteen_pages(0))?)?;
+    memories.push(memory_with(alloc, sixteen_pages(16))?)?;
     Table::new(alloc, memories.as_slice(), 2)
 }
 

@@ -2,8 +2,9 @@
 use Rattle.std.proofs.Common.{◌≡◌, ◌≢◌, ℕ, zero, suc, ◌<◌, ◌≤◌, Bool, true, false, cond, List, [], ◌∷◌, ◌++◌, length, take, drop, get_or, filter, IsTrue, refl, sym, ap, ◌∙◌, arith}
 use Rattle.std.specs.List.{AllByRecursion}
 use Rattle.std.proofs.lemmas.Bool.Decides.{nat_tests}
-use Rattle.mind_base.specs.Range.{RangeView}
-use Rattle.range_translate.specs.Block.{is_same, comes_before}
+use Rattle.mind_base.specs.Range.{RangeView, same_range}
+use Rattle.mind_base.proofs.SameRange.{same_range-true}
+use Rattle.range_translate.specs.Block.{comes_before}
 use Rattle.range_translate.specs.Order.{IsOrdered, put_in_order}
 use Rattle.range_translate.specs.declared.outliers.Outlier.{Outlier}
 
@@ -13,19 +14,10 @@ before_before a b c h k = grind (arith, nat_tests)
 pub not_after : (a b : RangeView) → comes_before a b ≡ true → comes_before b a ≡ false
 not_after a b h = grind (arith, nat_tests)
 
-pub same_blocks : (a b : RangeView) → a.domain ≡ b.domain → a.base ≡ b.base → a.log ≡ b.log → a ≡ b
-same_blocks a b d e f =
-    ap (λ (x : ℕ). let r : RangeView = record { domain = x; base = a.base; log = a.log } in r) d
-    ∙ ap (λ (x : ℕ). let r : RangeView = record { domain = b.domain; base = x; log = a.log } in r) e
-    ∙ ap (λ (x : ℕ). let r : RangeView = record { domain = b.domain; base = b.base; log = x } in r) f
+other_blocks : (a b : RangeView) → (a ≢ b) → same_range a b ≡ false
+other_blocks a b h = elim (same_range a b) as (λ t. same_range a b ≡ t → t ≡ false) [ true ↦ λ e. absurd (h (same_range-true a b e)) | false ↦ λ e. refl ] refl
 
-pub equal_blocks : (a b : RangeView) → is_same a b ≡ true → a ≡ b
-equal_blocks a b h = same_blocks a b (grind (arith, nat_tests)) (grind (arith, nat_tests)) (grind (arith, nat_tests))
-
-other_blocks : (a b : RangeView) → (a ≢ b) → is_same a b ≡ false
-other_blocks a b h = elim (is_same a b) as (λ t. is_same a b ≡ t → t ≡ false) [ true ↦ λ e. absurd (h (equal_blocks a b e)) | false ↦ λ e. refl ] refl
-
-before_else : (a b : RangeView) → comes_before a b ≡ false → is_same a b ≡ false → comes_before b a ≡ true
+before_else : (a b : RangeView) → comes_before a b ≡ false → same_range a b ≡ false → comes_before b a ≡ true
 before_else a b h k = grind (arith, nat_tests)
 
 abbrev pub before : RangeView → Outlier → Bool

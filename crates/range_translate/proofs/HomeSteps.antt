@@ -5,7 +5,7 @@ use Rattle.std.proofs.lemmas.List.{at_drop_more}
 use Rattle.std.proofs.lemmas.Bool.Decides.{nat_tests}
 use Rattle.mind_base.specs.Page.{PageView}
 use Rattle.mind_base.specs.Span.{SpanView, InSpan, in_span}
-use Rattle.mind_base.specs.Home.{place_in, home_from}
+use Rattle.mind_base.specs.Home.{number_in_homes, home_from}
 use Rattle.mind_base.specs.Fit.{AreApart, all_homes}
 use Rattle.mind_base.specs.declared.plans.MemoryPlan.{MemoryPlan}
 use Rattle.range_translate.proofs.Apart.{AreApart-front, AreApart-rest}
@@ -28,21 +28,21 @@ shifted-shifted j k None = refl
 shifted-shifted j k (Some n) = ap (λ (m : ℕ). Some m) (omega arith)
 
 place_step : (s : SpanView) (rest : List SpanView) (page : PageView) (b : Bool) → in_span s page ≡ b →
-    place_in (s ∷ rest) page ≡ cond b (Some (page.number - s.base)) (shifted s.pages (place_in rest page))
-place_step s rest page b e = ap (λ (t : Bool). cond t (Some (page.number - s.base)) (shifted s.pages (place_in rest page))) e
+    number_in_homes (s ∷ rest) page ≡ cond b (Some (page.number - s.base)) (shifted s.pages (number_in_homes rest page))
+place_step s rest page b e = ap (λ (t : Bool). cond t (Some (page.number - s.base)) (shifted s.pages (number_in_homes rest page))) e
 
 pub found_in : (homes : List SpanView) (i before : ℕ) (s : SpanView) (page : PageView) → i < length homes → s ≡ get_or homes i s → InSpan s page →
-    shifted before (place_in (drop i homes) page) ≡ place_in homes page → Some (before + (page.number - s.base)) ≡ place_in homes page
+    shifted before (number_in_homes (drop i homes) page) ≡ number_in_homes homes page → Some (before + (page.number - s.base)) ≡ number_in_homes homes page
 found_in homes i before s page within read has so_far =
-    sym (ap (shifted before) (at_drop_more (λ (hs : List SpanView). place_in hs page) homes i s within
-    ∙ ap (λ (x : SpanView). place_in (x ∷ drop (i + 1) homes) page) (sym read) ∙ place_step s (drop (i + 1) homes) page true (in_span-true s page has))) ∙ so_far
+    sym (ap (shifted before) (at_drop_more (λ (hs : List SpanView). number_in_homes hs page) homes i s within
+    ∙ ap (λ (x : SpanView). number_in_homes (x ∷ drop (i + 1) homes) page) (sym read) ∙ place_step s (drop (i + 1) homes) page true (in_span-true s page has))) ∙ so_far
 
 pub not_in : (homes : List SpanView) (i before : ℕ) (s : SpanView) (page : PageView) → i < length homes → s ≡ get_or homes i s → in_span s page ≡ false →
-    shifted before (place_in (drop i homes) page) ≡ place_in homes page → shifted (before + s.pages) (place_in (drop (i + 1) homes) page) ≡ place_in homes page
+    shifted before (number_in_homes (drop i homes) page) ≡ number_in_homes homes page → shifted (before + s.pages) (number_in_homes (drop (i + 1) homes) page) ≡ number_in_homes homes page
 not_in homes i before s page within read has so_far =
-    sym (shifted-shifted before s.pages (place_in (drop (i + 1) homes) page))
-    ∙ sym (ap (shifted before) (at_drop_more (λ (hs : List SpanView). place_in hs page) homes i s within
-    ∙ ap (λ (x : SpanView). place_in (x ∷ drop (i + 1) homes) page) (sym read) ∙ place_step s (drop (i + 1) homes) page false has)) ∙ so_far
+    sym (shifted-shifted before s.pages (number_in_homes (drop (i + 1) homes) page))
+    ∙ sym (ap (shifted before) (at_drop_more (λ (hs : List SpanView). number_in_homes hs page) homes i s within
+    ∙ ap (λ (x : SpanView). number_in_homes (x ∷ drop (i + 1) homes) page) (sym read) ∙ place_step s (drop (i + 1) homes) page false has)) ∙ so_far
 
 -- the homes of one memory blade
 pub AreApart-one : (memories : List MemoryPlan) (i : ℕ) (m : MemoryPlan) → AreApart (all_homes memories) → i < length memories → m ≡ get_or memories i m → AreApart m.homes
@@ -53,14 +53,14 @@ AreApart-one (x ∷ ms) (suc i) m apart within read = AreApart-one ms i m (AreAp
 abbrev pub home_step_value : ℕ → Option ℕ → Option (ℕ × ℕ) → Option (ℕ × ℕ)
 home_step_value blade place rest = cond (is_some place) (option_map (λ n. (blade, n)) place) rest
 
-pub home_found : (memories : List MemoryPlan) (i n : ℕ) (m : MemoryPlan) (page : PageView) (all : Option (ℕ × ℕ)) → i < length memories → m ≡ get_or memories i m → place_in m.homes page ≡ Some n →
+pub home_found : (memories : List MemoryPlan) (i n : ℕ) (m : MemoryPlan) (page : PageView) (all : Option (ℕ × ℕ)) → i < length memories → m ≡ get_or memories i m → number_in_homes m.homes page ≡ Some n →
     home_from i (drop i memories) page ≡ all → Some (i, n) ≡ all
 home_found memories i n m page all within read has so_far =
     sym (at_drop_more (λ (ms : List MemoryPlan). home_from i ms page) memories i m within
     ∙ ap (λ (x : MemoryPlan). home_from i (x ∷ drop (i + 1) memories) page) (sym read)
     ∙ ap (λ (o : Option ℕ). home_step_value i o (home_from (i + 1) (drop (i + 1) memories) page)) has) ∙ so_far
 
-pub home_elsewhere : (memories : List MemoryPlan) (i : ℕ) (m : MemoryPlan) (page : PageView) (all : Option (ℕ × ℕ)) → i < length memories → m ≡ get_or memories i m → place_in m.homes page ≡ None →
+pub home_elsewhere : (memories : List MemoryPlan) (i : ℕ) (m : MemoryPlan) (page : PageView) (all : Option (ℕ × ℕ)) → i < length memories → m ≡ get_or memories i m → number_in_homes m.homes page ≡ None →
     home_from i (drop i memories) page ≡ all → home_from (i + 1) (drop (i + 1) memories) page ≡ all
 home_elsewhere memories i m page all within read has so_far =
     sym (at_drop_more (λ (ms : List MemoryPlan). home_from i ms page) memories i m within

@@ -9,12 +9,13 @@ use Rattle.mind_base.specs.Page.{PageView}
 use Rattle.mind_base.specs.Range.{RangeView, IsRange, InRange, in_range}
 use Rattle.mind_base.specs.Home.{home_of}
 use Rattle.mind_base.proofs.Blocks.{up_to_nine}
+use Rattle.mind_base.proofs.SameRange.{range_by_parts}
 use Rattle.range_translate.specs.Block.{comes_before}
 use Rattle.range_translate.specs.Order.{IsOrdered}
-use Rattle.range_translate.specs.Place.{smaller_of, smallest_of, place_or_home, place_in_outlier, place_of, IsSmallest}
+use Rattle.range_translate.specs.Place.{smaller_of, smallest_of, place_or_home, place_in_outlier, physical_place, IsSmallest}
 use Rattle.range_translate.specs.Table.{TableView, IsTable}
 use Rattle.range_translate.specs.declared.outliers.Outlier.{Outlier}
-use Rattle.range_translate.proofs.BlockOrder.{same_blocks, not_after}
+use Rattle.range_translate.proofs.BlockOrder.{not_after}
 use Rattle.range_translate.proofs.TableFacts.{IsBlock}
 
 pub in_range-true : (r : RangeView) (page : PageView) → InRange r page → in_range r page ≡ true
@@ -37,7 +38,7 @@ same_range : (a b : RangeView) (page : PageView) → IsBlockView a → IsBlockVi
 same_range a b page ia ib e ha hb =
     let align : b.base % 2 ^ a.log ≡ 0 = subst (λ (k : ℕ). b.base % 2 ^ k ≡ 0) (sym e) ib.3 in
     let below : page.number < b.base + 2 ^ a.log = subst (λ (k : ℕ). page.number < b.base + 2 ^ k) (sym e) hb.below in
-    same_blocks a b (sym ha.domain ∙ hb.domain) (same_base a.log ia.2 a.base b.base page.number ia.3 align ha.from ha.below hb.from below) e
+    range_by_parts a b (sym ha.domain ∙ hb.domain) (same_base a.log ia.2 a.base b.base page.number ia.3 align ha.from ha.below hb.from below) e
 
 -- the first of the outliers, or one of the rest
 first_or_rest : (x : Outlier) (xs : List Outlier) (o : Outlier) → Contains (x ∷ xs) o → (x ≡ o) ⊎ Contains xs o
@@ -118,13 +119,13 @@ option_map-id None = refl
 option_map-id (Some h) = refl
 
 pub moved : (table : TableView) (page : PageView) (o : Outlier) → IsTable table → IsSmallest table.outliers page o →
-    place_of table.homes table.outliers page ≡ option_map (λ _. place_in_outlier o page) (home_of table.homes page)
+    physical_place table.homes table.outliers page ≡ option_map (λ _. place_in_outlier o page) (home_of table.homes page)
 moved table page o is small =
     ap (λ (s : Option Outlier). option_map (place_or_home s page) (home_of table.homes page))
     (smallest_is table.outliers page o is.ordered (recursion_from_All IsBlock table.outliers is.blocks) small.member small.has
     (recursion_from_All (λ (p : Outlier). InRange p.range page → o.range.log ≤ p.range.log) table.outliers small.least))
 
-pub at_home : (table : TableView) (page : PageView) → All (λ o. InRange o.range page → ⊥) table.outliers → place_of table.homes table.outliers page ≡ home_of table.homes page
+pub at_home : (table : TableView) (page : PageView) → All (λ o. InRange o.range page → ⊥) table.outliers → physical_place table.homes table.outliers page ≡ home_of table.homes page
 at_home table page h =
     ap (λ (s : Option Outlier). option_map (place_or_home s page) (home_of table.homes page)) (none_has table.outliers page (recursion_from_All (λ (o : Outlier). InRange o.range page → ⊥) table.outliers h))
     ∙ option_map-id (home_of table.homes page)

@@ -41,5 +41,5 @@ place_or_home None page home = home
 place_or_home (Some o) page home = place_in_outlier o page
 
 -- the place of a page, as the memory blade and the physical number there; a page without a home has none
-abbrev pub place_of : List MemoryPlan → List Outlier → PageView → Option (ℕ × ℕ)
-place_of memories outliers page = option_map (place_or_home (smallest_of outliers page) page) (home_of memories page)
+abbrev pub physical_place : List MemoryPlan → List Outlier → PageView → Option (ℕ × ℕ)
+physical_place memories outliers page = option_map (place_or_home (smallest_of outliers page) page) (home_of memories page)

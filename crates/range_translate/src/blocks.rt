@@ -1,11 +1,14 @@
+//! How two blocks stand to each other.
+
 ghost use Rattle.std.specs.Prelude.{◌≡◌};
-ghost use Rattle.range_translate.specs.Block.{is_inside, encloses, is_same, comes_before};
+ghost use Rattle.mind_base.specs.Range.{same_range};
+ghost use Rattle.range_translate.specs.Block.{block_lies_inside, encloses, comes_before};
 
 use mind_base::Range;
 
 /// Whether all pages of the first block are pages of the second one.
 pub fn is_inside(inner: &Range, outer: &Range) -> bool
-    ensures { result ≡ is_inside inner.now outer.now }
+    ensures { result ≡ block_lies_inside inner.now outer.now }
 {
     inner.domain == outer.domain
         && outer.base <= inner.base
@@ -19,8 +22,8 @@ pub fn encloses(outer: &Range, inner: &Range) -> bool
     is_inside(inner, outer) && inner.log < outer.log
 }
 
-pub fn is_same(a: &Range, b: &Range) -> bool
-    ensures { result ≡ is_same a.now b.now }
+pub fn same_range(a: &Range, b: &Range) -> bool
+    ensures { result ≡ same_range a.now b.now }
 {
     a.domain == b.domain && a.base == b.base && a.log == b.log
 }

@@ -1,5 +1,7 @@
+//! The home of a page.
+
 ghost use Rattle.std.specs.Prelude.{◌≡◌, ◌<◌, ◌≤◌, length, map, slice_get, IfOk, IfSome};
-ghost use Rattle.mind_base.specs.Home.{place_in, home_of};
+ghost use Rattle.mind_base.specs.Home.{number_in_homes, home_of};
 ghost use Rattle.mind_base.specs.Fit.{AreApart, all_homes};
 ghost use Rattle.range_translate.specs.Place.{pages_of};
 
@@ -22,7 +24,7 @@ pub fn pages_of(homes: &[Span]) -> u32
 /// The number of a page among those of these runs, from 0 on in their order.
 pub fn place_in(homes: &[Span], page: Page) -> Option<u32>
     requires { AreApart homes.now }
-    ensures place { result ≡ place_in homes.now page }
+    ensures place { result ≡ number_in_homes homes.now page }
     ensures few { IfSome result (λ number. number < 16777216) }
 {
     let mut before = 0;

@@ -1,3 +1,5 @@
+//! A block that lies away from its home, and the pieces of a run.
+
 use mind_base::Range;
 
 /// A block of pages that has moved: it lies in this memory blade, its first page at the physical number

@@ -1,3 +1,5 @@
+//! The pieces of a run of pages that lie together.
+
 ghost use Rattle.std.specs.Prelude.{◌≡◌, ◌+◌, ◌<◌, ◌↔◌, [], ◌∷◌, ◌++◌, IsTrue, OnOk};
 ghost use Rattle.std.specs.List.{flat_map};
 ghost use Rattle.range_translate.specs.Piece.{places_in, AreLongest};

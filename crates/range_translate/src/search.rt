@@ -1,7 +1,9 @@
+//! Searches among the outliers.
+
 ghost use Rattle.std.specs.Prelude.{◌≡◌, ◌≢◌, ◌+◌, ◌<◌, ◌≤◌, length, take, drop, count_by, find, filter, not, All, IsTrue, IfSome, vec_len, vec_capacity, if◌then◌else◌};
 ghost use Rattle.std.specs.List.{list_any};
-ghost use Rattle.range_translate.specs.Block.{is_inside, encloses, is_same, comes_before};
-ghost use Rattle.mind_base.specs.Range.{in_range};
+ghost use Rattle.range_translate.specs.Block.{block_lies_inside, encloses, comes_before};
+ghost use Rattle.mind_base.specs.Range.{in_range, same_range};
 ghost use Rattle.range_translate.specs.Place.{smallest_of, smaller_of, place_in_outlier, FitsOutlier};
 ghost use Rattle.range_translate.specs.Order.{IsOrdered, put_in_order};
 
@@ -42,7 +44,7 @@ fn smaller_with(outlier: &Outlier, other: Option<Outlier>, page: Page) -> Option
 }
 
 pub fn first_inside(outliers: &[Outlier], range: &Range) -> Option<Outlier>
-    ensures { result ≡ find (λ o. is_inside o.range range.now) outliers.now }
+    ensures { result ≡ find (λ o. block_lies_inside o.range range.now) outliers.now }
 {
     for outlier in outliers {
         if blocks::is_inside(&outlier.range, range) {
@@ -53,7 +55,7 @@ pub fn first_inside(outliers: &[Outlier], range: &Range) -> Option<Outlier>
 }
 
 pub fn count_inside(outliers: &[Outlier], range: &Range) -> usize
-    ensures { result ≡ count_by (λ o. is_inside o.range range.now) outliers.now }
+    ensures { result ≡ count_by (λ o. block_lies_inside o.range range.now) outliers.now }
 {
     outliers
         .iter()
@@ -68,10 +70,10 @@ pub fn any_encloses(outliers: &[Outlier], range: &Range) -> bool
 }
 
 pub fn with_range(outliers: &[Outlier], range: &Range) -> Option<Outlier>
-    ensures { result ≡ find (λ o. is_same o.range range.now) outliers.now }
+    ensures { result ≡ find (λ o. same_range o.range range.now) outliers.now }
 {
     for outlier in outliers {
-        if blocks::is_same(&outlier.range, range) {
+        if blocks::same_range(&outlier.range, range) {
             return Some(*outlier);
         }
     }
@@ -79,10 +81,10 @@ pub fn with_range(outliers: &[Outlier], range: &Range) -> Option<Outlier>
 }
 
 pub fn drop_range(outliers: &mut Vec<Outlier>, range: &Range)
-    ensures left { outliers.new.items ≡ filter (λ o. not (is_same o.range range.now)) outliers.old.items }
+    ensures left { outliers.new.items ≡ filter (λ o. not (same_range o.range range.now)) outliers.old.items }
     ensures capacity { vec_capacity outliers.new ≡ vec_capacity outliers.old }
 {
-    outliers.retain(|o| !blocks::is_same(&o.range, range));
+    outliers.retain(|o| !blocks::same_range(&o.range, range));
 }
 
 /// Where the outlier says that one of its pages lies.

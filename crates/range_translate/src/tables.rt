@@ -1,11 +1,14 @@
+//! The table of places: homes, and the blocks that lie elsewhere.
+
 ghost use Rattle.std.specs.Prelude.{◌≡◌, ◌≢◌, ◌+◌, ◌^◌, ◌<◌, ◌≤◌, ◌↔◌, ◌⊎◌, [], ◌∷◌, length, map, slice_get, find, filter, count_by, not, All, IsTrue, IsErr, IsSome, IfSome, IfOk, OnOk, OnErr};
 ghost use Rattle.std.specs.List.{flat_map, list_any};
 ghost use Rattle.mind_base.specs.Home.{home_of};
 ghost use Rattle.mind_base.specs.Fit.{AreApart, all_homes};
-ghost use Rattle.range_translate.specs.Block.{is_inside, encloses, is_same, comes_before};
-ghost use Rattle.range_translate.specs.Place.{pages_of, place_of};
+ghost use Rattle.range_translate.specs.Block.{block_lies_inside, encloses, comes_before};
+ghost use Rattle.range_translate.specs.Place.{pages_of, physical_place};
 ghost use Rattle.mind_base.specs.Page.{PageView};
 ghost use Rattle.mind_base.specs.Span.{InSpan};
+ghost use Rattle.mind_base.specs.Range.{same_range};
 ghost use Rattle.range_translate.specs.Piece.{pages_in, places_in, AreLongest};
 ghost use Rattle.range_translate.specs.Order.{put_in_order};
 ghost use Rattle.range_translate.specs.Table.{IsTable};
@@ -59,7 +62,7 @@ impl Table {
     /// The memory blade where the page lies, and its physical number there: in the smallest outlier
     /// that has it, else at its home. None exactly where the page has no home.
     pub fn place(&self, page: Page) -> Option<(u8, u32)>
-        ensures place { result ≡ place_of self.now.homes self.now.outliers page }
+        ensures place { result ≡ physical_place self.now.homes self.now.outliers page }
         ensures below { IfSome result (λ place. place.1 < 4294967295) }
         ensures table { IsTable self.now }
     {
@@ -99,8 +102,8 @@ impl Table {
     /// The first outlier, by first page and size, whose block lies inside this one, which may be the
     /// block itself; None exactly where there is none.
     pub fn next_inside(&self, range: &Range) -> Option<Outlier>
-        ensures found { result ≡ find (λ o. is_inside o.range range.now) self.now.outliers }
-        ensures first { IfSome result (λ o. All (λ p. IsTrue (is_inside p.range range.now)
+        ensures found { result ≡ find (λ o. block_lies_inside o.range range.now) self.now.outliers }
+        ensures first { IfSome result (λ o. All (λ p. IsTrue (block_lies_inside p.range range.now)
             → (p ≡ o) ⊎ IsTrue (comes_before o.range p.range)) self.now.outliers) }
         ensures table { IsTable self.now }
     {
@@ -109,8 +112,8 @@ impl Table {
 
     /// Takes out the outlier of just this block; None exactly where there is none.
     pub fn remove(&mut self, range: &Range) -> Option<Outlier>
-        ensures found { result ≡ find (λ o. is_same o.range range.now) self.old.outliers }
-        ensures left { self.new ≡ record self.old { outliers = filter (λ o. not (is_same o.range range.now)) self.old.outliers } }
+        ensures found { result ≡ find (λ o. same_range o.range range.now) self.old.outliers }
+        ensures left { self.new ≡ record self.old { outliers = filter (λ o. not (same_range o.range range.now)) self.old.outliers } }
         ensures table { IsTable self.new }
     {
         let found = search::with_range(self.outliers.as_slice(), range);
@@ -133,7 +136,7 @@ impl Table {
 
     /// How many outliers lie inside the block, the block itself included.
     pub fn inside(&self, range: &Range) -> u32
-        ensures { result ≡ count_by (λ o. is_inside o.range range.now) self.now.outliers }
+        ensures { result ≡ count_by (λ o. block_lies_inside o.range range.now) self.now.outliers }
     {
         search::count_inside(self.outliers.as_slice(), range) as u32
     }
@@ -158,9 +161,9 @@ impl Table {
     /// The longest runs of pages of the span, in order, whose places follow one another in one memory
     /// blade.
     pub fn pieces(&self, span: &Span) -> Result<Vec<Piece>, NoMemory>
-        requires { (page : PageView) → InSpan span.now page → IsSome (place_of self.now.homes self.now.outliers page) }
+        requires { (page : PageView) → InSpan span.now page → IsSome (physical_place self.now.homes self.now.outliers page) }
         ensures places { IfOk result (λ pieces. map Some (flat_map places_in pieces.items)
-            ≡ map (place_of self.now.homes self.now.outliers) (pages_in span.now)) }
+            ≡ map (physical_place self.now.homes self.now.outliers) (pages_in span.now)) }
         ensures longest { IfOk result (λ pieces. AreLongest pieces.items) }
     {
         let mut found = Vec::new(self.alloc);

@@ -1,4 +1,7 @@
+//! Places of pages under outliers, by rows.
+
 ghost use Rattle.std.specs.Prelude.{◌≡◌, ◌+◌, ◌≤◌, [], ◌∷◌, IfOk};
+ghost use Rattle.mind_base.specs.Range.{IsRange};
 
 use crate::{Outlier, Piece, PutRefusal, Table};
 use mind_base::{MemoryPlan, NoMemory, Page, Range, Sequence, Span};
@@ -40,27 +43,28 @@ fn page(number: u32) -> Page
     Page { domain: 0, number }
 }
 
+/// A block of 2^`log` pages that lies behind the homes of a memory blade.
+fn outlier(base: u32, log: u8, memory: u8) -> Outlier
+    requires { IsRange 0 base log }
+    ensures { result ≡ record { range = record { domain = 0; base = base; log = log }; memory = memory; first = 16 } }
+{
+    let range = Range {
+        domain: 0,
+        base,
+        log,
+    };
+    Outlier {
+        range,
+        memory,
+        first: 16,
+    }
+}
+
 #[test]
 fn pages_lie_in_the_smallest_outlier(rt: HostRuntime) -> Result<(), Fail> {
     let mut table = base_table(rt.alloc(), 2)?;
-    let four = Outlier {
-        range: Range {
-            domain: 0,
-            base: 0,
-            log: 2,
-        },
-        memory: 1,
-        first: 16,
-    };
-    let two = Outlier {
-        range: Range {
-            domain: 0,
-            base: 2,
-            log: 1,
-        },
-        memory: 0,
-        first: 16,
-    };
+    let four = outlier(0, 2, 1);
+    let two = outlier(2, 1, 0);
     let put = table.put_outlier(four);
     assert_eq!(rt; put, Ok(()));
     let put = table.put_outlier(two);
@@ -76,24 +80,8 @@ fn pages_lie_in_the_smallest_outlier(rt: HostRuntime) -> Result<(), Fail> {
 #[test]
 fn an_outlier_too_many_is_refused(rt: HostRuntime) -> Result<(), Fail> {
     let mut table = base_table(rt.alloc(), 1)?;
-    let four = Outlier {
-        range: Range {
-            domain: 0,
-            base: 0,
-            log: 2,
-        },
-        memory: 1,
-        first: 16,
-    };
-    let two = Outlier {
-        range: Range {
-            domain: 0,
-            base: 2,
-            log: 1,
-        },
-        memory: 0,
-        first: 16,
-    };
+    let four = outlier(0, 2, 1);
+    let two = outlier(2, 1, 0);
     let put = table.put_outlier(four);
     assert_eq!(rt; put, Ok(()));
     let put = table.put_outlier(two);
@@ -109,18 +97,20 @@ fn an_outlier_too_many_is_refused(rt: HostRuntime) -> Result<(), Fail> {
     Ok(())
 }
 
+fn piece(memory: u8, first: u32) -> Piece
+    ensures { result ≡ record { memory = memory; first = first; pages = 2 } }
+{
+    Piece {
+        memory,
+        first,
+        pages: 2,
+    }
+}
+
 #[test]
 fn pieces_are_the_longest_runs(rt: HostRuntime) -> Result<(), Fail> {
     let mut table = base_table(rt.alloc(), 2)?;
-    let two = Outlier {
-        range: Range {
-            domain: 0,
-            base: 2,
-            log: 1,
-        },
-        memory: 1,
-        first: 16,
-    };
+    let two = outlier(2, 1, 1);
     let put = table.put_outlier(two);
     assert_eq!(rt; put, Ok(()));
     assert_eq!(rt; table.spare_base(1), 16);
@@ -129,23 +119,7 @@ fn pieces_are_the_longest_runs(rt: HostRuntime) -> Result<(), Fail> {
         base: 0,
         pages: 6,
     })?;
-    let want = [
-        Piece {
-            memory: 0,
-            first: 0,
-            pages: 2,
-        },
-        Piece {
-            memory: 1,
-            first: 16,
-            pages: 2,
-        },
-        Piece {
-            memory: 0,
-            first: 4,
-            pages: 2,
-        },
-    ];
+    let want = [piece(0, 0), piece(1, 16), piece(0, 4)];
     assert_eq!(rt; pieces.as_slice(), want.as_slice());
     Ok(())
 }

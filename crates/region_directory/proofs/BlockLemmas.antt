@@ -6,7 +6,7 @@ use Rattle.std.proofs.lemmas.Bool.Decides.{nat_tests}
 use Rattle.mind_base.proofs.Blocks.{up_to_nine}
 use Rattle.mind_base.specs.Page.{PageView, IsPage}
 use Rattle.mind_base.specs.Range.{RangeView, IsRange, InRange, in_range}
-use Rattle.region_directory.specs.Block.{IsApart, are_apart, block_of}
+use Rattle.region_directory.specs.Block.{AreBlocksApart, are_apart, block_of}
 
 -- a block has at most 512 pages
 pub pages-bound : (l : ℕ) → l ≤ 9 → 1 * 2 ^ l % 4294967296 ≤ 512
@@ -48,16 +48,16 @@ pub shares-none : (d e a p b q : ℕ) → not (d == e && (nat_lt a (b + q) && na
 shares-none d e a p b q t f g h = grind (arith, nat_tests)
 
 -- what the test for sharing a page says
-pub apart-from_test : (a b : RangeView) → are_apart a b ≡ true → IsApart a b
+pub apart-from_test : (a b : RangeView) → are_apart a b ≡ true → AreBlocksApart a b
 apart-from_test a b t page p q =
     shares-none a.domain b.domain a.base (2 ^ a.log) b.base (2 ^ b.log) t (sym p.domain ∙ q.domain) (omega (arith, p.from, q.below)) (omega (arith, q.from, p.below))
 
 -- two blocks that pass no test share the first page of one of them
-share : (a b : RangeView) → IsApart a b → (a.domain ≡ b.domain) × (a.base < b.base + 2 ^ b.log) × (b.base < a.base + 2 ^ a.log) → (b.base < a.base) ⊎ (a.base ≤ b.base) → ⊥
+share : (a b : RangeView) → AreBlocksApart a b → (a.domain ≡ b.domain) × (a.base < b.base + 2 ^ b.log) × (b.base < a.base + 2 ^ a.log) → (b.base < a.base) ⊎ (a.base ≤ b.base) → ⊥
 share a b h m (inl lt) = h (record { domain = a.domain; number = a.base }) (record { domain = refl; from = omega arith; below = omega (arith, pow_pos a.log) }) (record { domain = m.0; from = omega arith; below = m.1 })
 share a b h m (inr le) = h (record { domain = b.domain; number = b.base }) (record { domain = sym m.0; from = le; below = m.2 }) (record { domain = refl; from = omega arith; below = omega (arith, pow_pos b.log) })
 
-pub test-from_apart : (a b : RangeView) → IsApart a b → are_apart a b ≡ true
+pub test-from_apart : (a b : RangeView) → AreBlocksApart a b → are_apart a b ≡ true
 test-from_apart a b h = true_from_ne_false _ (λ t. share a b h (shares-test a.domain b.domain a.base (2 ^ a.log) b.base (2 ^ b.log) t) (cases_lt b.base a.base))
 
 -- the test for having a page says what it is to have it
@@ -76,7 +76,7 @@ pub test-from_has : (r : RangeView) (page : PageView) → InRange r page → in_
 test-from_has r page h = range-test_passes page.domain r.domain r.base page.number (2 ^ r.log) h.domain h.from h.below
 
 -- a block of one page has that page alone
-pub one-page : (r : RangeView) (page : PageView) → (InRange r page → ⊥) → IsApart r (block_of page 0)
+pub one-page : (r : RangeView) (page : PageView) → (InRange r page → ⊥) → AreBlocksApart r (block_of page 0)
 one-page r page h other p q =
     let n : other.number ≡ page.number = omega (arith, q.from, q.below) in
     h (record { domain = sym q.domain ∙ p.domain; from = omega (arith, p.from); below = omega (arith, p.below) })

@@ -3,12 +3,20 @@ use Rattle.std.proofs.Common.{◌≡◌, ℕ, ◌<◌, List, [], ◌∷◌, leng
 use Rattle.std.specs.List.{All, AllByRecursion, insert, slice_get}
 use Rattle.std.specs.Option.{option_map}
 use Rattle.mind_base.specs.Range.{RangeView}
-use Rattle.region_directory.specs.Entry.{changed_at}
+use Rattle.region_directory.specs.Entry.{changed_at, with_change}
+use Rattle.region_directory.specs.declared.changes.Change.{Change}
+use Rattle.region_directory.specs.declared.changes.Change.TheVariants as change
 use Rattle.region_directory.specs.declared.entries.Entry.{Entry}
 
 -- the blocks of the entries, in order
 abbrev pub ranges_of : List Entry → List RangeView
 ranges_of entries = map (λ entry. entry.range) entries
+
+-- the block stays, whatever else changes
+pub with_change-range : (c : Change) (e : Entry) → (with_change c e).range ≡ e.range
+with_change-range (change.State state) e = refl
+with_change-range (change.Busy busy) e = refl
+with_change-range (change.Hits count) e = refl
 
 -- a write of one entry is a change of it alone
 pub set-changed : (i : ℕ) (f : Entry → Entry) (es : List Entry) (d : Entry) → i < length es → slice_set es i (f (get_or es i d)) ≡ changed_at i f es

@@ -1,18 +1,16 @@
 -- What is left of a directory when an entry becomes two, or two become one.
-use Rattle.std.proofs.Common.{◌≡◌, ℕ, ◌+◌, ◌-◌, ◌*◌, ◌<◌, ◌≤◌, ◌%◌, ◌^◌, Bool, true, false, cond, ◌&&◌, ◌==◌, nat_lt, ◌⊎◌, inl, inr, Option, Some, None, List, [], ◌∷◌, ◌++◌, length, get_or, take, drop, min, refl, ap, sym, subst, ◌∙◌, zero, suc, slice_set, slice_get, eq-eqb, arith}
-use Rattle.std.specs.List.{AllByRecursion, AllPairs, insert, remove}
+use Rattle.std.proofs.Common.{◌≡◌, ℕ, ◌+◌, ◌-◌, ◌<◌, ◌≤◌, ◌%◌, ◌^◌, Bool, true, false, cond, ◌&&◌, ◌==◌, nat_lt, ◌⊎◌, inl, inr, Option, Some, None, List, [], ◌∷◌, ◌++◌, length, get_or, take, drop, min, refl, ap, sym, subst, ◌∙◌, zero, suc, slice_set, slice_get, eq-eqb, arith}
+use Rattle.std.specs.List.{AllByRecursion, insert, remove}
 use Rattle.std.specs.Option.{IsSomeAnd, is_none, option_map, option_and_then}
-use Rattle.std.proofs.lemmas.Bool.{cases_Bool, false≢true}
 use Rattle.std.proofs.lemmas.Bool.Decides.{nat_tests}
 use Rattle.std.proofs.lemmas.Nat.{pow-add}
-use Rattle.std.proofs.lemmas.Option.{same_Some, slice_get-get_or}
+use Rattle.std.proofs.lemmas.Option.{same_Some, slice_get-get_or, slice_get_read}
 use Rattle.mind_base.proofs.Blocks.{up_to_nine}
 use Rattle.mind_base.specs.Range.{RangeView, IsRange, halves_of}
 use Rattle.mind_base.specs.declared.notes.State.{State}
 use Rattle.region_directory.specs.Directory.{DirectoryView, IsDirectory}
 use Rattle.region_directory.specs.Merge.{are_halves, doubled, merged_state, merged_entry, merged_pair, entry_of_both}
 use Rattle.region_directory.specs.Split.{half_entry, split_entry, split_of}
-use Rattle.region_directory.specs.declared.entries.Busy.{Busy}
 use Rattle.region_directory.specs.declared.entries.Entry.{Entry}
 use Rattle.region_directory.proofs.ChangeLemmas.{ranges_of, all-weaker, all-ranges, all-entries}
 use Rattle.region_directory.proofs.OrderLemmas.{Precedes, InOrder, pairs-order, order-pairs, precedes-before, precedes-apart, before-precedes}
@@ -279,6 +277,21 @@ split-some d i e h space at s (inl full) = space full
 split-some d i e h space at s (inr page) =
     let zero : e.range.log ≡ 0 = subst (λ (o : Option Entry). IsSomeAnd o (λ entry. entry.range.log ≡ 0)) at page in
     absurd (omega (arith, (split-halved e h s).whole_log))
+
+-- what is known of an entry that is split: it stands there, a slot is free, and these are its halves
+pub record IsSplitThere (d : DirectoryView) (i : ℕ) (e : Entry) (halves : Entry × Entry) : Type 0 where
+  pub at : slice_get d.entries i ≡ Some e
+  pub free : length d.entries ≡ d.slots → ⊥
+  pub halved : split_entry e ≡ Some halves
+  pub split : split_of d i ≡ Some halves
+
+pub split-there : (slots most i : ℕ) (es : List Entry) (d : DirectoryView) (e : Entry) (halves : Entry × Entry) → record { slots = slots; most = most; entries = es } ≡ d → i < length d.entries → e ≡ get_or es i e
+    → (length es ≡ slots → ⊥) → split_entry e ≡ Some halves → IsSplitThere d i e halves
+split-there slots most i es d e halves is lt read free made =
+    let view : DirectoryView = record { slots = slots; most = most; entries = es } in
+    let within : i < length es = subst (λ (v : DirectoryView). i < length v.entries) (sym is) lt in
+    let at : slice_get es i ≡ Some e = slice_get_read es (length es) i e refl within read in
+    subst (λ (v : DirectoryView). IsSplitThere v i e halves) is (record { at = at; free = free; halved = made; split = split-open view i e free at ∙ made })
 
 -- ---- when two are merged
 

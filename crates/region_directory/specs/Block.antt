@@ -1,11 +1,11 @@
 -- How aligned blocks of pages lie to each other.
-use Rattle.std.specs.Prelude.{ℕ, ◌+◌, ◌-◌, ◌%◌, ◌^◌, Bool, ◌&&◌, ◌||◌, ◌==◌, nat_lt, nat_le, not}
+use Rattle.std.specs.Prelude.{ℕ, ◌+◌, ◌-◌, ◌%◌, ◌^◌, Bool, ◌&&◌, ◌||◌, ◌==◌, nat_lt, not}
 use Rattle.mind_base.specs.Page.{PageView}
 use Rattle.mind_base.specs.Range.{RangeView, InRange}
 
 -- no page is in both blocks
-abbrev pub IsApart : RangeView → RangeView → Type 0
-IsApart a b = (page : PageView) → InRange a page → InRange b page → ⊥
+abbrev pub AreBlocksApart : RangeView → RangeView → Type 0
+AreBlocksApart a b = (page : PageView) → InRange a page → InRange b page → ⊥
 
 -- the order of blocks: by domain, and within a domain by first page
 abbrev pub is_before : RangeView → RangeView → Bool

@@ -1,7 +1,7 @@
 -- The directory: which blocks of pages have an entry, in order.
 use Rattle.std.specs.Prelude.{ℕ, ◌<◌, ◌≤◌, ◌^◌, IsTrue, List, length, All, AllPairs}
 use Rattle.mind_base.specs.Range.{IsRange}
-use Rattle.region_directory.specs.Block.{IsApart, is_before}
+use Rattle.region_directory.specs.Block.{AreBlocksApart, is_before}
 use Rattle.region_directory.specs.declared.entries.Entry.{Entry}
 
 -- how many entries there may be, the logarithm of the most pages that a merged block may have, and the entries
@@ -17,4 +17,4 @@ pub record IsDirectory (directory : DirectoryView) : Type 0 where
   pub fits : length directory.entries ≤ directory.slots
   pub blocks : All (λ entry. IsRange entry.range.domain entry.range.base entry.range.log) directory.entries
   pub ordered : AllPairs (λ entry later. IsTrue (is_before entry.range later.range)) directory.entries
-  pub apart : AllPairs (λ entry later. IsApart entry.range later.range) directory.entries
+  pub apart : AllPairs (λ entry later. AreBlocksApart entry.range later.range) directory.entries

@@ -5,7 +5,9 @@ use Rattle.mind_base.specs.Page.{PageView}
 use Rattle.mind_base.specs.Range.{RangeView, InRange}
 use Rattle.mind_base.specs.declared.notes.State.{State}
 use Rattle.mind_base.specs.declared.notes.State.TheVariants.{I}
-use Rattle.region_directory.specs.Block.{IsApart, is_before, are_apart, block_of}
+use Rattle.region_directory.specs.Block.{AreBlocksApart, is_before, are_apart, block_of}
+use Rattle.region_directory.specs.declared.changes.Change.{Change}
+use Rattle.region_directory.specs.declared.changes.Change.TheVariants as change
 use Rattle.region_directory.specs.declared.entries.Busy.{Busy}
 use Rattle.region_directory.specs.declared.entries.Entry.{Entry}
 
@@ -19,11 +21,11 @@ NoneHas entries page = All (λ entry. InRange entry.range page → ⊥) entries
 
 -- the block has no page of any entry
 abbrev pub MeetsNone : List Entry → RangeView → Type 0
-MeetsNone entries range = All (λ entry. IsApart entry.range range) entries
+MeetsNone entries range = All (λ entry. AreBlocksApart entry.range range) entries
 
 -- how many entries come before the block: its place in their order
-abbrev pub place_of : List Entry → RangeView → ℕ
-place_of entries range = count_by (λ entry. is_before entry.range range) entries
+abbrev pub entry_place : List Entry → RangeView → ℕ
+entry_place entries range = count_by (λ entry. is_before entry.range range) entries
 
 -- an entry for a block of which nobody holds a page
 abbrev pub fresh_entry : RangeView → Entry
@@ -44,6 +46,12 @@ with_hits hits entry = record { range = entry.range; state = entry.state; busy =
 -- the entry with hits added, up to the greatest 32-bit number
 abbrev pub plus_hits : ℕ → Entry → Entry
 plus_hits count entry = with_hits (min (entry.hits + count) (2 ^ 32 - 1)) entry
+
+-- the entry when this has changed of it
+abbrev pub with_change : Change → Entry → Entry
+with_change (change.State state) entry = in_state state entry
+with_change (change.Busy busy) entry = with_busy busy entry
+with_change (change.Hits count) entry = plus_hits count entry
 
 -- the list in which entry number i alone is changed
 abbrev pub changed_at : ℕ → (Entry → Entry) → List Entry → List Entry

@@ -1,22 +1,16 @@
+//! How two blocks lie to each other.
+
 ghost use Rattle.std.specs.Prelude.{◌≡◌, ◌↔◌, ◌≤◌, ◌^◌, IsTrue};
 ghost use Rattle.region_directory.specs.Block.{is_before, are_apart, block_of};
-ghost use Rattle.mind_base.specs.Range.{in_range};
 
 use mind_base::{Page, Range};
 
 /// How many pages a block has.
-fn pages_of(range: &Range) -> u32
+fn pages_in_block(range: &Range) -> u32
     ensures size { result ≡ 2 ^ range.now.log }
     ensures bound { result ≤ 512 }
 {
     1 << range.log
-}
-
-/// Whether the page is one of the block's.
-pub fn has_page(range: &Range, page: &Page) -> bool
-    ensures { result ≡ in_range range.now page.now }
-{
-    range.has(*page)
 }
 
 /// Whether the first block stands before the second, by domain and first page.
@@ -30,8 +24,8 @@ pub fn comes_before(a: &Range, b: &Range) -> bool
 pub fn stand_apart(a: &Range, b: &Range) -> bool
     ensures { result ≡ are_apart a.now b.now }
 {
-    let a_pages = pages_of(a);
-    let b_pages = pages_of(b);
+    let a_pages = pages_in_block(a);
+    let b_pages = pages_in_block(b);
     !(a.domain == b.domain && (a.base < b.base + b_pages && b.base < a.base + a_pages))
 }
 

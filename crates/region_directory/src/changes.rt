@@ -1,5 +1,7 @@
+//! One entry of the list changed.
+
 ghost use Rattle.std.specs.Prelude.{◌≡◌, ◌+◌, ◌<◌, ◌≤◌, ◌∷◌, ◌++◌, map, insert, take, drop, vec_len, vec_capacity};
-ghost use Rattle.region_directory.specs.Entry.{in_state, with_busy, with_hits, plus_hits, changed_at};
+ghost use Rattle.region_directory.specs.Entry.{with_change, with_hits, changed_at};
 
 use crate::{Busy, Entry};
 use mind_base::State;
@@ -37,31 +39,27 @@ pub fn put_one(entries: &mut Vec<Entry>, i: usize, whole: Entry)
     let _ = entries.remove(i + 1);
 }
 
-pub fn put_state(entries: &mut Vec<Entry>, i: usize, state: State)
-    requires { i < vec_len entries.old }
-    ensures entries { entries.new.items ≡ changed_at i (in_state state) entries.old.items }
-    ensures capacity { vec_capacity entries.new ≡ vec_capacity entries.old }
-{
-    let entry = &mut entries[i];
-    entry.state = state;
+/// What changes of an entry: another state, another transition or none, or hits that are added, up to
+/// the greatest u32.
+#[derive(Clone, Copy, Debug, PartialEq, Eq)]
+pub enum Change {
+    State(State),
+    Busy(Option<Busy>),
+    Hits(u32),
 }
 
-pub fn put_busy(entries: &mut Vec<Entry>, i: usize, busy: Option<Busy>)
+/// Changes one thing of an entry.
+pub fn change_one(entries: &mut Vec<Entry>, i: usize, change: Change)
     requires { i < vec_len entries.old }
-    ensures entries { entries.new.items ≡ changed_at i (with_busy busy) entries.old.items }
+    ensures entries { entries.new.items ≡ changed_at i (with_change change) entries.old.items }
     ensures capacity { vec_capacity entries.new ≡ vec_capacity entries.old }
 {
     let entry = &mut entries[i];
-    entry.busy = busy;
-}
-
-pub fn count_hits(entries: &mut Vec<Entry>, i: usize, count: u32)
-    requires { i < vec_len entries.old }
-    ensures entries { entries.new.items ≡ changed_at i (plus_hits count) entries.old.items }
-    ensures capacity { vec_capacity entries.new ≡ vec_capacity entries.old }
-{
-    let entry = &mut entries[i];
-    entry.hits = entry.hits.saturating_add(count);
+    match change {
+        Change::State(state) => entry.state = state,
+        Change::Busy(busy) => entry.busy = busy,
+        Change::Hits(count) => entry.hits = entry.hits.saturating_add(count),
+    }
 }
 
 pub fn reset_hits(entries: &mut Vec<Entry>)

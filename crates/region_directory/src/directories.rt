@@ -1,12 +1,14 @@
+//! The directory: entries of blocks, in order and apart.
+
 ghost use Rattle.std.specs.Prelude.{◌≡◌, ◌↔◌, ◌+◌, ◌<◌, ◌≤◌, ◌⊎◌, ℕ, [], length, map, insert, remove, position, slice_get, Some, IsTrue, IsNone, IsSomeAnd, is_some, option_map, IfSome, IfOk, false};
 ghost use Rattle.mind_base.specs.Range.{RangeView, IsRange, InRange, in_range};
-ghost use Rattle.region_directory.specs.Entry.{HasPage, NoneHas, MeetsNone, largest_free, place_of, fresh_entry, in_state, with_busy, with_hits, plus_hits, changed_at};
+ghost use Rattle.region_directory.specs.Entry.{HasPage, NoneHas, MeetsNone, largest_free, entry_place, fresh_entry, in_state, with_busy, with_change, with_hits, plus_hits, changed_at};
 ghost use Rattle.region_directory.specs.Directory.{DirectoryView, IsDirectory};
 ghost use Rattle.region_directory.specs.Merge.{merge_of, with_merge};
 ghost use Rattle.region_directory.specs.Room.{room_of, MustWait};
 ghost use Rattle.region_directory.specs.Split.{split_of, with_split};
 
-use crate::changes::{count_hits, put_at, put_busy, put_one, put_state, put_two, reset_hits};
+use crate::changes::{Change, change_one, put_at, put_one, put_two, reset_hits};
 use crate::merges::merged_pair;
 use crate::rooms::room_among;
 use crate::searches::{entry_with, largest_free, place_for};
@@ -109,7 +111,7 @@ impl Directory {
 
     /// How many entries come before the block: the index that its entry gets.
     pub fn place(&self, range: &Range) -> u32
-        ensures place { result ≡ place_of self.now.entries range.now }
+        ensures place { result ≡ entry_place self.now.entries range.now }
         ensures within { result ≤ length self.now.entries }
     {
         place_for(self.entries.as_slice(), range) as u32
@@ -148,7 +150,7 @@ impl Directory {
         requires space { length self.old.entries < self.old.slots }
         requires free { MeetsNone self.old.entries range }
         ensures inserted { self.new ≡ record self.old {
-          entries = insert self.old.entries (place_of self.old.entries range) (fresh_entry range);
+          entries = insert self.old.entries (entry_place self.old.entries range) (fresh_entry range);
         } }
         ensures count { length self.new.entries ≡ length self.old.entries + 1 }
         ensures valid { IsDirectory self.new }
@@ -241,7 +243,7 @@ impl Directory {
         ensures count { length self.new.entries ≡ length self.old.entries }
         ensures valid { IsDirectory self.new }
     {
-        put_state(&mut self.entries, i as usize, state);
+        self.change(i, Change::State(state));
     }
 
     /// Gives the entry with this index another transition, or none.
@@ -253,7 +255,7 @@ impl Directory {
         ensures count { length self.new.entries ≡ length self.old.entries }
         ensures valid { IsDirectory self.new }
     {
-        put_busy(&mut self.entries, i as usize, busy);
+        self.change(i, Change::Busy(busy));
     }
 
     /// Adds to the hits of the entry with this index, up to the greatest u32.
@@ -265,7 +267,19 @@ impl Directory {
         ensures count { length self.new.entries ≡ length self.old.entries }
         ensures valid { IsDirectory self.new }
     {
-        count_hits(&mut self.entries, i as usize, count);
+        self.change(i, Change::Hits(count));
+    }
+
+    /// Changes one thing of the entry with this index.
+    fn change(&mut self, i: u32, change: Change)
+        requires { i < length self.old.entries }
+        ensures changed { self.new ≡ record self.old {
+          entries = changed_at i (with_change change) self.old.entries;
+        } }
+        ensures count { length self.new.entries ≡ length self.old.entries }
+        ensures valid { IsDirectory self.new }
+    {
+        change_one(&mut self.entries, i as usize, change);
     }
 
     /// Makes the hits of every entry 0.

@@ -1,3 +1,5 @@
+//! An entry of the directory, and its transition.
+
 use mind_base::{Range, State};
 
 /// A transition of an entry that is under way: its number, the blades that have not answered yet (a

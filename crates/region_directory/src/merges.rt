@@ -1,3 +1,5 @@
+//! The entry that is made of two.
+
 ghost use Rattle.std.specs.Prelude.{◌≡◌, ◌<◌, ◌+◌, ◌%◌, ◌^◌, length, slice_get, IsSome, IfSome};
 ghost use Rattle.region_directory.specs.Merge.{are_halves, doubled, has_only, merged_state, merged_entry, merged_pair};
 

@@ -1,10 +1,11 @@
+//! How room is made for an entry.
+
 ghost use Rattle.std.specs.Prelude.{◌≡◌, ◌<◌, ◌≤◌, ◌^◌, length, position, IfSome};
 ghost use Rattle.std.specs.List.{list_any};
 ghost use Rattle.mind_base.specs.Range.{in_range};
 ghost use Rattle.region_directory.specs.Room.{is_droppable, is_for_room, is_evictable, first_rule};
 
 use crate::Entry;
-use crate::blocks::has_page;
 use mind_base::{Page, Range, State};
 
 /// How a full directory makes room: the entry with this index is dropped; it and the next one are
@@ -36,7 +37,7 @@ fn makes_room(entry: &Entry) -> bool
 pub fn has_any(range: &Range, pages: &[Page]) -> bool
     ensures { result ≡ list_any (in_range range.now) pages.now }
 {
-    pages.iter().any(|page| has_page(range, page))
+    pages.iter().any(|page| range.has(*page))
 }
 
 fn can_evict(fetching: &[Page], entry: &Entry) -> bool

@@ -1,11 +1,13 @@
+//! The entry of a page, and the block of a new one.
+
 ghost use Rattle.std.specs.Prelude.{◌≡◌, ◌≤◌, ◌<◌, ℕ, count_by, position, length, IfSome};
 ghost use Rattle.std.specs.List.{list_all};
 ghost use Rattle.mind_base.specs.Range.{RangeView, in_range};
 ghost use Rattle.region_directory.specs.Block.{is_before, are_apart, block_of};
-ghost use Rattle.region_directory.specs.Entry.{largest_free, place_of, MeetsNone};
+ghost use Rattle.region_directory.specs.Entry.{largest_free, entry_place, MeetsNone};
 
 use crate::Entry;
-use crate::blocks::{block_around, comes_before, has_page, stand_apart};
+use crate::blocks::{block_around, comes_before, stand_apart};
 use mind_base::{Page, Range};
 
 /// The first entry that has the page.
@@ -13,14 +15,12 @@ pub fn entry_with(entries: &[Entry], page: &Page) -> Option<usize>
     ensures first { result ≡ position (λ entry. in_range entry.range page.now) entries.now }
     ensures within { IfSome result (λ i. i < length entries.now) }
 {
-    entries
-        .iter()
-        .position(|entry| has_page(&entry.range, page))
+    entries.iter().position(|entry| entry.range.has(*page))
 }
 
 /// How many entries come before the block.
 pub fn place_for(entries: &[Entry], range: &Range) -> usize
-    ensures place { result ≡ place_of entries.now range.now }
+    ensures place { result ≡ entry_place entries.now range.now }
     ensures within { result ≤ length entries.now }
 {
     entries

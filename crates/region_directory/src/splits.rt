@@ -1,3 +1,5 @@
+//! The two entries that are made of one.
+
 ghost use Rattle.std.specs.Prelude.{◌≡◌};
 ghost use Rattle.region_directory.specs.Split.{half_entry, split_entry};
 

@@ -1,3 +1,5 @@
+//! Entries that come, change, split and merge, by rows.
+
 ghost use Rattle.std.specs.Prelude.{◌<◌, ◌≤◌, ◌^◌};
 
 use crate::{Busy, Directory, Room};

@@ -8,7 +8,7 @@ use Rattle.std.proofs.lemmas.Bool.Decides.{nat_tests}
 use Rattle.mind_base.specs.Page.{PageView}
 use Rattle.indexmap.specs.IndexMap.{insert_entry}
 use Rattle.indexmap.specs.Layout.{set_value_at}
-use Rattle.request_list.specs.Requests.{is_of, AreApart, fetched_pages, fetching_at, fetching_in}
+use Rattle.request_list.specs.Requests.{is_of, AskOncePerPage, fetched_pages, fetching_at, fetching_in}
 use Rattle.request_list.specs.Waiting.{request_of, requests_of}
 use Rattle.request_list.specs.declared.requests.Request.{Request}
 use Rattle.request_list.specs.declared.waiting.Wanted.{Wanted}
@@ -36,7 +36,7 @@ all-push : (P : Request → Type 0) (rs : List Request) (q : Request) → AllByR
 all-push P [] q h p = (p, tt)
 all-push P (r ∷ rs) q h p = (h.0, all-push P rs q h.1 p)
 
-pub apart-push : (rs : List Request) (q : Request) → AreApart rs → NoneOf q.blade q.page rs → AreApart (rs ++ q ∷ [])
+pub apart-push : (rs : List Request) (q : Request) → AskOncePerPage rs → NoneOf q.blade q.page rs → AskOncePerPage (rs ++ q ∷ [])
 apart-push [] q apart none = (tt, tt)
 apart-push (r ∷ rs) q apart none = (all-push (λ p. is_of r.blade r.page p ≡ false) rs q apart.0 (is_of-flip q r none.0), apart-push rs q apart.1 none.1)
 
@@ -70,7 +70,7 @@ all-fetching_at blade page [] i h = tt
 all-fetching_at blade page (r ∷ rs) zero h = h
 all-fetching_at blade page (r ∷ rs) (suc i) h = (h.0, all-fetching_at blade page rs i h.1)
 
-pub apart-fetching_at : (rs : List Request) (i : ℕ) → AreApart rs → AreApart (fetching_at rs i)
+pub apart-fetching_at : (rs : List Request) (i : ℕ) → AskOncePerPage rs → AskOncePerPage (fetching_at rs i)
 apart-fetching_at [] i h = tt
 apart-fetching_at (r ∷ rs) zero h = h
 apart-fetching_at (r ∷ rs) (suc i) h = (all-fetching_at r.blade r.page rs i h.0, apart-fetching_at rs i h.1)
@@ -166,7 +166,7 @@ at_later blade page r rs n h at = record {
   left = rw h (ap (λ (xs : List Request). r ∷ xs) at.left);
 }
 
-pub is_at : (blade : ℕ) (page : PageView) (rs : List Request) (n : ℕ) → AreApart rs → n ≡ position_or_len (is_of blade page) rs → n < length rs → IsAt blade page rs n
+pub is_at : (blade : ℕ) (page : PageView) (rs : List Request) (n : ℕ) → AskOncePerPage rs → n ≡ position_or_len (is_of blade page) rs → n < length rs → IsAt blade page rs n
 is_at blade page [] n apart e l = absurd (omega (arith, l))
 is_at blade page (r ∷ rs) n apart e l = step (is_of blade page r) refl n (λ m. is_at blade page rs m apart.1) e l where
   step : (b : Bool) → is_of blade page r ≡ b → (k : ℕ) → ((m : ℕ) → m ≡ position_or_len (is_of blade page) rs → m < length rs → IsAt blade page rs m) →
@@ -225,7 +225,7 @@ requests_of-remove es i =
 below_from : (p n : ℕ) → nat_lt p n ≡ true → p < n
 below_from p n h = grind (arith, nat_tests)
 
-pub at_key : (eq : Wanted → Wanted → Bool) → Tests eq → (k : Wanted) (es : List (Wanted × Access)) (n : ℕ) → AreApart (requests_of es) → Some n ≡ position (eq k) (map (λ e. e.0) es) → IsAt k.blade k.page (requests_of es) n
+pub at_key : (eq : Wanted → Wanted → Bool) → Tests eq → (k : Wanted) (es : List (Wanted × Access)) (n : ℕ) → AskOncePerPage (requests_of es) → Some n ≡ position (eq k) (map (λ e. e.0) es) → IsAt k.blade k.page (requests_of es) n
 at_key eq same k es n apart e =
     let place = position_or_len (eq k) (map (λ x. x.0) es) in
     let found = cond_some (nat_lt place (length (map (λ x. x.0) es))) place n (sym e) in
@@ -255,9 +255,9 @@ all-filter P test (r ∷ rs) h = elim (test r) as (λ b. AllByRecursion P (cond 
   | false ↦ all-filter P test rs h.1
 ]
 
-pub apart-filter : (test : Request → Bool) (rs : List Request) → AreApart rs → AreApart (filter test rs)
+pub apart-filter : (test : Request → Bool) (rs : List Request) → AskOncePerPage rs → AskOncePerPage (filter test rs)
 apart-filter test [] h = tt
-apart-filter test (r ∷ rs) h = elim (test r) as (λ b. AreApart (cond b (r ∷ filter test rs) (filter test rs))) [
+apart-filter test (r ∷ rs) h = elim (test r) as (λ b. AskOncePerPage (cond b (r ∷ filter test rs) (filter test rs))) [
   | true ↦ (all-filter (λ q. is_of r.blade r.page q ≡ false) test rs h.0, apart-filter test rs h.1)
   | false ↦ apart-filter test rs h.1
 ]

@@ -9,9 +9,9 @@ abbrev pub is_of : ℕ → PageView → Request → Bool
 is_of blade page r = blade == r.blade && (page.domain == r.page.domain && page.number == r.page.number)
 
 -- no blade has two requests for one page
-abbrev pub AreApart : List Request → Type 0
-AreApart [] = Unit {0}
-AreApart (r ∷ rs) = AllByRecursion (λ q. is_of r.blade r.page q ≡ false) rs × AreApart rs
+abbrev pub AskOncePerPage : List Request → Type 0
+AskOncePerPage [] = Unit {0}
+AskOncePerPage (r ∷ rs) = AllByRecursion (λ q. is_of r.blade r.page q ≡ false) rs × AskOncePerPage rs
 
 -- the pages of the requests that are fetching, in order of arrival
 abbrev pub fetched_pages : List Request → List PageView

@@ -1,3 +1,5 @@
+//! The requests of the switch, in the order of their arrival.
+
 ghost use Rattle.std.specs.Prelude.{◌≡◌, ◌+◌, ◌<◌, [], ◌∷◌, ◌++◌, ◌↔◌, true, false, length, slice_get, find, filter, not, Some, All, Any, Contains, IfSome, OnOk, OnErr};
 ghost use Rattle.mind_base.specs.Page.{PageView};
 
@@ -30,19 +32,19 @@ impl Model for Requests {
     ghost use Rattle.std.specs.Prelude.{List, length, ◌≡◌, ◌≤◌};
     ghost use Rattle.request_list.specs.declared.requests.Request.{Request};
     ghost use Rattle.request_list.specs.Waiting.{requests_of};
-    ghost use Rattle.request_list.specs.Requests.{AreApart, fetched_pages};
+    ghost use Rattle.request_list.specs.Requests.{AskOncePerPage, fetched_pages};
 
     ghost Value = { List Request };
 
     ghost view = { λ r. requests_of r.waiting.entries };
 
     ghost invariant = { λ r. (r.fetching.items ≡ fetched_pages (requests_of r.waiting.entries))
-        × AreApart (requests_of r.waiting.entries)
+        × AskOncePerPage (requests_of r.waiting.entries)
         × (length (requests_of r.waiting.entries) ≤ 4294967295) };
 }
 
 impl Requests {
-    ghost use Rattle.request_list.specs.Requests.{is_of, fetching_at, fetched_pages, AreApart};
+    ghost use Rattle.request_list.specs.Requests.{is_of, fetching_at, fetched_pages, AskOncePerPage};
 
     /// No requests. It takes no memory.
     pub fn new(alloc: Global) -> Requests
@@ -59,7 +61,7 @@ impl Requests {
         requires { All (λ r. is_of blade page r ≡ false) self.old }
         ensures ok { OnOk result (self.new ≡ self.old ++ record { blade = blade; page = page; write = write; fetching = false } ∷ []) }
         ensures unchanged { OnErr result (self.new ≡ self.old) }
-        ensures apart { AreApart self.new }
+        ensures apart { AskOncePerPage self.new }
     {
         if self.waiting.len() >= 4294967295 {
             return Err(NoMemory);
@@ -89,7 +91,7 @@ impl Requests {
     /// The blade's request for the page, if there is one.
     pub fn find(&self, blade: u8, page: Page) -> Option<Request>
         ensures found { result ≡ find (is_of blade page) self.now }
-        ensures apart { AreApart self.now }
+        ensures apart { AskOncePerPage self.now }
     {
         let Some(at) = self.waiting.get_index_of(&Wanted { blade, page }) else {
             return None;
@@ -105,7 +107,7 @@ impl Requests {
         requires waits { IfSome (slice_get self.old i) (λ r. r.fetching ≡ false) }
         ensures ok { OnOk result (self.new ≡ fetching_at self.old i) }
         ensures unchanged { OnErr result (self.new ≡ self.old) }
-        ensures apart { AreApart self.new }
+        ensures apart { AskOncePerPage self.new }
     {
         waiting::start_at(&mut self.waiting, &mut self.fetching, i as usize)?;
         Ok(())
@@ -115,8 +117,8 @@ impl Requests {
     pub fn done(&mut self, blade: u8, page: Page) -> Option<Request>
         ensures found { result ≡ find (is_of blade page) self.old }
         ensures left { self.new ≡ filter (λ r. not (is_of blade page r)) self.old }
-        ensures apart { AreApart self.new }
-        ensures was_apart { AreApart self.old }
+        ensures apart { AskOncePerPage self.new }
+        ensures was_apart { AskOncePerPage self.old }
     {
         let Some(at) = self.waiting.get_index_of(&Wanted { blade, page }) else {
             return None;

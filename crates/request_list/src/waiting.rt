@@ -1,3 +1,5 @@
+//! Requests as a map from what is wanted to how far it is.
+
 ghost use Rattle.std.specs.Prelude.{◌≡◌, ◌<◌, ◌≤◌, false, Some, take, remove, slice_get, IfSome, OnOk, OnErr};
 ghost use Rattle.indexmap.specs.IndexMap.{index_map_len};
 ghost use Rattle.request_list.specs.Waiting.{request_of, requests_of};

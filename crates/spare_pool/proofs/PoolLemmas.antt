@@ -140,6 +140,10 @@ lowest_in pool marks slice size log first view e g h low = record {
 pub IsPool-seen : (pool : PoolView) (marks : List Bool) → pool_of marks ≡ pool → length marks ≤ 4096 → IsPool pool
 IsPool-seen pool marks view h = subst IsPool view (IsPool-pool_of marks h)
 
+-- a pool is one after a write through a slice of its marks
+pub IsPool-written : (marks slice new items : List Bool) → items ≡ new → length new ≡ length slice → slice ≡ marks → length marks ≤ 4096 → IsPool (pool_of items)
+IsPool-written marks slice new items e count whole limit = IsPool-pool_of items (omega (arith, ap length e, count, ap length whole, limit))
+
 pub Written-seen : (slice marks new : List Bool) (first size k : ℕ) (mark : Bool) → slice ≡ marks → size ≡ k → new ≡ Written slice first size mark → new ≡ Written marks first k mark
 Written-seen slice marks new first size k mark e g h =
     h ∙ ap (λ (xs : List Bool). Written xs first size mark) e ∙ ap (λ (n : ℕ). Written marks first n mark) g

@@ -1,3 +1,5 @@
+//! The spare pages of a memory blade.
+
 ghost use Rattle.std.specs.Prelude.{◌≡◌, ℕ, ◌+◌, ◌%◌, ◌^◌, ◌≤◌, ◌↔◌, ◌⊎◌, IsTrue, IfOk, IfSome, IfNone, Contains};
 ghost use Rattle.spare_pool.specs.Pool.{IsPool, InRun, IsFreeRun, IsLowestRun, all_free, without_run, with_run};
 

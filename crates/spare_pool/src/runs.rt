@@ -1,3 +1,5 @@
+//! Aligned runs among marked pages.
+
 ghost use Rattle.std.specs.Prelude.{◌≡◌, ℕ, ◌+◌, ◌*◌, ◌^◌, ◌<◌, ◌≤◌, ◌↔◌, ◌++◌, length, take, drop, replicate, IsTrue, IfSome, IfNone};
 ghost use Rattle.spare_pool.specs.Marks.{AllMarked, IsMarkedRun};
 

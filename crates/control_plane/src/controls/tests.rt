@@ -1,3 +1,5 @@
+//! A control through asks, beginnings and answers, by rows.
+
 ghost use Rattle.std.specs.Prelude.{◌<◌};
 
 use super::*;

@@ -3,7 +3,7 @@ use Rattle.mind_base.specs.declared.notes.Note.{Note}
 use Rattle.region_directory.specs.Directory.{DirectoryView}
 use Rattle.region_directory.specs.Entry.{with_hits}
 use Rattle.region_directory.specs.declared.entries.Entry.{Entry}
-use Rattle.bounded_split.specs.Epoch.{epoch_turns, left_after, merge_notes, split_notes, turns_of_merges}
+use Rattle.bounded_split.specs.Epoch.{epoch_turns, entries_left, merge_notes, split_notes, turns_of_merges}
 use Rattle.bounded_split.specs.Hot.{hot_turns_in}
 use Rattle.bounded_split.specs.declared.epochs.EpochSums.{EpochSums}
 use Rattle.bounded_split.proofs.Turning.{merged_directory, epoch-left, epoch-merges, epoch-splits, splits-bound}
@@ -15,7 +15,7 @@ returns-clause-directory g c =
     let d = c.args.directory.now in
     c.clear_hits.ensures.cleared
     ∙ ap (λ (v : DirectoryView). record v { entries = map (with_hits 0) v.entries }) c.split_all-splits.ensures.changed
-    ∙ ap (λ (v : DirectoryView). record v { entries = map (with_hits 0) (left_after (hot_turns_in t v)) }) c.merge_all-merges.ensures.changed
+    ∙ ap (λ (v : DirectoryView). record v { entries = map (with_hits 0) (entries_left (hot_turns_in t v)) }) c.merge_all-merges.ensures.changed
     ∙ ap (λ (xs : List Entry). record d { entries = map (with_hits 0) xs }) (sym (epoch-left t d))
 
 pub returns-clause-notes : goal.returns-clause-notes

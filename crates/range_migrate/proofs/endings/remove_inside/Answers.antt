@@ -1,5 +1,5 @@
 use Rattle.std.proofs.Common.{◌<◌, ◌∙◌, length, sym, subst}
-use Rattle.range_translate.specs.Block.{is_inside}
+use Rattle.range_translate.specs.Block.{block_lies_inside}
 use Rattle.range_translate.specs.Table.{TableView}
 use Rattle.range_translate.specs.declared.outliers.Outlier.{Outlier}
 use Rattle.range_migrate.proofs.Removing.{found, removal-step, removal-end, fewer-left}
@@ -7,12 +7,12 @@ use Rattle.range_migrate.proofs.endings.remove_inside.Goals as goal
 
 pub remove_one-requires-clause-there : goal.remove_one-requires-clause-there
 remove_one-requires-clause-there c =
-    (found (λ (o : Outlier). is_inside o.range c.args.range.now) c.loop-outlier.table.outliers c.in-Some.outlier (sym c.next_inside.ensures.found ∙ c.in-Some.is)).0
+    (found (λ (o : Outlier). block_lies_inside o.range c.args.range.now) c.loop-outlier.table.outliers c.in-Some.outlier (sym c.next_inside.ensures.found ∙ c.in-Some.is)).0
 
 pub loop-outlier-smaller : goal.loop-outlier-smaller
 loop-outlier-smaller c =
     let outliers = c.loop-outlier.table.outliers in
-    let there = (found (λ (o : Outlier). is_inside o.range c.args.range.now) outliers c.in-Some.outlier (sym c.next_inside.ensures.found ∙ c.in-Some.is)).0 in
+    let there = (found (λ (o : Outlier). block_lies_inside o.range c.args.range.now) outliers c.in-Some.outlier (sym c.next_inside.ensures.found ∙ c.in-Some.is)).0 in
     subst (λ (t : TableView). length t.outliers < length outliers) (sym c.remove_one.ensures.table) (fewer-left c.in-Some.outlier outliers c.next_inside.ensures.table.ordered there)
 
 pub loop-outlier-preserved : goal.loop-outlier-preserved

@@ -1,8 +1,8 @@
 use Rattle.std.proofs.Common.{◌≡◌, true, is_some}
 use Rattle.mind_base.specs.Cover.{all_below}
 use Rattle.mind_base.specs.Home.{home_of}
-use Rattle.range_migrate.specs.Plan.{page_at}
+use Rattle.range_migrate.specs.Plan.{block_page}
 use Rattle.range_migrate.proofs.questions.are_placed.Given as goal
 
 abbrev pub invariant-loop-n : goal.invariant-loop-n
-invariant-loop-n l = all_below (λ i. is_some (home_of l.table.homes (page_at l.range i))) l.n ≡ true
+invariant-loop-n l = all_below (λ i. is_some (home_of l.table.homes (block_page l.range i))) l.n ≡ true

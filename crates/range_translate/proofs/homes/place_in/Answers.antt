@@ -3,7 +3,7 @@ use Rattle.std.proofs.lemmas.List.{at_drop_all}
 use Rattle.std.proofs.lemmas.Bool.{false≢true}
 use Rattle.mind_base.specs.Page.{PageView}
 use Rattle.mind_base.specs.Span.{SpanView, InSpan, in_span}
-use Rattle.mind_base.specs.Home.{place_in}
+use Rattle.mind_base.specs.Home.{number_in_homes}
 use Rattle.range_translate.proofs.Apart.{IsSpanView, read_one}
 use Rattle.range_translate.proofs.HomeSteps.{found_in, not_in, shifted, not_in_span}
 use Rattle.range_translate.proofs.homes.place_in.Goals as goal
@@ -43,14 +43,14 @@ loop-span-preserved c =
       spans = r.spans;
       sum = omega (arith, r.sum, pages);
       page = page;
-      rest = ap (λ (n : ℕ). shifted (c.loop-span.before + n) (place_in (drop (c.loop-span.span-index + 1) c.args.homes.now) c.args.page)) pages
+      rest = ap (λ (n : ℕ). shifted (c.loop-span.before + n) (number_in_homes (drop (c.loop-span.span-index + 1) c.args.homes.now) c.args.page)) pages
           ∙ not_in c.args.homes.now c.loop-span.span-index c.loop-span.before c.span-item.result c.args.page c.loop-span-test.true c.span-item.is hasnt c.loop-span.invariant.rest;
     }
 
 pub returns-clause-place : goal.returns-clause-place
 returns-clause-place c =
-    let at_none : shifted c.loop-span.before (place_in (drop c.loop-span.span-index c.args.homes.now) c.args.page) ≡ None
-    = ap (shifted c.loop-span.before) (at_drop_all (λ (hs : List SpanView). place_in hs c.args.page) c.args.homes.now c.loop-span.span-index c.loop-span-test.false) in
+    let at_none : shifted c.loop-span.before (number_in_homes (drop c.loop-span.span-index c.args.homes.now) c.args.page) ≡ None
+    = ap (shifted c.loop-span.before) (at_drop_all (λ (hs : List SpanView). number_in_homes hs c.args.page) c.args.homes.now c.loop-span.span-index c.loop-span-test.false) in
     sym at_none ∙ c.loop-span.invariant.rest
 
 pub returns-then-has-clause-few : goal.returns-then-has-clause-few

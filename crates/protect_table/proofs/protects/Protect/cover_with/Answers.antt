@@ -1,17 +1,17 @@
 use Rattle.std.proofs.Common.{◌≡◌, get_or, map, ap, arith}
 use Rattle.mind_base.specs.Cover.{cover_of}
 use Rattle.mind_base.specs.declared.commands.Perm.TheVariants.{No}
-use Rattle.protect_table.specs.Block.{view_of, whole}
+use Rattle.protect_table.specs.Block.{block_view, whole}
 use Rattle.protect_table.specs.Protect.{changed, permission_among}
 use Rattle.protect_table.proofs.Kept.{view_of-read, cover-read}
 use Rattle.protect_table.proofs.Tables.{CoverStep}
 use Rattle.protect_table.proofs.protects.Protect.cover_with.Goals as goal
 use Rattle.protect_table.proofs.protects.Protect.cover_with.Goals.{After-index-domain, After-tally-before, After-tally_with-after}
 
-read : (c : After-index-domain) → view_of c.index-domain.result.now ≡ get_or (map view_of c.self.inside.domains.items) c.span.inside.domain (whole No)
+read : (c : After-index-domain) → block_view c.index-domain.result.now ≡ get_or (map block_view c.self.inside.domains.items) c.span.inside.domain (whole No)
 read c = view_of-read c.self.inside.domains.items c.span.inside.domain c.index-domain.result.now c.self.invariant.count c.span.invariant.0 c.index-domain.ensures
 
-step : (c : After-tally_with-after) → CoverStep c.self.inside.cover c.tally-before.result.blocks c.tally_with-after.result.blocks (cover_of (changed (permission_among (map view_of c.self.inside.domains.items)) (record { domain = c.span.inside.domain; base = c.span.inside.base; pages = c.span.inside.pages }) c.args.perm))
+step : (c : After-tally_with-after) → CoverStep c.self.inside.cover c.tally-before.result.blocks c.tally_with-after.result.blocks (cover_of (changed (permission_among (map block_view c.self.inside.domains.items)) (record { domain = c.span.inside.domain; base = c.span.inside.base; pages = c.span.inside.pages }) c.args.perm))
 step c =
     cover-read c.self.inside.slots c.self.inside.cover c.self.inside.domains.items (record { domain = c.span.inside.domain; base = c.span.inside.base; pages = c.span.inside.pages }) c.args.perm c.index-domain.result.now c.self.invariant c.span.invariant.0 c.span.invariant.2 c.index-domain.ensures
     c.tally-before.result.blocks c.tally_with-after.result.blocks (ap (λ x. x.blocks) c.tally-before.ensures.tally) (ap (λ x. x.blocks) c.tally_with-after.ensures.tally)

@@ -1,14 +1,14 @@
 use Rattle.std.proofs.Common.{◌≡◌, map, ap, sym, ◌∙◌, arith}
 use Rattle.mind_base.specs.Span.{SpanView}
 use Rattle.mind_base.specs.Cover.{cover_of}
-use Rattle.protect_table.specs.Block.{view_of}
+use Rattle.protect_table.specs.Block.{block_view}
 use Rattle.protect_table.specs.Protect.{ProtectView, changed, permission_at, permission_among}
 use Rattle.protect_table.proofs.Kept.{put-read, put-permissions}
 use Rattle.protect_table.proofs.protects.Protect.put.Goals as goal
 
 pub invariant_of-self : goal.invariant_of-self
 invariant_of-self c =
-    let table : ProtectView = record { slots = c.self.inside.slots; domains = map view_of c.self.inside.domains.items } in
+    let table : ProtectView = record { slots = c.self.inside.slots; domains = map block_view c.self.inside.domains.items } in
     let span : SpanView = record { domain = c.span.inside.domain; base = c.span.inside.base; pages = c.span.inside.pages } in
     let by_table = ap (λ (t : ProtectView). cover_of (changed (permission_at t) c.args.span.now c.args.perm)) (sym c.self.view_is) in
     let by_span = ap (λ (s : SpanView). cover_of (changed (permission_at table) s c.args.perm)) (sym c.span.view_is) in

@@ -1,7 +1,7 @@
 use Rattle.std.proofs.Common.{◌≡◌, ◌∷◌, [], ◌++◌, false, length, refl, sym, ap, ◌∙◌, subst, arith, List}
 use Rattle.std.proofs.lemmas.List.{map-append, length_push, length-map}
 use Rattle.std.proofs.lemmas.List.Elements.{recursion_from_All}
-use Rattle.request_list.specs.Requests.{is_of, AreApart, fetched_pages}
+use Rattle.request_list.specs.Requests.{is_of, AskOncePerPage, fetched_pages}
 use Rattle.request_list.specs.Waiting.{request_of, requests_of}
 use Rattle.request_list.specs.declared.requests.Request.{Request}
 use Rattle.request_list.proofs.RequestFacts.{NoneOf, insert_entry-last, apart-push, fetched-push}
@@ -23,9 +23,9 @@ pub returns-clause-ok : goal.returns-clause-ok
 unfolding new_request
 returns-clause-ok c = pushed c ∙ ap (λ (rs : List Request). rs ++ new_request c ∷ []) c.self.view_is
 
-apart : (c : goal.In_ok-insert) → AreApart (requests_of c.insert.new.self.entries)
+apart : (c : goal.In_ok-insert) → AskOncePerPage (requests_of c.insert.new.self.entries)
 unfolding new_request
-apart c = subst AreApart (sym (pushed c)) (apart-push (requests_of c.self.inside.waiting.entries) (new_request c) c.self.invariant.1 (none c))
+apart c = subst AskOncePerPage (sym (pushed c)) (apart-push (requests_of c.self.inside.waiting.entries) (new_request c) c.self.invariant.1 (none c))
 
 pub returns-clause-apart : goal.returns-clause-apart
 returns-clause-apart c = apart c

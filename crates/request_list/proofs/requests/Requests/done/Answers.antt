@@ -1,7 +1,7 @@
 use Rattle.std.proofs.Common.{◌≡◌, Bool, not, filter, length, refl, sym, ap, ◌∙◌, subst, arith}
 use Rattle.std.specs.List.{find}
 use Rattle.std.proofs.lemmas.List.Sums.{length-filter, count_by-le-length}
-use Rattle.request_list.specs.Requests.{is_of, AreApart}
+use Rattle.request_list.specs.Requests.{is_of, AskOncePerPage}
 use Rattle.request_list.specs.Waiting.{requests_of}
 use Rattle.request_list.specs.declared.requests.Request.{Request}
 use Rattle.request_list.proofs.RequestFacts.{IsAt, IsNowhere, at_key, at_no_key, apart-filter}
@@ -27,8 +27,8 @@ gone : (c : goal.After-take_at-request) → requests_of c.take_at-request.new.wa
 unfolding test
 gone c = c.take_at-request.ensures.rest ∙ sym (at_place c).left
 
-apart : (c : goal.After-take_at-request) → AreApart (requests_of c.take_at-request.new.waiting.entries)
-apart c = subst AreApart (sym (gone c)) (apart-filter (test c) (requests_of c.self.inside.waiting.entries) c.self.invariant.1)
+apart : (c : goal.After-take_at-request) → AskOncePerPage (requests_of c.take_at-request.new.waiting.entries)
+apart c = subst AskOncePerPage (sym (gone c)) (apart-filter (test c) (requests_of c.self.inside.waiting.entries) c.self.invariant.1)
 
 pub invariant_of-self : goal.invariant_of-self
 invariant_of-self c = (

@@ -1,11 +1,11 @@
 use Rattle.std.proofs.Common.{length, sym, ap, subst, arith}
-use Rattle.request_list.specs.Requests.{AreApart}
+use Rattle.request_list.specs.Requests.{AskOncePerPage}
 use Rattle.request_list.specs.Waiting.{requests_of}
 use Rattle.request_list.proofs.RequestFacts.{apart-fetching_at, length-fetching_at}
 use Rattle.request_list.proofs.requests.Requests.start.Goals as goal
 
-apart : (c : goal.In_ok-start_at) → AreApart (requests_of c.start_at.new.waiting.entries)
-apart c = subst AreApart (sym c.in_ok-start_at.ensures.started) (apart-fetching_at (requests_of c.self.inside.waiting.entries) c.args.i c.self.invariant.1)
+apart : (c : goal.In_ok-start_at) → AskOncePerPage (requests_of c.start_at.new.waiting.entries)
+apart c = subst AskOncePerPage (sym c.in_ok-start_at.ensures.started) (apart-fetching_at (requests_of c.self.inside.waiting.entries) c.args.i c.self.invariant.1)
 
 pub invariant_of-self-2 : goal.invariant_of-self-2
 invariant_of-self-2 c = (

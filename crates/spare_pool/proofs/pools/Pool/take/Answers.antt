@@ -2,7 +2,7 @@ use Rattle.std.proofs.Common.{◌≡◌, ◌+◌, ◌^◌, ◌≤◌, ◌↔◌,
 use Rattle.std.proofs.lemmas.List.{with_items_is}
 use Rattle.spare_pool.specs.Pool.{PoolView, InRun}
 use Rattle.spare_pool.proofs.Pages.{pages_without}
-use Rattle.spare_pool.proofs.PoolLemmas.{pool_of, lowest_in, marked_in, IsPool-seen, IsPool-pool_of, without_run-pool_of, Written-seen}
+use Rattle.spare_pool.proofs.PoolLemmas.{pool_of, lowest_in, marked_in, IsPool-seen, IsPool-written, without_run-pool_of, Written-seen}
 use Rattle.spare_pool.proofs.pools.Pool.take.Goals as goal
 
 pub returns-in_default-clause-none : goal.returns-in_default-clause-none
@@ -27,9 +27,7 @@ returns-clause-taken c =
 
 pub returns-clause-pool : goal.returns-clause-pool
 returns-clause-pool c =
-    let len : length c.mark_run.new.marks ≡ c.self.inside.free.len = omega (arith, c.mark_run.auto.marks, c.as_mut_slice.ensures.len) in
-    let whole : length c.mark_run.new.marks ≡ length c.self.inside.free.items = c.mark_run.auto.marks ∙ ap length c.as_mut_slice.ensures.value in
-    IsPool-pool_of _ (omega (arith, ap length (with_items_is c.self.inside.free c.mark_run.new.marks len), c.self.invariant))
+    IsPool-written _ _ _ _ (with_items_is c.self.inside.free c.mark_run.new.marks (omega (arith, c.mark_run.auto.marks, c.as_mut_slice.ensures.len))) c.mark_run.auto.marks c.as_mut_slice.ensures.value c.self.invariant
 
 pub returns-clause-pages : goal.returns-clause-pages
 returns-clause-pages c = λ page. subst (λ (p : PoolView). Contains p.free page ↔ (Contains c.args.self.now.free page × (InRun c.args.log c.in-Some.first page → ⊥)))
