@@ -6,7 +6,7 @@ use Rattle.std.proofs.lemmas.Bool.Decides.{nat_tests}
 use Rattle.std.proofs.lemmas.List.{get_or-set_same, get_or-set_other, get_or_read, get_or-replicate, get_or_past, length-replicate}
 use Rattle.mind_base.specs.Pending.{PendingView}
 use Rattle.mind_base.specs.Span.{SpanView}
-use Rattle.flat_memory.specs.FlatMemory.{byte_among, byte_in, stored_among, stored, zeroed_among, zeroed}
+use Rattle.flat_memory.specs.FlatMemory.{byte_among, byte_in, stored_among, byte_stored, zeroed_among, zeroed}
 
 -- domains that keep no page
 pub byte_in-none : (domains : List (List (ℕ × List ℕ))) (n : ℕ) → domains ≡ replicate n [] → byte_in (record { domains = domains }) ≡ (λ _ _. 0)
@@ -28,9 +28,9 @@ module _ (domains : List (List (ℕ × List ℕ))) (domain : ℕ) (old new : Lis
   was d e = rw e (get_or_read domains domain old there read [])
 
   -- a store takes effect in one domain
-  pub stored-set : (store : PendingView) → byte_among new ≡ stored_among (byte_among old) store → byte_in (record { domains = set domains domain new }) ≡ stored (byte_in (record { domains = domains })) domain store
+  pub stored-set : (store : PendingView) → byte_among new ≡ stored_among (byte_among old) store → byte_in (record { domains = set domains domain new }) ≡ byte_stored (byte_in (record { domains = domains })) domain store
   stored-set store h = fun_ext (λ d. fun_ext (λ a. at d a)) where
-    at : (d a : ℕ) → byte_in (record { domains = set domains domain new }) d a ≡ stored (byte_in (record { domains = domains })) domain store d a
+    at : (d a : ℕ) → byte_in (record { domains = set domains domain new }) d a ≡ byte_stored (byte_in (record { domains = domains })) domain store d a
     at d a = elim (cases_eq d domain) [
       | inl e ↦
           let test : eqb d domain ≡ true = grind (arith, nat_tests) in

@@ -24,8 +24,8 @@ abbrev pub stored_among : (ℕ → ℕ) → PendingView → ℕ → ℕ
 stored_among byte store a = if covers store a then byte_at store a else byte a
 
 -- the bytes of memory, by their domains and addresses, after a store takes effect in a domain
-abbrev pub stored : (ℕ → ℕ → ℕ) → ℕ → PendingView → ℕ → ℕ → ℕ
-stored byte domain store d a = if d == domain && covers store a then byte_at store a else byte d a
+abbrev pub byte_stored : (ℕ → ℕ → ℕ) → ℕ → PendingView → ℕ → ℕ → ℕ
+byte_stored byte domain store d a = if d == domain && covers store a then byte_at store a else byte d a
 
 -- the page with this number is one of so many from a first one on, all of one domain
 abbrev pub is_page_from : ℕ → ℕ → ℕ → Bool

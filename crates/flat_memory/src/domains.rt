@@ -1,3 +1,5 @@
+//! The memory of one domain: the pages that were written.
+
 ghost use Rattle.std.specs.Prelude.{◌≡◌, [], OnOk, OnErr};
 ghost use Rattle.flat_memory.specs.FlatMemory.{byte_among, stored_among, zeroed_among};
 

@@ -1,3 +1,5 @@
+//! One page of a domain that was written.
+
 ghost use Rattle.std.specs.Prelude.{◌≡◌, ℕ, ◌+◌, ◌<◌, ◌≤◌, length, replicate, slice_index, IfOk};
 ghost use Rattle.flat_memory.specs.FlatMemory.{written};
 

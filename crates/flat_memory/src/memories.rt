@@ -1,5 +1,7 @@
+//! One flat memory for each domain, zero where nothing was written.
+
 ghost use Rattle.std.specs.Prelude.{◌≡◌, ◌<◌, IfOk, OnOk, OnErr};
-ghost use Rattle.flat_memory.specs.FlatMemory.{byte_in, stored, zeroed};
+ghost use Rattle.flat_memory.specs.FlatMemory.{byte_in, byte_stored, zeroed};
 
 use crate::domains::DomainMemory;
 use mind_base::{NoMemory, Pending, Place, Span};
@@ -47,7 +49,7 @@ impl FlatMemory {
     /// Lets the store take effect in a domain, which is below 16. After an error the memory is as it was.
     pub fn store(&mut self, domain: u8, store: Pending) -> Result<(), NoMemory>
         requires { domain < 16 }
-        ensures ok { OnOk result (byte_in self.new ≡ stored (byte_in self.old) domain store) }
+        ensures ok { OnOk result (byte_in self.new ≡ byte_stored (byte_in self.old) domain store) }
         ensures err { OnErr result (self.new ≡ self.old) }
     {
         self.domains[domain as usize].store(self.alloc, store)

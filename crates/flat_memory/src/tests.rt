@@ -1,3 +1,7 @@
+//! Stores and zeroed spans, read back by rows.
+
+ghost use Rattle.mind_base.specs.Pending.{IsPending};
+
 use super::*;
 use mind_base::{Pending, Place, Span};
 use std::test::Fail;
@@ -8,6 +12,16 @@ type Row = (u8, u32, u8);
 fn holds(memory: &FlatMemory, row: &Row) -> bool {
     let (domain, address, byte) = *row;
     domain < 16 && memory.byte(Place::of(domain, address)) == byte
+}
+
+fn store(address: u32, size: u8, value: u32) -> Pending
+    requires { IsPending address size }
+{
+    Pending {
+        address,
+        size,
+        value,
+    }
 }
 
 #[test]
@@ -24,12 +38,7 @@ fn a_word_is_read_back_low_byte_first(rt: HostRuntime) -> Result<(), Fail> {
         (15, 0xffff_ffff, 0x00),
     ];
     let mut memory = FlatMemory::new(rt.alloc())?;
-    let word = Pending {
-        address: 0x5ffc,
-        size: 4,
-        value: 0x1122_3344,
-    };
-    memory.store(3, word)?;
+    memory.store(3, store(0x5ffc, 4, 0x1122_3344))?;
     for row in &rows {
         let (domain, address, _) = *row;
         assert!(rt; holds(&memory, row), "domain {domain}, address {address}");
@@ -48,24 +57,9 @@ fn smaller_stores_change_their_own_bytes_alone(rt: HostRuntime) -> Result<(), Fa
         (15, 0x0000_0000, 0x00),
     ];
     let mut memory = FlatMemory::new(rt.alloc())?;
-    let word = Pending {
-        address: 0xffff_fffc,
-        size: 4,
-        value: 0x1122_3344,
-    };
-    let half = Pending {
-        address: 0xffff_fffc,
-        size: 2,
-        value: 0x9988_5566,
-    };
-    let byte = Pending {
-        address: 0xffff_ffff,
-        size: 1,
-        value: 0x9988_7777,
-    };
-    memory.store(15, word)?;
-    memory.store(15, half)?;
-    memory.store(15, byte)?;
+    memory.store(15, store(0xffff_fffc, 4, 0x1122_3344))?;
+    memory.store(15, store(0xffff_fffc, 2, 0x9988_5566))?;
+    memory.store(15, store(0xffff_ffff, 1, 0x9988_7777))?;
     for row in &rows {
         let (domain, address, _) = *row;
         assert!(rt; holds(&memory, row), "domain {domain}, address {address}");
@@ -85,13 +79,8 @@ fn the_pages_of_a_span_become_zero_and_no_others(rt: HostRuntime) -> Result<(), 
     ];
     let mut memory = FlatMemory::new(rt.alloc())?;
     for (domain, address, _) in &rows {
-        let byte = Pending {
-            address: *address,
-            size: 1,
-            value: 0xaa,
-        };
         if *domain < 16 {
-            memory.store(*domain, byte)?;
+            memory.store(*domain, store(*address, 1, 0xaa))?;
         }
     }
     let span = Span {

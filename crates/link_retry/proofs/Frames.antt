@@ -6,14 +6,14 @@ use Rattle.std.specs.List.Sorted.{IsStrictlyIncreasing}
 use Rattle.std.proofs.lemmas.List.Elements.{All-append, All-take, All-drop, All-push}
 use Rattle.std.proofs.lemmas.List.FromFn.{length-range_with_len, get_or-range_with_len}
 use Rattle.std.proofs.lemmas.Option.{get_or_from_slice_get, slice_get_within}
-use Rattle.link_retry.specs.Wire.{frame_at, without, with_frame}
+use Rattle.link_retry.specs.Wire.{frame_at, without_frame, with_frame}
 
-pub All-without : (P : ℕ → Type 0) (wire : List ℕ) (k : ℕ) → All P wire → All P (without wire k)
+pub All-without : (P : ℕ → Type 0) (wire : List ℕ) (k : ℕ) → All P wire → All P (without_frame wire k)
 All-without P wire k h =
     let i : ℕ = k % length wire in
     All-append P (take i wire) (drop (suc i) wire) (All-take P i wire h) (All-drop P (suc i) wire h)
 
-pub length-without : (wire : List ℕ) (k : ℕ) → length (without wire k) ≤ length wire
+pub length-without : (wire : List ℕ) (k : ℕ) → length (without_frame wire k) ≤ length wire
 length-without wire k =
     omega (arith, length-append (take (k % length wire) wire) (drop (suc (k % length wire)) wire), length-take (k % length wire) wire, length-drop (suc (k % length wire)) wire)
 

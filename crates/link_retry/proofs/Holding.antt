@@ -4,17 +4,17 @@ use Rattle.std.specs.Prelude.{All, Some, Result, Ok, Err, OnOk}
 use Rattle.std.specs.List.{range_with_len}
 use Rattle.std.proofs.lemmas.List.Elements.{All-append}
 use Rattle.std.proofs.lemmas.List.FromFn.{length-range_with_len}
-use Rattle.link_retry.specs.Wire.{frame_at, without, with_frame}
+use Rattle.link_retry.specs.Wire.{frame_at, without_frame, with_frame}
 use Rattle.link_retry.specs.Link.{LinkView, IsLink, expected}
 use Rattle.link_retry.specs.GoBackN.{all_kept, after_resend}
-use Rattle.link_retry.specs.Kept.{view_of, IsKept}
+use Rattle.link_retry.specs.Kept.{link_view, IsKeptLink}
 use Rattle.link_retry.proofs.Frames.{All-without, length-without, All-with_frame, length-with_frame, All-range, at_frame}
 
 -- the expected number, as a link shows it
-pub expected-view_of : (first number : ℕ) (pending : List (List ℕ)) (messages acks : List ℕ) → expected (view_of first number pending messages acks) ≡ number
+pub expected-view_of : (first number : ℕ) (pending : List (List ℕ)) (messages acks : List ℕ) → expected (link_view first number pending messages acks) ≡ number
 expected-view_of first number pending messages acks = omega arith
 
-pub is_link : {first number : ℕ} {pending : List (List ℕ)} {messages acks : List ℕ} → IsKept first number pending messages acks → IsLink (view_of first number pending messages acks)
+pub is_link : {first number : ℕ} {pending : List (List ℕ)} {messages acks : List ℕ} → IsKeptLink first number pending messages acks → IsLink (link_view first number pending messages acks)
 is_link {first} {number} {pending} {messages} {acks} h =
     let from : first ≤ number = h.from in
     record {
@@ -27,8 +27,8 @@ is_link {first} {number} {pending} {messages} {acks} h =
       acks = h.acks_fit;
     }
 
-pub message_out : {first number : ℕ} {pending : List (List ℕ)} {messages acks : List ℕ} → IsKept first number pending messages acks → (k : ℕ) (wire : List ℕ) → wire ≡ without messages k → IsKept first number pending wire acks
-message_out {first} {number} {pending} {messages} {acks} h k wire e = subst (λ (w : List ℕ). IsKept first number pending w acks) (sym e) record {
+pub message_out : {first number : ℕ} {pending : List (List ℕ)} {messages acks : List ℕ} → IsKeptLink first number pending messages acks → (k : ℕ) (wire : List ℕ) → wire ≡ without_frame messages k → IsKeptLink first number pending wire acks
+message_out {first} {number} {pending} {messages} {acks} h k wire e = subst (λ (w : List ℕ). IsKeptLink first number pending w acks) (sym e) record {
   from = h.from;
   next = h.next;
   message_numbers = All-without (λ x. x < number + length pending) messages k h.message_numbers;
@@ -37,8 +37,8 @@ message_out {first} {number} {pending} {messages} {acks} h k wire e = subst (λ 
   acks_fit = h.acks_fit;
 }
 
-pub ack_out : {first number : ℕ} {pending : List (List ℕ)} {messages acks : List ℕ} → IsKept first number pending messages acks → (k : ℕ) (wire : List ℕ) → wire ≡ without acks k → IsKept first number pending messages wire
-ack_out {first} {number} {pending} {messages} {acks} h k wire e = subst (λ (w : List ℕ). IsKept first number pending messages w) (sym e) record {
+pub ack_out : {first number : ℕ} {pending : List (List ℕ)} {messages acks : List ℕ} → IsKeptLink first number pending messages acks → (k : ℕ) (wire : List ℕ) → wire ≡ without_frame acks k → IsKeptLink first number pending messages wire
+ack_out {first} {number} {pending} {messages} {acks} h k wire e = subst (λ (w : List ℕ). IsKeptLink first number pending messages w) (sym e) record {
   from = h.from;
   next = h.next;
   message_numbers = h.message_numbers;
@@ -47,8 +47,8 @@ ack_out {first} {number} {pending} {messages} {acks} h k wire e = subst (λ (w :
   acks_fit = let fits : length acks ≤ 64 = h.acks_fit in omega (arith, length-without acks k);
 }
 
-pub ack_put : {first number : ℕ} {pending : List (List ℕ)} {messages acks : List ℕ} → IsKept first number pending messages acks → (wire : List ℕ) → wire ≡ with_frame acks number → IsKept first number pending messages wire
-ack_put {first} {number} {pending} {messages} {acks} h wire e = subst (λ (w : List ℕ). IsKept first number pending messages w) (sym e) record {
+pub ack_put : {first number : ℕ} {pending : List (List ℕ)} {messages acks : List ℕ} → IsKeptLink first number pending messages acks → (wire : List ℕ) → wire ≡ with_frame acks number → IsKeptLink first number pending messages wire
+ack_put {first} {number} {pending} {messages} {acks} h wire e = subst (λ (w : List ℕ). IsKeptLink first number pending messages w) (sym e) record {
   from = h.from;
   next = h.next;
   message_numbers = h.message_numbers;
@@ -58,10 +58,10 @@ ack_put {first} {number} {pending} {messages} {acks} h wire e = subst (λ (w : L
 }
 
 -- frames of kept messages are put on the message wire
-pub resent : {first number : ℕ} {pending : List (List ℕ)} {messages acks : List ℕ} → IsKept first number pending messages acks → (n : ℕ) (wire : List ℕ) → n ≤ number + length pending - first → length messages + n ≤ 64 → wire ≡ messages ++ range_with_len first n → IsKept first number pending wire acks
+pub resent : {first number : ℕ} {pending : List (List ℕ)} {messages acks : List ℕ} → IsKeptLink first number pending messages acks → (n : ℕ) (wire : List ℕ) → n ≤ number + length pending - first → length messages + n ≤ 64 → wire ≡ messages ++ range_with_len first n → IsKeptLink first number pending wire acks
 resent {first} {number} {pending} {messages} {acks} h n wire few room e =
     let from : first ≤ number = h.from in
-    subst (λ (w : List ℕ). IsKept first number pending w acks) (sym e) record {
+    subst (λ (w : List ℕ). IsKeptLink first number pending w acks) (sym e) record {
       from = h.from;
       next = h.next;
       message_numbers = All-append (λ x. x < number + length pending) messages (range_with_len first n) h.message_numbers (All-range (λ x. x < number + length pending) first n (λ x a b. omega arith));
@@ -71,15 +71,15 @@ resent {first} {number} {pending} {messages} {acks} h n wire few room e =
     }
 
 -- an acknowledgement passes no expected number
-acked_frame : {first number : ℕ} {pending : List (List ℕ)} {messages acks : List ℕ} → IsKept first number pending messages acks → (k n : ℕ) → frame_at acks k ≡ Some n → n ≤ number
+acked_frame : {first number : ℕ} {pending : List (List ℕ)} {messages acks : List ℕ} → IsKeptLink first number pending messages acks → (k n : ℕ) → frame_at acks k ≡ Some n → n ≤ number
 acked_frame {first} {number} {pending} {messages} {acks} h k n e = at_frame (λ x. x ≤ number) acks k n h.ack_numbers e
 
 -- an acknowledgement was delivered
-pub acked : {first number : ℕ} {pending : List (List ℕ)} {messages acks : List ℕ} → IsKept first number pending messages acks → (k n later : ℕ) (wire : List ℕ) → frame_at acks k ≡ Some n → later ≡ max first n → wire ≡ without acks k → IsKept later number pending messages wire
+pub acked : {first number : ℕ} {pending : List (List ℕ)} {messages acks : List ℕ} → IsKeptLink first number pending messages acks → (k n later : ℕ) (wire : List ℕ) → frame_at acks k ≡ Some n → later ≡ max first n → wire ≡ without_frame acks k → IsKeptLink later number pending messages wire
 acked {first} {number} {pending} {messages} {acks} h k n later wire named is e =
     let from : first ≤ number = h.from in
     let below : n ≤ number = acked_frame h k n named in
-    let out : IsKept first number pending messages wire = ack_out h k wire e in
+    let out : IsKeptLink first number pending messages wire = ack_out h k wire e in
     record {
       from = omega arith;
       next = h.next;
@@ -90,13 +90,13 @@ acked {first} {number} {pending} {messages} {acks} h k n later wire named is e =
     }
 
 -- frames of all kept messages were put
-put_all : (first number : ℕ) (pending : List (List ℕ)) (messages acks : List ℕ) (count : ℕ) (wire : List ℕ) → first ≤ number → count ≡ min (64 - length messages) (number + length pending - first) → wire ≡ messages ++ range_with_len first count → view_of first number pending wire acks ≡ after_resend (view_of first number pending messages acks)
+put_all : (first number : ℕ) (pending : List (List ℕ)) (messages acks : List ℕ) (count : ℕ) (wire : List ℕ) → first ≤ number → count ≡ min (64 - length messages) (number + length pending - first) → wire ≡ messages ++ range_with_len first count → link_view first number pending wire acks ≡ after_resend (link_view first number pending messages acks)
 put_all first number pending messages acks count wire from whole e =
     let same : first ≡ number + length pending - (number + length pending - first) = omega arith in
-    let frames : range_with_len first count ≡ all_kept (view_of first number pending messages acks) = λ i. range_with_len (same i) (whole i) in
-    let put : wire ≡ messages ++ all_kept (view_of first number pending messages acks) = e ∙ ap (λ (xs : List ℕ). messages ++ xs) frames in
+    let frames : range_with_len first count ≡ all_kept (link_view first number pending messages acks) = λ i. range_with_len (same i) (whole i) in
+    let put : wire ≡ messages ++ all_kept (link_view first number pending messages acks) = e ∙ ap (λ (xs : List ℕ). messages ++ xs) frames in
     λ i. record { pending = pending; next = number + length pending; kept = number + length pending - first; messages = put i; acks = acks }
 
-pub resent_view : {T E : Type 0} {first number : ℕ} {pending : List (List ℕ)} {messages acks : List ℕ} (r : Result T E) (old : LinkView) (count : ℕ) (wire : List ℕ) → IsKept first number pending messages acks → view_of first number pending messages acks ≡ old → OnOk r (wire ≡ messages ++ range_with_len first count) → count ≡ min (64 - length messages) (number + length pending - first) → OnOk r (view_of first number pending wire acks ≡ after_resend old)
+pub resent_view : {T E : Type 0} {first number : ℕ} {pending : List (List ℕ)} {messages acks : List ℕ} (r : Result T E) (old : LinkView) (count : ℕ) (wire : List ℕ) → IsKeptLink first number pending messages acks → link_view first number pending messages acks ≡ old → OnOk r (wire ≡ messages ++ range_with_len first count) → count ≡ min (64 - length messages) (number + length pending - first) → OnOk r (link_view first number pending wire acks ≡ after_resend old)
 resent_view {T} {E} {first} {number} {pending} {messages} {acks} (Ok x) old count wire h viewed e whole = put_all first number pending messages acks count wire h.from whole e ∙ ap after_resend viewed
 resent_view (Err x) old count wire h viewed e whole = e

@@ -4,11 +4,11 @@ use Rattle.std.specs.Prelude.{Option, Some, None, Result, Ok, Err, OnOk, OnErr}
 use Rattle.std.specs.List.{range_with_len}
 use Rattle.std.proofs.lemmas.Bool.{cases_eq, ne_eqb}
 use Rattle.std.proofs.lemmas.List.FromFn.{length-range_with_len}
-use Rattle.link_retry.specs.Wire.{frame_at, without, with_frame, PutsSome}
+use Rattle.link_retry.specs.Wire.{frame_at, without_frame, with_frame, PutsSome}
 use Rattle.mind_base.specs.declared.links.Side.{Side}
 use Rattle.mind_base.specs.declared.links.Side.TheVariants.{Messages, Acks}
-use Rattle.link_retry.specs.Link.{LinkView, IsLink, expected, first_kept, Receives, Acknowledges, Delivers, DeliversMessage, DeliversAck, AreResent}
-use Rattle.link_retry.specs.GoBackN.{handed_over, after_message, after_ack, TakesFrame, TakesAck, DeliversInOrder, all_kept}
+use Rattle.link_retry.specs.Link.{LinkView, IsLink, expected, first_kept, FrameReceives, Acknowledges, FrameDelivers, DeliversMessage, DeliversAck, AreResent}
+use Rattle.link_retry.specs.GoBackN.{handed_over, link_after_message, after_ack, TakesFrame, TakesAck, DeliversInOrder, all_kept}
 use Rattle.link_retry.proofs.Frames.{All-range, IsStrictlyIncreasing-range, slice_get-range, at_frame}
 
 -- the expected message is handed over
@@ -28,7 +28,7 @@ one_less [] h = absurd (omega arith)
 one_less (x ∷ xs) h = (omega arith, omega arith)
 
 -- the frame that is expected
-receives_expected : (old : LinkView) (k number : ℕ) → IsLink old → number < old.next → number ≡ expected old → Receives old k number (take 1 old.pending) (record old { pending = drop (length (take 1 old.pending)) old.pending; messages = without old.messages k; acks = with_frame old.acks (old.next - length (drop (length (take 1 old.pending)) old.pending)) })
+receives_expected : (old : LinkView) (k number : ℕ) → IsLink old → number < old.next → number ≡ expected old → FrameReceives old k number (take 1 old.pending) (record old { pending = drop (length (take 1 old.pending)) old.pending; messages = without_frame old.messages k; acks = with_frame old.acks (old.next - length (drop (length (take 1 old.pending)) old.pending)) })
 receives_expected old k number link sent same =
     let some : 0 < length old.pending = omega arith in
     let less = one_less old.pending some in
@@ -45,7 +45,7 @@ receives_expected old k number link sent same =
     }
 
 -- any other frame
-receives_other : (old : LinkView) (k number : ℕ) → IsLink old → (number ≡ expected old → ⊥) → Receives old k number [] (record old { messages = without old.messages k; acks = with_frame old.acks (expected old) })
+receives_other : (old : LinkView) (k number : ℕ) → IsLink old → (number ≡ expected old → ⊥) → FrameReceives old k number [] (record old { messages = without_frame old.messages k; acks = with_frame old.acks (expected old) })
 receives_other old k number link other =
     let kept : length old.pending ≤ old.kept = link.pending in
     let upto : old.kept ≤ old.next = link.kept in
@@ -63,22 +63,22 @@ receives_other old k number link other =
 abbrev after_handing : LinkView → ℕ → List (List ℕ) → LinkView
 after_handing old k taken = record old {
   pending = drop (length taken) old.pending;
-  messages = without old.messages k;
+  messages = without_frame old.messages k;
   acks = with_frame old.acks (old.next - length (drop (length taken) old.pending));
 }
 
-receives : (old : LinkView) (k number : ℕ) → IsLink old → number < old.next → Receives old k number (handed_over old number) (after_message old k number)
+receives : (old : LinkView) (k number : ℕ) → IsLink old → number < old.next → FrameReceives old k number (handed_over old number) (link_after_message old k number)
 receives old k number link sent = elim (cases_eq number (expected old)) [
-  | inl same ↦ subst (λ (t : List (List ℕ)). Receives old k number t (after_handing old k t)) (sym (handed_over_expected old number same)) (receives_expected old k number link sent same)
-  | inr other ↦ subst (λ (t : List (List ℕ)). Receives old k number t (after_handing old k t)) (sym (handed_over_other old number other)) (receives_other old k number link other)
+  | inl same ↦ subst (λ (t : List (List ℕ)). FrameReceives old k number t (after_handing old k t)) (sym (handed_over_expected old number same)) (receives_expected old k number link sent same)
+  | inr other ↦ subst (λ (t : List (List ℕ)). FrameReceives old k number t (after_handing old k t)) (sym (handed_over_other old number other)) (receives_other old k number link other)
 ]
 
 takes_frame : (old : LinkView) (k : ℕ) (frame : Option ℕ) (taken : List (List ℕ)) (new : LinkView) → IsLink old → frame_at old.messages k ≡ frame → TakesFrame old k frame taken new → DeliversMessage old k frame taken new
 takes_frame old k None taken new link named d = d
 takes_frame old k (Some number) taken new link named d =
     let sent : number < old.next = at_frame (λ x. x < old.next) old.messages k number link.message_numbers named in
-    subst (λ (t : List (List ℕ)). Receives old k number t new) (sym d.0)
-    (subst (λ (l : LinkView). Receives old k number (handed_over old number) l) (sym d.1) (receives old k number link sent))
+    subst (λ (t : List (List ℕ)). FrameReceives old k number t new) (sym d.0)
+    (subst (λ (l : LinkView). FrameReceives old k number (handed_over old number) l) (sym d.1) (receives old k number link sent))
 
 -- an acknowledgement
 acknowledges : (old : LinkView) (k number : ℕ) → IsLink old → number ≤ expected old → Acknowledges old k number [] (after_ack old k number)
@@ -101,7 +101,7 @@ takes_ack old k (Some number) taken new link named d =
     subst (λ (t : List (List ℕ)). Acknowledges old k number t new) (sym d.0)
     (subst (λ (l : LinkView). Acknowledges old k number [] l) (sym d.1) (acknowledges old k number link below))
 
-pub delivers : (old : LinkView) (side : Side) (k : ℕ) (taken : List (List ℕ)) (new : LinkView) → IsLink old → DeliversInOrder old side k taken new → Delivers old side k taken new
+pub delivers : (old : LinkView) (side : Side) (k : ℕ) (taken : List (List ℕ)) (new : LinkView) → IsLink old → DeliversInOrder old side k taken new → FrameDelivers old side k taken new
 delivers old Messages k taken new link d = takes_frame old k (frame_at old.messages k) taken new link refl d
 delivers old Acks k taken new link d = takes_ack old k (frame_at old.acks k) taken new link refl d
 

@@ -4,8 +4,8 @@ use Rattle.std.specs.Prelude.{ℕ, ◌+◌, ◌-◌, ◌<◌, ◌≤◌, ◌^◌
 use Rattle.link_retry.specs.Link.{LinkView}
 
 -- the first pending message has the expected number
-abbrev pub view_of : ℕ → ℕ → List (List ℕ) → List ℕ → List ℕ → LinkView
-view_of first expected pending messages acks = record {
+abbrev pub link_view : ℕ → ℕ → List (List ℕ) → List ℕ → List ℕ → LinkView
+link_view first expected pending messages acks = record {
   pending = pending;
   next = expected + length pending;
   kept = expected + length pending - first;
@@ -15,7 +15,7 @@ view_of first expected pending messages acks = record {
 
 -- the expected number is that of a kept message, or of the next one; frames have numbers that were sent,
 -- acknowledgements none that is past the expected one, and no wire has more than 64 frames
-pub record IsKept (first expected : ℕ) (pending : List (List ℕ)) (messages acks : List ℕ) : Type 0 where
+pub record IsKeptLink (first expected : ℕ) (pending : List (List ℕ)) (messages acks : List ℕ) : Type 0 where
   pub from : first ≤ expected
   pub next : expected + length pending < 2 ^ 32
   pub message_numbers : All (λ number. number < expected + length pending) messages

@@ -4,7 +4,7 @@ use Rattle.std.specs.Prelude.{◌≡◌, ℕ, ◌+◌, ◌-◌, ◌<◌, ◌≤�
 use Rattle.std.specs.List.Sorted.{IsStrictlyIncreasing}
 use Rattle.mind_base.specs.declared.links.Side.{Side}
 use Rattle.mind_base.specs.declared.links.Side.TheVariants.{Messages, Acks}
-use Rattle.link_retry.specs.Wire.{frame_at, without, with_frame, with_copy}
+use Rattle.link_retry.specs.Wire.{frame_at, without_frame, with_frame, with_copy}
 
 -- the messages sent and not yet taken, in order; the number of the next message; how many messages
 -- the sender keeps; the message wire, of message numbers; the acknowledgement wire, of next expected numbers
@@ -59,13 +59,13 @@ with_wire link Messages wire = record link { messages = wire }
 with_wire link Acks wire = record link { acks = wire }
 
 abbrev pub after_lose : LinkView → Side → ℕ → LinkView
-after_lose link side k = with_wire link side (without (wire_of link side) k)
+after_lose link side k = with_wire link side (without_frame (wire_of link side) k)
 
 abbrev pub after_repeat : LinkView → Side → ℕ → LinkView
 after_repeat link side k = with_wire link side (with_copy (wire_of link side) k)
 
 -- What `deliver` of the message frame that k names does, which has this number.
-pub record Receives (old : LinkView) (k number : ℕ) (taken : List (List ℕ)) (new : LinkView) : Type 0 where
+pub record FrameReceives (old : LinkView) (k number : ℕ) (taken : List (List ℕ)) (new : LinkView) : Type 0 where
   -- what is taken is a prefix of what was pending, and leaves it
   pub prefix : old.pending ≡ taken ++ new.pending
   -- a message is taken exactly where the frame has the number of the first pending one
@@ -73,7 +73,7 @@ pub record Receives (old : LinkView) (k number : ℕ) (taken : List (List ℕ)) 
   -- the expected number passes that of a frame whose number is at most that of the first kept message
   pub passes : number ≤ first_kept old → number < expected new
   -- the frame leaves the wire, and the expected number is acknowledged
-  pub messages : new.messages ≡ without old.messages k
+  pub messages : new.messages ≡ without_frame old.messages k
   pub acks : new.acks ≡ with_frame old.acks (expected new)
   pub next : new.next ≡ old.next
   pub kept : new.kept ≡ old.kept
@@ -89,7 +89,7 @@ pub record Acknowledges (old : LinkView) (k number : ℕ) (taken : List (List �
   pub falls : (new.kept < old.kept) ↔ (first_kept old < number)
   pub kept : new.kept ≡ left_kept old number
   -- it leaves the wire, and all else is as it was
-  pub acks : new.acks ≡ without old.acks k
+  pub acks : new.acks ≡ without_frame old.acks k
   pub pending : new.pending ≡ old.pending
   pub next : new.next ≡ old.next
   pub messages : new.messages ≡ old.messages
@@ -97,15 +97,15 @@ pub record Acknowledges (old : LinkView) (k number : ℕ) (taken : List (List �
 -- what `deliver` does, by the frame that is named: nothing where there is none
 abbrev pub DeliversMessage : LinkView → ℕ → Option ℕ → List (List ℕ) → LinkView → Type 0
 DeliversMessage old k None taken new = (taken ≡ []) × (new ≡ old)
-DeliversMessage old k (Some number) taken new = Receives old k number taken new
+DeliversMessage old k (Some number) taken new = FrameReceives old k number taken new
 
 abbrev pub DeliversAck : LinkView → ℕ → Option ℕ → List (List ℕ) → LinkView → Type 0
 DeliversAck old k None taken new = (taken ≡ []) × (new ≡ old)
 DeliversAck old k (Some number) taken new = Acknowledges old k number taken new
 
-abbrev pub Delivers : LinkView → Side → ℕ → List (List ℕ) → LinkView → Type 0
-Delivers old Messages k taken new = DeliversMessage old k (frame_at old.messages k) taken new
-Delivers old Acks k taken new = DeliversAck old k (frame_at old.acks k) taken new
+abbrev pub FrameDelivers : LinkView → Side → ℕ → List (List ℕ) → LinkView → Type 0
+FrameDelivers old Messages k taken new = DeliversMessage old k (frame_at old.messages k) taken new
+FrameDelivers old Acks k taken new = DeliversAck old k (frame_at old.acks k) taken new
 
 -- frames that `resend` may put at the end of the message wire
 pub record AreResent (link : LinkView) (frames : List ℕ) : Type 0 where

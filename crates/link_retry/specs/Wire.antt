@@ -7,8 +7,8 @@ abbrev pub frame_at : List ℕ → ℕ → Option ℕ
 frame_at wire k = slice_get wire (k % length wire)
 
 -- the wire when that frame was taken out
-abbrev pub without : List ℕ → ℕ → List ℕ
-without wire k = remove wire (k % length wire)
+abbrev pub without_frame : List ℕ → ℕ → List ℕ
+without_frame wire k = remove wire (k % length wire)
 
 -- the wire with a frame put at its end; a frame put on a wire of 64 frames is lost
 abbrev pub with_frame : List ℕ → ℕ → List ℕ

@@ -1,3 +1,5 @@
+//! A link whose wires lose and repeat frames, and which gives each message once, in order.
+
 ghost use Rattle.std.specs.Prelude.{◌≡◌, ◌↔◌, ◌++◌, [], map, length, IsTrue, IfOk, OnOk};
 
 use crate::wires::{CAPACITY, put, put_copy, put_rising, take_out};
@@ -29,20 +31,20 @@ pub struct Link {
 impl Model for Link {
     ghost use Rattle.std.specs.Prelude.{map};
     ghost use Rattle.link_retry.specs.Link.{LinkView};
-    ghost use Rattle.link_retry.specs.Kept.{view_of, IsKept};
+    ghost use Rattle.link_retry.specs.Kept.{link_view, IsKeptLink};
 
     ghost Value = { LinkView };
 
-    ghost view = { λ l. view_of l.first l.expected (map (λ v. v.items) l.pending.items) l.messages.items l.acks.items };
+    ghost view = { λ l. link_view l.first l.expected (map (λ v. v.items) l.pending.items) l.messages.items l.acks.items };
 
-    ghost invariant = { λ l. IsKept l.first l.expected (map (λ v. v.items) l.pending.items) l.messages.items l.acks.items };
+    ghost invariant = { λ l. IsKeptLink l.first l.expected (map (λ v. v.items) l.pending.items) l.messages.items l.acks.items };
 }
 
 impl Link {
     ghost use Rattle.mind_base.specs.declared.links.Side.TheVariants.{Messages, Acks};
     ghost use Rattle.mind_base.specs.declared.failures.Stop.TheVariants.{Spent};
     ghost use Rattle.std.specs.Prelude.{Err};
-    ghost use Rattle.link_retry.specs.Link.{IsLink, AreResent, new_link, after_send, wire_of, after_lose, after_repeat, Delivers, Resends};
+    ghost use Rattle.link_retry.specs.Link.{IsLink, AreResent, new_link, after_send, wire_of, after_lose, after_repeat, FrameDelivers, Resends};
     ghost use Rattle.link_retry.specs.GoBackN.{DeliversInOrder, after_frame, handed_over, all_kept, after_resend};
 
     /// A link that nothing was sent on.
@@ -88,7 +90,7 @@ impl Link {
     /// gives the messages that the receiver takes.
     pub fn deliver(&mut self, side: Side, k: u32) -> Result<Vec<Vec<u8>>, NoMemory>
         // What every protocol that keeps the order does, and what go-back-N does.
-        ensures ok { IfOk result (λ taken. Delivers self.old side k (map (λ v. v.items) taken.items) self.new) }
+        ensures ok { IfOk result (λ taken. FrameDelivers self.old side k (map (λ v. v.items) taken.items) self.new) }
         ensures go_back_n { IfOk result (λ taken. DeliversInOrder self.old side k (map (λ v. v.items) taken.items) self.new) }
         ensures link { IsLink self.new }
     {

@@ -1,3 +1,5 @@
+//! Frames that are lost, repeated and come early, by rows.
+
 use crate::Link;
 use mind_base::Side;
 use std::alloc::Global;

@@ -1,6 +1,8 @@
+//! A wire of at most 64 frames.
+
 ghost use Rattle.std.specs.Prelude.{◌≡◌, ◌+◌, ◌≤◌, ◌++◌, length, OnOk, OnErr};
 ghost use Rattle.std.specs.List.{range_with_len};
-ghost use Rattle.link_retry.specs.Wire.{frame_at, without, with_frame, with_copy, PutsSome};
+ghost use Rattle.link_retry.specs.Wire.{frame_at, without_frame, with_frame, with_copy, PutsSome};
 
 use mind_base::NoMemory;
 
@@ -22,7 +24,7 @@ pub fn put(wire: &mut Vec<u32>, number: u32) -> Result<(), NoMemory>
 /// is empty.
 pub fn take_out(wire: &mut Vec<u32>, k: u32) -> Option<u32>
     ensures frame { result ≡ frame_at wire.old.items k }
-    ensures wire { wire.new.items ≡ without wire.old.items k }
+    ensures wire { wire.new.items ≡ without_frame wire.old.items k }
 {
     if wire.is_empty() {
         return None;

@@ -20,10 +20,10 @@ abbrev pub with_zeros : List PageImageView → ℕ → ℕ → List PageImageVie
 with_zeros images phys pages = take phys images ++ (replicate pages zero_image ++ drop (phys + pages) images)
 
 -- the images after the message
-abbrev pub after_message : List PageImageView → Msg → List PageImageView
-after_message images (Write phys image) = slice_set images phys image
-after_message images (Zero phys pages) = with_zeros images phys pages
-after_message images message = images
+abbrev pub images_after : List PageImageView → Msg → List PageImageView
+images_after images (Write phys image) = slice_set images phys image
+images_after images (Zero phys pages) = with_zeros images phys pages
+images_after images message = images
 
 -- what the blade answers: the image that was asked for
 abbrev pub answer_to : List PageImageView → Msg → Option Msg

@@ -1,7 +1,9 @@
+//! A memory blade: the images of its pages, and what a message does to them.
+
 ghost use Rattle.std.specs.Prelude.{◌≡◌, ◌+◌, ◌<◌, ◌≤◌, length, replicate, slice_set, All, IfOk, IfSome, OnOk};
 ghost use Rattle.page_image.specs.PageImage.{IsPageImage, zero_image};
 ghost use Rattle.wire_msg.specs.WellFormed.{IsWellFormed};
-ghost use Rattle.memory_blade.specs.MemoryBlade.{IsFor, image_at, with_zeros, answer_to, after_message};
+ghost use Rattle.memory_blade.specs.MemoryBlade.{IsFor, image_at, with_zeros, answer_to, images_after};
 
 use crate::zeros::make_zero;
 use mind_base::NoMemory;
@@ -47,7 +49,7 @@ impl MemoryBlade {
     pub fn handle(&mut self, msg: Msg) -> Result<Option<Msg>, NoMemory>
         requires { IsFor (length self.old) msg }
         ensures answer { IfOk result (λ answer. answer ≡ answer_to self.old msg) }
-        ensures after { OnOk result (self.new ≡ after_message self.old msg) }
+        ensures after { OnOk result (self.new ≡ images_after self.old msg) }
         ensures length { length self.new ≡ length self.old }
         ensures shape { All IsPageImage self.new }
 

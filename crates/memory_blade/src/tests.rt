@@ -1,3 +1,5 @@
+//! Messages to a memory blade, by rows.
+
 ghost use Rattle.std.specs.Prelude.{◌≡◌, ◌<◌, length};
 ghost use Rattle.memory_blade.specs.MemoryBlade.{IsFor};
 

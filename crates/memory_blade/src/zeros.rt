@@ -1,3 +1,5 @@
+//! Images of zero, as many as a memory blade has pages.
+
 ghost use Rattle.std.specs.Prelude.{◌≡◌, ◌+◌, ◌≤◌, length, All, OnOk};
 ghost use Rattle.page_image.specs.PageImage.{IsPageImage};
 ghost use Rattle.memory_blade.specs.MemoryBlade.{with_zeros};

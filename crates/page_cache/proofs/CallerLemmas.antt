@@ -1,5 +1,5 @@
 -- What a caller's proof cites: which frame a page has after each call, and what the answers of a put tell.
-use Rattle.std.proofs.Common.{◌≡◌, ℕ, zero, suc, ◌-◌, ◌<◌, ◌≤◌, Bool, true, false, cond, List, [], ◌∷◌, ◌++◌, length, take, slice_get, Option, Some, None, option_map, refl, sym, ap, subst, ◌∙◌, arith}
+use Rattle.std.proofs.Common.{◌≡◌, ℕ, zero, suc, ◌+◌, ◌-◌, ◌<◌, ◌≤◌, Bool, true, false, cond, List, [], ◌∷◌, ◌++◌, length, take, slice_get, Option, Some, None, option_map, refl, sym, ap, subst, ◌∙◌, arith}
 use Rattle.std.specs.Cmp.{IsEquivalence}
 use Rattle.std.specs.Option.{option_map_or}
 use Rattle.std.specs.List.{IsDistinct}
@@ -8,7 +8,7 @@ use Rattle.std.proofs.lemmas.Map.{lookup-remove_entry, lookup-set_value}
 use Rattle.mind_base.specs.Page.{PageView}
 use Rattle.page_cache.specs.declared.frames.Frame.{Frame}
 use Rattle.page_cache.specs.declared.frames.Put.TheVariants.{Fresh, Replaced, Pushed}
-use Rattle.page_cache.specs.PageCache.{CacheView, IsPageCache, same_page, frame_of, without, with_first, with_change, entries_after_put, put_from, put_of}
+use Rattle.page_cache.specs.PageCache.{CacheView, IsPageCache, same_page, frame_of, without_page, with_first, with_change, entries_after_put, put_from, put_of}
 use Rattle.page_cache.proofs.Laws.{same_page-true, same_page-refl, same_Bool}
 
 same_page-flip : (a b : PageView) → same_page a b ≡ true → same_page b a ≡ true
@@ -31,7 +31,7 @@ absent page other entries true is h = ap (λ p. frame_of p entries) (sym (same_p
 absent page other entries false is h = refl
 
 -- a page that is taken out is held no more, and every other page as before
-pub frame_of-without : (page other : PageView) (entries : List (PageView × Frame)) → IsDistinct same_page (keys_of entries) → frame_of other (without page entries) ≡ cond (same_page page other) None (frame_of other entries)
+pub frame_of-without : (page other : PageView) (entries : List (PageView × Frame)) → IsDistinct same_page (keys_of entries) → frame_of other (without_page page entries) ≡ cond (same_page page other) None (frame_of other entries)
 frame_of-without page other entries distinct = lookup-remove_entry same_page-is_equivalence (same_page page) (one_page page) other entries distinct
 
 -- a page whose frame is changed in its place has the changed frame, and every other page its own
@@ -46,16 +46,16 @@ first_or page other frame entries true is = refl
 first_or page other frame entries false is = refl
 
 -- a page that goes first with another frame has that frame, and every other page its own
-pub frame_of-first : (page other : PageView) (frame : Frame) (entries : List (PageView × Frame)) → IsDistinct same_page (keys_of entries) → frame_of other ((page, frame) ∷ without page entries) ≡ cond (same_page page other) (Some frame) (frame_of other entries)
+pub frame_of-first : (page other : PageView) (frame : Frame) (entries : List (PageView × Frame)) → IsDistinct same_page (keys_of entries) → frame_of other ((page, frame) ∷ without_page page entries) ≡ cond (same_page page other) (Some frame) (frame_of other entries)
 frame_of-first page other frame entries distinct =
-    ap (λ b. cond b (Some frame) (frame_of other (without page entries))) (same_page-is_equivalence.symm other page)
+    ap (λ b. cond b (Some frame) (frame_of other (without_page page entries))) (same_page-is_equivalence.symm other page)
     ∙ (ap (λ rest. cond (same_page page other) (Some frame) rest) (frame_of-without page other entries distinct)
     ∙ first_or page other frame entries (same_page page other) refl)
 
 -- a page that is used has the changed frame, and every other page its own
 pub frame_of-with_first : (change : Frame → Frame) (page other : PageView) (entries : List (PageView × Frame)) → IsDistinct same_page (keys_of entries) → frame_of other (with_first change page entries) ≡ cond (same_page page other) (option_map change (frame_of page entries)) (frame_of other entries)
 frame_of-with_first change page other entries distinct = by_frame (frame_of page entries) refl where
-  by_frame : (found : Option Frame) → frame_of page entries ≡ found → frame_of other (option_map_or (λ frame. (page, change frame) ∷ without page entries) found entries) ≡ cond (same_page page other) (option_map change found) (frame_of other entries)
+  by_frame : (found : Option Frame) → frame_of page entries ≡ found → frame_of other (option_map_or (λ frame. (page, change frame) ∷ without_page page entries) found entries) ≡ cond (same_page page other) (option_map change found) (frame_of other entries)
   by_frame None h = absent page other entries (same_page page other) refl h
   by_frame (Some frame) h = frame_of-first page other (change frame) entries distinct
 
@@ -90,7 +90,7 @@ pushed_from (Some was) last page old h = let never : ⊥ = cc in absurd never
 
 -- the entries after a put, by the frame that the page had
 put_entries_by : CacheView → PageView → Frame → Option Frame → List (PageView × Frame)
-put_entries_by cache page frame found = option_map_or (λ old. (page, frame) ∷ without page cache.entries) found ((page, frame) ∷ take (cache.frames - 1) cache.entries)
+put_entries_by cache page frame found = option_map_or (λ old. (page, frame) ∷ without_page page cache.entries) found ((page, frame) ∷ take (cache.frames - 1) cache.entries)
 
 -- a fresh page was not held, and comes before all that were
 pub put_of-Fresh : (cache : CacheView) (page : PageView) (frame : Frame) → put_of cache page ≡ Fresh → (frame_of page cache.entries ≡ None) × (entries_after_put cache page frame ≡ (page, frame) ∷ cache.entries)
@@ -100,7 +100,7 @@ put_of-Fresh cache page frame h =
     (parts.0, ap (put_entries_by cache page frame) parts.0 ∙ ap (λ es. (page, frame) ∷ es) (take-empty cache.entries (cache.frames - 1) parts.1))
 
 -- a replaced frame was the page's
-pub put_of-Replaced : (cache : CacheView) (page : PageView) (frame old : Frame) → put_of cache page ≡ Replaced old → (frame_of page cache.entries ≡ Some old) × (entries_after_put cache page frame ≡ (page, frame) ∷ without page cache.entries)
+pub put_of-Replaced : (cache : CacheView) (page : PageView) (frame old : Frame) → put_of cache page ≡ Replaced old → (frame_of page cache.entries ≡ Some old) × (entries_after_put cache page frame ≡ (page, frame) ∷ without_page page cache.entries)
 unfolding put_entries_by
 put_of-Replaced cache page frame old h =
     let held : frame_of page cache.entries ≡ Some old = replaced_from (frame_of page cache.entries) (slice_get cache.entries (cache.frames - 1)) old h in
@@ -126,3 +126,12 @@ put_of-Pushed cache page frame out old is h =
       before = take-last cache.entries (cache.frames - 1) (out, old) parts.1 (omega arith);
       after = ap (put_entries_by cache page frame) parts.0;
     }
+
+-- a page that is held is one of the entries
+pub length-held : (page : PageView) (frame : Frame) (entries : List (PageView × Frame)) → frame_of page entries ≡ Some frame → length (without_page page entries) + 1 ≡ length entries
+length-held page frame [] h = let never : ⊥ = cc in absurd never
+length-held page frame (entry ∷ entries) h = by (length-held page frame entries) (same_page page entry.0) h where
+  by : (frame_of page entries ≡ Some frame → length (without_page page entries) + 1 ≡ length entries) → (b : Bool)
+      → cond b (Some entry.1) (frame_of page entries) ≡ Some frame → length (cond b entries (entry ∷ without_page page entries)) + 1 ≡ length (entry ∷ entries)
+  by rest true e = omega arith
+  by rest false e = omega (arith, rest e)

@@ -9,7 +9,7 @@ use Rattle.lru.specs.LruCache.{LruCache, lru_cache, promoted, put_entries, displ
 use Rattle.mind_base.specs.Page.{PageView}
 use Rattle.mind_base.specs.Span.{SpanView, InSpan, in_span}
 use Rattle.page_cache.specs.declared.frames.Frame.{Frame}
-use Rattle.page_cache.specs.PageCache.{CacheView, same_page, frame_of, without, with_first, entries_after_put, put_from, put_of, put_kind_of, oldest_of}
+use Rattle.page_cache.specs.PageCache.{CacheView, same_page, frame_of, without_page, with_first, entries_after_put, put_from, put_of, put_kind_of, oldest_of}
 
 -- pages that pass the test are one page
 pub same_page-true : (a b : PageView) → same_page a b ≡ true → a ≡ b
@@ -31,7 +31,7 @@ lookup_entry-frame_of page (entry ∷ entries) =
       | false ↦ λ h. lookup_entry-frame_of page entries
     ]) refl
 
-promoted_from : (page : PageView) (entries : List (PageView × Frame)) (found : Option Frame) → option_map_or (λ entry. entry ∷ without page entries) (option_map (λ frame. (page, frame)) found) entries ≡ option_map_or (λ frame. (page, frame) ∷ without page entries) found entries
+promoted_from : (page : PageView) (entries : List (PageView × Frame)) (found : Option Frame) → option_map_or (λ entry. entry ∷ without_page page entries) (option_map (λ frame. (page, frame)) found) entries ≡ option_map_or (λ frame. (page, frame) ∷ without_page page entries) found entries
 promoted_from page entries None = refl
 promoted_from page entries (Some frame) = refl
 
@@ -47,7 +47,7 @@ touched page held new old was is =
     let frames : new.cap ≡ old.frames = ap (λ h. h.cap) is ∙ ap (λ (v : CacheView). v.frames) was in
     λ i. record { entries = entries i; frames = frames i }
 
-set_from : (page : PageView) (entries : List (PageView × Frame)) (change : Frame → Frame) (frame : Frame) (found : Option Frame) → found ≡ Some frame → set_value (same_page page) (option_map_or (λ frame. (page, frame) ∷ without page entries) found entries) (change frame) ≡ option_map_or (λ frame. (page, change frame) ∷ without page entries) found entries
+set_from : (page : PageView) (entries : List (PageView × Frame)) (change : Frame → Frame) (frame : Frame) (found : Option Frame) → found ≡ Some frame → set_value (same_page page) (option_map_or (λ frame. (page, frame) ∷ without_page page entries) found entries) (change frame) ≡ option_map_or (λ frame. (page, change frame) ∷ without_page page entries) found entries
 set_from page entries change frame None h = cc
 set_from page entries change frame (Some old) h = let same : old ≡ frame = cc in rw (same_page-refl page, same) refl
 
@@ -57,23 +57,23 @@ set_value-promoted page entries change frame h = rw promoted-with_first (set_fro
 
 -- a page that is not held changes nothing
 pub with_first-absent : (page : PageView) (entries : List (PageView × Frame)) (change : Frame → Frame) → frame_of page entries ≡ None → with_first change page entries ≡ entries
-with_first-absent page entries change h = ap (λ found. option_map_or (λ frame. (page, change frame) ∷ without page entries) found entries) h
+with_first-absent page entries change h = ap (λ found. option_map_or (λ frame. (page, change frame) ∷ without_page page entries) found entries) h
 
 -- without a page that is not held, the entries are the same
-pub without_absent : (page : PageView) (entries : List (PageView × Frame)) → frame_of page entries ≡ None → without page entries ≡ entries
+pub without_absent : (page : PageView) (entries : List (PageView × Frame)) → frame_of page entries ≡ None → without_page page entries ≡ entries
 without_absent page [] h = refl
 without_absent page (entry ∷ entries) h =
-    (elim (same_page page entry.0) as (λ b. cond b (Some entry.1) (frame_of page entries) ≡ None → cond b entries (entry ∷ without page entries) ≡ entry ∷ entries) [
+    (elim (same_page page entry.0) as (λ b. cond b (Some entry.1) (frame_of page entries) ≡ None → cond b entries (entry ∷ without_page page entries) ≡ entry ∷ entries) [
       | true ↦ λ n. cc
       | false ↦ λ n. ap (λ es. entry ∷ es) (without_absent page entries n)
     ]) h
 
 -- a cache from which nothing was taken is the same
-pub taken_none : (page : PageView) (old new : CacheView) (found : Option Frame) → found ≡ frame_of page old.entries → new ≡ record old { entries = without page old.entries } → IfNone found (new ≡ old)
+pub taken_none : (page : PageView) (old new : CacheView) (found : Option Frame) → found ≡ frame_of page old.entries → new ≡ record old { entries = without_page page old.entries } → IfNone found (new ≡ old)
 taken_none page old new None is after = after ∙ ap (λ es. record old { entries = es }) (without_absent page old.entries (sym is))
 taken_none page old new (Some frame) is after = tt
 
-put_entries_from : (cache : CacheView) (page : PageView) (frame : Frame) (found : Option Frame) → option_map_or (λ (entry : PageView × Frame). (entry.0, frame) ∷ without page cache.entries) (option_map (λ old. (page, old)) found) ((page, frame) ∷ take (cache.frames - 1) cache.entries) ≡ option_map_or (λ old. (page, frame) ∷ without page cache.entries) found ((page, frame) ∷ take (cache.frames - 1) cache.entries)
+put_entries_from : (cache : CacheView) (page : PageView) (frame : Frame) (found : Option Frame) → option_map_or (λ (entry : PageView × Frame). (entry.0, frame) ∷ without_page page cache.entries) (option_map (λ old. (page, old)) found) ((page, frame) ∷ take (cache.frames - 1) cache.entries) ≡ option_map_or (λ old. (page, frame) ∷ without_page page cache.entries) found ((page, frame) ∷ take (cache.frames - 1) cache.entries)
 put_entries_from cache page frame None = refl
 put_entries_from cache page frame (Some old) = refl
 

@@ -9,6 +9,8 @@ use Rattle.page_image.specs.PageImage.{image_after}
 use Rattle.page_cache.specs.declared.frames.Frame.{Frame}
 use Rattle.page_cache.specs.declared.frames.Put.{Put}
 use Rattle.page_cache.specs.declared.frames.Put.TheVariants.{Fresh, Replaced, Pushed}
+use Rattle.page_cache.specs.declared.frames.Which.{Which}
+use Rattle.page_cache.specs.declared.frames.Which.TheVariants.{Held, Writable}
 
 -- the pages and their frames, the most recently used first, and how many there may be
 pub record CacheView : Type 0 where
@@ -29,13 +31,18 @@ pub record IsPageCache (cache : CacheView) : Type 0 where
 abbrev pub frame_of : PageView → List (PageView × Frame) → Option Frame
 frame_of page entries = lookup (same_page page) entries
 
+-- it is held, and may be written
+abbrev pub is_writable : Option Frame → Bool
+is_writable None = false
+is_writable (Some frame) = frame.writable
+
 -- the entries without that of a page
-abbrev pub without : PageView → List (PageView × Frame) → List (PageView × Frame)
-without page entries = remove_entry (same_page page) entries
+abbrev pub without_page : PageView → List (PageView × Frame) → List (PageView × Frame)
+without_page page entries = remove_entry (same_page page) entries
 
 -- the entries with that of a page first, and its frame changed, where it is held
 abbrev pub with_first : (Frame → Frame) → PageView → List (PageView × Frame) → List (PageView × Frame)
-with_first change page entries = option_map_or (λ frame. (page, change frame) ∷ without page entries) (frame_of page entries) entries
+with_first change page entries = option_map_or (λ frame. (page, change frame) ∷ without_page page entries) (frame_of page entries) entries
 
 -- the entries in their order, with the frame of a page changed, where it is held
 abbrev pub with_change : (Frame → Frame) → PageView → List (PageView × Frame) → List (PageView × Frame)
@@ -51,7 +58,7 @@ lowered_frame frame = record frame { writable = false; dirty = false }
 
 -- the entries after a put: the page first, and of a full cache that did not hold it the last entry gone
 abbrev pub entries_after_put : CacheView → PageView → Frame → List (PageView × Frame)
-entries_after_put cache page frame = option_map_or (λ old. (page, frame) ∷ without page cache.entries) (frame_of page cache.entries) ((page, frame) ∷ take (cache.frames - 1) cache.entries)
+entries_after_put cache page frame = option_map_or (λ old. (page, frame) ∷ without_page page cache.entries) (frame_of page cache.entries) ((page, frame) ∷ take (cache.frames - 1) cache.entries)
 
 -- what a put says, by the frame that the page had and the entry in the last place
 abbrev pub put_from : Option Frame → Option (PageView × Frame) → Put
@@ -86,3 +93,8 @@ stands_in span entry = in_span span entry.0
 -- the same, and the page may be written
 abbrev pub stands_writable_in : SpanView → PageView × Frame → Bool
 stands_writable_in span entry = in_span span entry.0 && entry.1.writable
+
+-- one of the two, by what is asked for
+abbrev pub stands_as : Which → SpanView → PageView × Frame → Bool
+stands_as Held = stands_in
+stands_as Writable = stands_writable_in

@@ -1,8 +1,11 @@
+//! The page cache of a blade, which pushes the least recently used page out.
+
 ghost use Rattle.std.specs.Prelude.{◌≡◌, ◌<◌, ◌≤◌, [], length, is_some, IsSome, IfNone, IfOk, IsOk, OnOk, IfErr, OnErr};
 ghost use Rattle.std.specs.Option.{option_copied};
 ghost use Rattle.page_image.specs.PageImage.{IsInside};
-ghost use Rattle.page_cache.specs.PageCache.{IsPageCache, frame_of, without, with_first, with_change, written_frame, lowered_frame, entries_after_put, put_of, put_kind_of, oldest_of, oldest_first, stands_in, stands_writable_in};
+ghost use Rattle.page_cache.specs.PageCache.{IsPageCache, frame_of, without_page, with_first, with_change, written_frame, lowered_frame, entries_after_put, put_of, put_kind_of, oldest_of, oldest_first, stands_in, stands_writable_in, stands_as};
 
+use crate::frames::Which;
 use crate::{Frame, Put};
 use lru::LruCache;
 use mind_base::{NoMemory, Page, Span};
@@ -106,7 +109,7 @@ impl PageCache {
     /// Takes a page out with its frame; None, and nothing changes, exactly where it is not held.
     pub fn take(&mut self, page: Page) -> Option<Frame>
         ensures frame { result ≡ frame_of page self.old.entries }
-        ensures entries { self.new ≡ record self.old { entries = without page self.old.entries } }
+        ensures entries { self.new ≡ record self.old { entries = without_page page self.old.entries } }
         ensures none { IfNone result (self.new ≡ self.old) }
         ensures shape { IsPageCache self.new }
     {
@@ -131,26 +134,14 @@ impl PageCache {
     pub fn oldest_in(&self, span: &Span) -> Option<Page>
         ensures { result ≡ oldest_of (stands_in span.now) self.now.entries }
     {
-        let mut oldest = None;
-        for (page, _) in self.held.iter() {
-            if span.has(*page) {
-                oldest = Some(*page);
-            }
-        }
-        oldest
+        self.oldest(Which::Held, span)
     }
 
     /// The least recently used page of a run that may be written; None exactly where none is held.
     pub fn oldest_writable_in(&self, span: &Span) -> Option<Page>
         ensures { result ≡ oldest_of (stands_writable_in span.now) self.now.entries }
     {
-        let mut oldest = None;
-        for (page, frame) in self.held.iter() {
-            if span.has(*page) && frame.writable {
-                oldest = Some(*page);
-            }
-        }
-        oldest
+        self.oldest(Which::Writable, span)
     }
 
     /// The pages of a run that are held, the least recently used first.
@@ -159,16 +150,7 @@ impl PageCache {
         ensures count { IfOk result (λ pages. length pages.items ≤ self.now.frames) }
         ensures shape { IsPageCache self.now }
     {
-        let mut pages = Vec::new(alloc);
-        let _len = self.held.len();
-        for (page, _) in self.held.iter() {
-            let inside = span.has(*page);
-            if inside {
-                pages.push(*page)?;
-            }
-        }
-        pages.reverse();
-        Ok(pages)
+        self.pages(alloc, Which::Held, span)
     }
 
     /// The pages of a run that may be written, the least recently used first.
@@ -177,16 +159,46 @@ impl PageCache {
         ensures count { IfOk result (λ pages. length pages.items ≤ self.now.frames) }
         ensures shape { IsPageCache self.now }
     {
+        self.pages(alloc, Which::Writable, span)
+    }
+
+    fn oldest(&self, which: Which, span: &Span) -> Option<Page>
+        ensures { result ≡ oldest_of (stands_as which span.now) self.now.entries }
+    {
+        let mut oldest = None;
+        for (page, frame) in self.held.iter() {
+            if stands(which, span, *page, frame) {
+                oldest = Some(*page);
+            }
+        }
+        oldest
+    }
+
+    fn pages(&self, alloc: Global, which: Which, span: &Span) -> Result<Vec<Page>, NoMemory>
+        ensures pages { IfOk result (λ pages. pages.items ≡ oldest_first (stands_as which span.now) self.now.entries) }
+        ensures count { IfOk result (λ pages. length pages.items ≤ self.now.frames) }
+        ensures shape { IsPageCache self.now }
+    {
         let mut pages = Vec::new(alloc);
         let _len = self.held.len();
         for (page, frame) in self.held.iter() {
-            let inside = span.has(*page) && frame.writable;
+            let inside = stands(which, span, *page, frame);
             if inside {
                 pages.push(*page)?;
             }
         }
         pages.reverse();
         Ok(pages)
+    }
+}
+
+/// Whether a page with this frame is one of a run's, and may be written where that is asked.
+fn stands(which: Which, span: &Span, page: Page, frame: &Frame) -> bool
+    ensures { result ≡ stands_as which span.now (page, frame.now) }
+{
+    match which {
+        Which::Held => span.has(page),
+        Which::Writable => span.has(page) && frame.writable,
     }
 }
 

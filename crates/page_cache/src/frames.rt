@@ -1,3 +1,5 @@
+//! A frame: the image of a page, its permission, and whether it may be written and was.
+
 use mind_base::{Page, Perm};
 use page_image::PageImage;
 
@@ -18,4 +20,11 @@ pub enum Put {
     Fresh,
     Replaced { old: Frame },
     Pushed { page: Page, old: Frame },
+}
+
+/// Which pages of a run are asked for: all that are held, or those that may be written.
+#[derive(Clone, Copy, Debug, PartialEq, Eq)]
+pub enum Which {
+    Held,
+    Writable,
 }

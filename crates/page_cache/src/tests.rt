@@ -1,3 +1,5 @@
+//! Pages that come, are written, pushed out and taken, by rows.
+
 ghost use Rattle.std.specs.Prelude.{◌<◌};
 
 use super::*;

@@ -1,3 +1,5 @@
+//! The image of a page: 4096 bytes, and the tag of each 64 of them.
+
 ghost use Rattle.std.specs.Prelude.{◌≡◌, ◌++◌, ◌<◌, ◌↔◌, length, slice_index, Some, IsSome, IfSome, IfOk, OnOk, OnErr};
 ghost use Rattle.page_image.specs.PageImage.{PageImageView, IsPageImage, IsInside, number_at, tag_at, image_after, zero_image, spelling_of};
 

@@ -1,3 +1,5 @@
+//! Images stored to, and spelled and read again.
+
 use super::*;
 use std::test::Fail;
 

@@ -1,10 +1,10 @@
 -- Names and places of links.
-use Rattle.std.proofs.Common.{◌≡◌, ℕ, ◌+◌, ◌*◌, ◌<◌, true, false, refl, ap, arith, inl, inr, ◌⊎◌, eq-eqb}
+use Rattle.std.proofs.Common.{◌≡◌, ℕ, zero, suc, ◌+◌, ◌*◌, ◌<◌, true, false, refl, sym, ap, ◌∙◌, arith, inl, inr, ◌⊎◌, eq-eqb}
 use Rattle.std.proofs.lemmas.Bool.{cases_eq, ne_eqb}
 use Rattle.mind_base.specs.declared.links.LinkKind.{LinkKind}
 use Rattle.mind_base.specs.declared.links.LinkKind.TheVariants.{Up, Down, To, From}
 use Rattle.mind_base.specs.declared.links.LinkName.{LinkName}
-use Rattle.rack_net.specs.Net.{links_of_kind, first_place, place_of, kind_number, same_link}
+use Rattle.rack_net.specs.Net.{links_of_kind, first_place, link_place, kind_number, same_link}
 
 below : (blades memories number : ℕ) (kind : LinkKind) → number < links_of_kind blades memories kind → first_place blades kind + 2 * number < 2 * (blades + memories)
 below blades memories number Up h = omega arith
@@ -13,7 +13,7 @@ below blades memories number To h = omega arith
 below blades memories number From h = omega arith
 
 -- a link of the rack stands among them
-pub place-below : (blades memories : ℕ) (name : LinkName) → name.number < links_of_kind blades memories name.kind → place_of blades name < 2 * (blades + memories)
+pub place-below : (blades memories : ℕ) (name : LinkName) → name.number < links_of_kind blades memories name.kind → link_place blades name < 2 * (blades + memories)
 place-below blades memories name h = below blades memories name.number name.kind h
 
 same_place : (blades memories m n : ℕ) (a b : LinkKind) → m < links_of_kind blades memories a → n < links_of_kind blades memories b → first_place blades a + 2 * m ≡ first_place blades b + 2 * n → (a ≡ b) × (m ≡ n)
@@ -35,28 +35,25 @@ same_place blades memories m n From To p q e = absurd (omega arith)
 same_place blades memories m n From From p q e = (refl, omega arith)
 
 -- links of the rack that stand at one place have one name
-pub one_name : (blades memories : ℕ) (a b : LinkName) → a.number < links_of_kind blades memories a.kind → b.number < links_of_kind blades memories b.kind → place_of blades a ≡ place_of blades b → a ≡ b
+pub one_name : (blades memories : ℕ) (a b : LinkName) → a.number < links_of_kind blades memories a.kind → b.number < links_of_kind blades memories b.kind → link_place blades a ≡ link_place blades b → a ≡ b
 one_name blades memories a b p q e =
     let same = same_place blades memories a.number b.number a.kind b.kind p q e in
     λ i. record { kind = same.0 i; number = same.1 i }
 
+abbrev kind_with : ℕ → LinkKind
+kind_with zero = Up
+kind_with (suc zero) = Down
+kind_with (suc (suc zero)) = To
+kind_with (suc (suc (suc n))) = From
+
+kind_with-number : (kind : LinkKind) → kind_with (kind_number kind) ≡ kind
+kind_with-number Up = refl
+kind_with-number Down = refl
+kind_with-number To = refl
+kind_with-number From = refl
+
 one_kind : (a b : LinkKind) → kind_number a ≡ kind_number b → a ≡ b
-one_kind Up Up e = refl
-one_kind Up Down e = absurd (omega arith)
-one_kind Up To e = absurd (omega arith)
-one_kind Up From e = absurd (omega arith)
-one_kind Down Up e = absurd (omega arith)
-one_kind Down Down e = refl
-one_kind Down To e = absurd (omega arith)
-one_kind Down From e = absurd (omega arith)
-one_kind To Up e = absurd (omega arith)
-one_kind To Down e = absurd (omega arith)
-one_kind To To e = refl
-one_kind To From e = absurd (omega arith)
-one_kind From Up e = absurd (omega arith)
-one_kind From Down e = absurd (omega arith)
-one_kind From To e = absurd (omega arith)
-one_kind From From e = refl
+one_kind a b e = sym (kind_with-number a) ∙ ap kind_with e ∙ kind_with-number b
 
 -- the test decides whether two names are one
 pub same-or-not : (a b : LinkName) → ((same_link a b ≡ true) × (a ≡ b)) ⊎ ((same_link a b ≡ false) × (a ≡ b → ⊥))

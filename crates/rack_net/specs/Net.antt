@@ -59,14 +59,14 @@ first_place blades To = 2 * blades
 first_place blades From = 2 * blades + 1
 
 -- where a link stands in the order: u0, d0, u1, d1, .. and then t0, f0, t1, f1, ..
-abbrev pub place_of : ℕ → LinkName → ℕ
-place_of blades name = first_place blades name.kind + 2 * name.number
+abbrev pub link_place : ℕ → LinkName → ℕ
+link_place blades name = first_place blades name.kind + 2 * name.number
 
 -- each link by its name; a name that is not of this net gives an empty one
 abbrev pub links_of : NetView → LinkName → NetLink
 links_of net name =
     if nat_lt name.number (links_of_kind net.blades net.memories name.kind)
-    then slice_index_or net.links (place_of net.blades name) empty_link
+    then slice_index_or net.links (link_place net.blades name) empty_link
     else empty_link
 
 abbrev pub kind_number : LinkKind → ℕ
@@ -99,8 +99,8 @@ frames_on net name side = wire_of (spelled (links_of net name)) side
 
 -- the place of a wire among all: the message wire of each link and then its acknowledgement wire
 abbrev pub wire_place : ℕ → LinkName → Side → ℕ
-wire_place blades name Messages = 2 * place_of blades name
-wire_place blades name Acks = 2 * place_of blades name + 1
+wire_place blades name Messages = 2 * link_place blades name
+wire_place blades name Acks = 2 * link_place blades name + 1
 
 -- the wire is the first that is not empty
 pub record IsFirstFrame (net : NetView) (name : LinkName) (side : Side) : Type 0 where
@@ -118,7 +118,7 @@ FindsFrame net (Some found) = IsFirstFrame net found.0 found.1
 pub record IsFirstKept (net : NetView) (name : LinkName) : Type 0 where
   pub of_net : IsLinkOf net name
   pub some : 0 < (links_of net name).kept
-  pub first : (other : LinkName) → IsLinkOf net other → place_of net.blades other < place_of net.blades name
+  pub first : (other : LinkName) → IsLinkOf net other → link_place net.blades other < link_place net.blades name
       → (links_of net other).kept ≡ 0
 
 abbrev pub FindsKept : NetView → Option LinkName → Type 0

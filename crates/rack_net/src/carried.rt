@@ -1,11 +1,13 @@
+//! Messages as bytes on a link, and read again.
+
 ghost use Rattle.std.specs.Prelude.{◌≡◌, ◌↔◌, ◌++◌, ◌∷◌, [], Err, map, All, IfOk, OnOk};
 ghost use Rattle.mind_base.specs.declared.failures.Stop.TheVariants.{Spent};
-ghost use Rattle.link_retry.specs.Link.{after_send, Delivers, after_lose, after_repeat, Resends};
+ghost use Rattle.link_retry.specs.Link.{after_send, FrameDelivers, after_lose, after_repeat, Resends};
 ghost use Rattle.link_retry.specs.GoBackN.{DeliversInOrder, after_resend};
 ghost use Rattle.wire_msg.specs.Spelling.{spelling};
 ghost use Rattle.wire_msg.specs.WellFormed.{FieldsAgree, IsWellFormed};
 ghost use Rattle.rack_net.specs.Net.{spelled};
-ghost use Rattle.rack_net.specs.Kept.{IsHeld, IsSpelled, link_of, read};
+ghost use Rattle.rack_net.specs.Kept.{IsHeld, IsSpelled, link_of, message_spelled};
 
 use link_retry::Link;
 use mind_base::{NoMemory, Side, Stop};
@@ -42,7 +44,7 @@ pub(crate) fn deliver_on(
 ) -> Result<Vec<Msg>, NoMemory>
     requires { IsHeld link.old }
     ensures fifo { IfOk result (λ taken. (link_of link.old).pending ≡ taken.items ++ (link_of link.new).pending) }
-    ensures link { IfOk result (λ taken. Delivers (spelled (link_of link.old)) side k (map spelling taken.items) (spelled (link_of link.new))) }
+    ensures link { IfOk result (λ taken. FrameDelivers (spelled (link_of link.old)) side k (map spelling taken.items) (spelled (link_of link.new))) }
     ensures go_back_n { IfOk result (λ taken. DeliversInOrder (spelled (link_of link.old)) side k (map spelling taken.items) (spelled (link_of link.new))) }
     ensures formed { IfOk result (λ taken. All IsWellFormed taken.items) }
     ensures held { OnOk result (IsHeld link.new) }
@@ -86,7 +88,7 @@ pub(crate) fn resend_on(link: &mut Link) -> Result<(), NoMemory>
 /// The messages that the texts spell.
 fn read_all(alloc: Global, texts: &[Vec<u8>]) -> Result<Vec<Msg>, NoMemory>
     requires { All IsSpelled (map (λ v. v.items) texts.now) }
-    ensures { IfOk result (λ msgs. msgs.items ≡ map read (map (λ v. v.items) texts.now)) }
+    ensures { IfOk result (λ msgs. msgs.items ≡ map message_spelled (map (λ v. v.items) texts.now)) }
 {
     let mut msgs = Vec::new(alloc);
     for text in texts {
@@ -98,7 +100,7 @@ fn read_all(alloc: Global, texts: &[Vec<u8>]) -> Result<Vec<Msg>, NoMemory>
 /// The message that the bytes spell.
 fn read_one(alloc: Global, bytes: &[u8]) -> Result<Msg, NoMemory>
     requires { IsSpelled bytes.now }
-    ensures { IfOk result (λ msg. msg ≡ read bytes.now) }
+    ensures { IfOk result (λ msg. msg ≡ message_spelled bytes.now) }
 {
     match decode(alloc, bytes) {
         Ok(msg) => Ok(msg),

@@ -1,6 +1,8 @@
+//! All links of a rack.
+
 ghost use Rattle.std.specs.Prelude.{◌≡◌, ◌↔◌, ◌++◌, ◌∷◌, [], Err, map, All, IfOk, OnOk};
 ghost use Rattle.mind_base.specs.declared.failures.Stop.TheVariants.{Spent};
-ghost use Rattle.link_retry.specs.Link.{after_send, Delivers, after_lose, after_repeat, Resends};
+ghost use Rattle.link_retry.specs.Link.{after_send, FrameDelivers, after_lose, after_repeat, Resends};
 ghost use Rattle.link_retry.specs.GoBackN.{DeliversInOrder, after_resend};
 ghost use Rattle.wire_msg.specs.Spelling.{spelling};
 ghost use Rattle.wire_msg.specs.WellFormed.{FieldsAgree, IsWellFormed};
@@ -30,13 +32,13 @@ pub struct Net {
 
 impl Model for Net {
     ghost use Rattle.rack_net.specs.Net.{NetView};
-    ghost use Rattle.rack_net.specs.Kept.{view_of, IsKept};
+    ghost use Rattle.rack_net.specs.Kept.{net_view, AreKeptLinks};
 
     ghost Value = { NetView };
 
-    ghost view = { λ n. view_of n.blades n.memories n.links.items };
+    ghost view = { λ n. net_view n.blades n.memories n.links.items };
 
-    ghost invariant = { λ n. IsKept n.blades n.memories n.links.items };
+    ghost invariant = { λ n. AreKeptLinks n.blades n.memories n.links.items };
 }
 
 impl Net {
@@ -86,7 +88,7 @@ impl Net {
         requires { IsLinkOf self.old link }
         // What is taken is the front of what was pending, and leaves it.
         ensures fifo { IfOk result (λ taken. (links_of self.old link).pending ≡ taken.items ++ (links_of self.new link).pending) }
-        ensures link { IfOk result (λ taken. Delivers (spelled (links_of self.old link)) side k (map spelling taken.items) (spelled (links_of self.new link))) }
+        ensures link { IfOk result (λ taken. FrameDelivers (spelled (links_of self.old link)) side k (map spelling taken.items) (spelled (links_of self.new link))) }
         // Of the protocols that keep the order, this is go-back-N.
         ensures go_back_n { IfOk result (λ taken. DeliversInOrder (spelled (links_of self.old link)) side k (map spelling taken.items) (spelled (links_of self.new link))) }
         ensures formed { IfOk result (λ taken. All IsWellFormed taken.items) }

@@ -1,12 +1,14 @@
+//! Where a link stands in the order of links.
+
 ghost use Rattle.std.specs.Prelude.{◌≡◌, ◌+◌, ◌*◌, ◌<◌};
-ghost use Rattle.rack_net.specs.Net.{place_of};
+ghost use Rattle.rack_net.specs.Net.{link_place};
 ghost use Rattle.rack_net.specs.Kept.{IsNameAt};
 
 use mind_base::{LinkKind, LinkName};
 
 /// Where a link stands in the order, in a rack of so many compute blades.
 pub(crate) fn place(blades: u8, link: LinkName) -> usize
-    ensures { result ≡ place_of blades link }
+    ensures { result ≡ link_place blades link }
 {
     let first = match link.kind {
         LinkKind::Up => 0,

@@ -1,6 +1,8 @@
+//! The links in their order, searched from the first.
+
 ghost use Rattle.std.specs.Prelude.{◌≡◌, replicate, IfOk};
 ghost use Rattle.link_retry.specs.Link.{new_link};
-ghost use Rattle.rack_net.specs.Kept.{FindsBusy, FindsKeeping, FindsSide, IsKept};
+ghost use Rattle.rack_net.specs.Kept.{FindsBusy, FindsKeeping, FindsSide, AreKeptLinks};
 
 use link_retry::Link;
 use mind_base::{NoMemory, Side};
@@ -19,7 +21,7 @@ pub(crate) fn empty_links(alloc: Global, count: usize) -> Result<Vec<Link>, NoMe
 
 /// Lets all links go.
 pub(crate) fn give_up(blades: &mut u8, memories: &mut u8, links: &mut Vec<Link>)
-    ensures kept { IsKept blades.new memories.new links.new.items }
+    ensures kept { AreKeptLinks blades.new memories.new links.new.items }
 {
     *blades = 0;
     *memories = 0;

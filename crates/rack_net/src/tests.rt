@@ -1,3 +1,5 @@
+//! Messages on the links of a small rack, by rows.
+
 ghost use Rattle.std.specs.Prelude.{◌≡◌, OnOk};
 ghost use Rattle.rack_net.specs.Net.{IsLinkOf};
 

@@ -28,5 +28,5 @@ pub record IsNewestByte (stores : List PendingView) (address byte : ℕ) : Type 
 
 -- The test whether a store lies in one of so many pages from a page number on. The domain is that of the
 -- queue's thread, for the store and the pages alike, and so counts for nothing.
-abbrev pub lies_in : ℕ → ℕ → PendingView → Bool
-lies_in base pages store = in_span (record { domain = 0; base = base; pages = pages }) (page_of 0 store.address)
+abbrev pub store_lies_in : ℕ → ℕ → PendingView → Bool
+store_lies_in base pages store = in_span (record { domain = 0; base = base; pages = pages }) (page_of 0 store.address)

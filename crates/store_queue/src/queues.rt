@@ -1,7 +1,9 @@
+//! The stores of a hart that wait, oldest first.
+
 ghost use Rattle.std.specs.Prelude.{◌≡◌, ◌+◌, ◌<◌, ◌≤◌, ◌↔◌, [], ◌∷◌, ◌++◌, length, drop, slice_get, None, Some, IsTrue, IsFalse, IsNone, IfSome, IfNone, All, IfOk, IsErr, OnOk, IfErr, OnErr, if◌then◌else◌};
 ghost use Rattle.std.specs.List.{list_any};
 ghost use Rattle.mind_base.specs.Pending.{covers, byte_at, newest_byte as newest_byte_of};
-ghost use Rattle.store_queue.specs.StoreQueue.{IsStoreQueue, IsNewestByte, lies_in};
+ghost use Rattle.store_queue.specs.StoreQueue.{IsStoreQueue, IsNewestByte, store_lies_in};
 
 use circular_buffer::HeapCircularBuffer;
 use mind_base::{NoMemory, Page, Pending, Span};
@@ -111,7 +113,7 @@ impl StoreQueue {
     /// Whether a store lies in one of the `pages` pages from page number `base` on.
     pub fn holds_in(&self, base: u32, pages: u32) -> bool
         requires { base + pages ≤ 1048576 }
-        ensures { result ≡ list_any (lies_in base pages) self.now.stores }
+        ensures { result ≡ list_any (store_lies_in base pages) self.now.stores }
     {
         self.stores.iter().any(|store| lies_in(store, base, pages))
     }
@@ -120,7 +122,7 @@ impl StoreQueue {
 /// Whether the store lies in one of the `pages` pages from page number `base` on.
 fn lies_in(store: &Pending, base: u32, pages: u32) -> bool
     requires { base + pages ≤ 1048576 }
-    ensures { result ≡ lies_in base pages store.now }
+    ensures { result ≡ store_lies_in base pages store.now }
 {
     if pages == 0 {
         return false;

@@ -1,3 +1,5 @@
+//! A full queue.
+
 use super::*;
 use std::test::Fail;
 

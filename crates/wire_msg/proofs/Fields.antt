@@ -8,7 +8,7 @@ use Rattle.std.proofs.lemmas.Nat.{be_bytes_4}
 use Rattle.byteorder.specs.Endian.{big_number}
 use Rattle.byteorder.specs.Numbers.{big_number-reads_back}
 use Rattle.wire_msg.specs.Spelling.{number_bytes}
-use Rattle.wire_msg.specs.Reading.{◌>>=◌, then_at, where_at, parsed_at, made_at, number_at, byte_at, bytes_at}
+use Rattle.wire_msg.specs.Reading.{◌>>=◌, then_read, where_read, parsed_read, made_read, number_read, byte_read, bytes_read}
 
 abbrev pub IsBytes : List ℕ → Type 0
 IsBytes bytes = (i : ℕ) → get_or bytes i 0 < 256
@@ -61,8 +61,8 @@ number_front (a ∷ b ∷ []) long h = absurd (omega arith)
 number_front (a ∷ b ∷ c ∷ []) long h = absurd (omega arith)
 number_front (a ∷ b ∷ c ∷ d ∷ rest) long h = ap (λ (t : List ℕ). t ++ rest) (sym (four a b c d rest h))
 
-number_takes : (bytes : List ℕ) (x : ℕ × List ℕ) → IsBytes bytes → number_at bytes ≡ Some x → Takes bytes (number_bytes x.0) x.1 × (x.0 < 2 ^ 32)
-unfolding number_at
+number_takes : (bytes : List ℕ) (x : ℕ × List ℕ) → IsBytes bytes → number_read bytes ≡ Some x → Takes bytes (number_bytes x.0) x.1 × (x.0 < 2 ^ 32)
+unfolding number_read
 number_takes bytes x h e =
     let g = guard_some (ltb (length bytes) 4) (big_number 4 bytes, drop 4 bytes) x e in
     let long : 4 ≤ length bytes = ltb-false _ _ g.0 in
@@ -70,40 +70,40 @@ number_takes bytes x h e =
     subst (λ (y : ℕ × List ℕ). Takes bytes (number_bytes y.0) y.1 × (y.0 < 2 ^ 32)) g.1
     (record { parts = number_front bytes long h; rest_fits = IsBytes-drop 4 bytes h }, bound)
 
-number_again : (n : ℕ) (rest : List ℕ) → n < 2 ^ 32 → number_at (number_bytes n ++ rest) ≡ Some (n, rest)
-unfolding number_at number_bytes
+number_again : (n : ℕ) (rest : List ℕ) → n < 2 ^ 32 → number_read (number_bytes n ++ rest) ≡ Some (n, rest)
+unfolding number_read number_bytes
 number_again n rest h =
     let back : big_number 4 (to_be_bytes w32 n ++ rest) ≡ n = big_number-reads_back 4 n rest h in
     let long : ltb (length (to_be_bytes w32 n ++ rest)) 4 ≡ false = le-ltb _ _ (omega arith) in
     ap (λ (b : Bool). cond b None (Some (big_number 4 (to_be_bytes w32 n ++ rest), rest))) long ∙ ap (λ (m : ℕ). Some (m, rest)) back
 
-pub number_field : IsField number_at number_bytes (λ n. n < 2 ^ 32)
+pub number_field : IsField number_read number_bytes (λ n. n < 2 ^ 32)
 number_field = record { takes = number_takes; again = number_again }
 
-byte_takes : (bytes : List ℕ) (x : ℕ × List ℕ) → IsBytes bytes → byte_at bytes ≡ Some x → Takes bytes (x.0 ∷ []) x.1 × (x.0 < 256)
-unfolding byte_at
+byte_takes : (bytes : List ℕ) (x : ℕ × List ℕ) → IsBytes bytes → byte_read bytes ≡ Some x → Takes bytes (x.0 ∷ []) x.1 × (x.0 < 256)
+unfolding byte_read
 byte_takes [] x h e = absurd cc
 byte_takes (b ∷ bytes) x h e =
     subst (λ (y : ℕ × List ℕ). Takes (b ∷ bytes) (y.0 ∷ []) y.1 × (y.0 < 256)) (some_is (b, bytes) x e)
     (record { parts = refl; rest_fits = λ i. h (suc i) }, h 0)
 
-byte_again : (b : ℕ) (rest : List ℕ) → b < 256 → byte_at (b ∷ rest) ≡ Some (b, rest)
-unfolding byte_at
+byte_again : (b : ℕ) (rest : List ℕ) → b < 256 → byte_read (b ∷ rest) ≡ Some (b, rest)
+unfolding byte_read
 byte_again b rest h = refl
 
-pub byte_field : IsField byte_at (λ b. b ∷ []) (λ b. b < 256)
+pub byte_field : IsField byte_read (λ b. b ∷ []) (λ b. b < 256)
 byte_field = record { takes = byte_takes; again = byte_again }
 
-pub bytes_takes : (count : ℕ) (bytes : List ℕ) (x : List ℕ × List ℕ) → IsBytes bytes → bytes_at count bytes ≡ Some x → Takes bytes x.0 x.1 × (length x.0 ≡ count) × IsBytes x.0
-unfolding bytes_at
+pub bytes_takes : (count : ℕ) (bytes : List ℕ) (x : List ℕ × List ℕ) → IsBytes bytes → bytes_read count bytes ≡ Some x → Takes bytes x.0 x.1 × (length x.0 ≡ count) × IsBytes x.0
+unfolding bytes_read
 bytes_takes count bytes x h e =
     let g = guard_some (ltb (length bytes) count) (take count bytes, drop count bytes) x e in
     let long : count ≤ length bytes = ltb-false _ _ g.0 in
     subst (λ (y : List ℕ × List ℕ). Takes bytes y.0 y.1 × (length y.0 ≡ count) × IsBytes y.0) g.1
     (record { parts = sym (take-append-drop count bytes); rest_fits = IsBytes-drop count bytes h }, length-take-le count bytes long, IsBytes-take count bytes h)
 
-pub bytes_again : (run rest : List ℕ) → bytes_at (length run) (run ++ rest) ≡ Some (run, rest)
-unfolding bytes_at
+pub bytes_again : (run rest : List ℕ) → bytes_read (length run) (run ++ rest) ≡ Some (run, rest)
+unfolding bytes_read
 bytes_again run rest =
     let long : ltb (length (run ++ rest)) (length run) ≡ false = le-ltb _ _ (omega (arith, length-append run rest)) in
     ap (λ (b : Bool). cond b None (Some (take (length run) (run ++ rest), drop (length run) (run ++ rest)))) long
@@ -112,9 +112,9 @@ bytes_again run rest =
 
 -- ---- one field and then another, fields that pass a test, and what is made of fields
 
-pub then_field : {A B : Type 0} {a : List ℕ → Option (A × List ℕ)} {b : List ℕ → Option (B × List ℕ)} {sa : A → List ℕ} {sb : B → List ℕ} {fa : A → Type 0} {fb : B → Type 0} → IsField a sa fa → IsField b sb fb → IsField (then_at a b) (λ (p : A × B). sa p.0 ++ sb p.1) (λ (p : A × B). fa p.0 × fb p.1)
+pub then_field : {A B : Type 0} {a : List ℕ → Option (A × List ℕ)} {b : List ℕ → Option (B × List ℕ)} {sa : A → List ℕ} {sb : B → List ℕ} {fa : A → Type 0} {fb : B → Type 0} → IsField a sa fa → IsField b sb fb → IsField (then_read a b) (λ (p : A × B). sa p.0 ++ sb p.1) (λ (p : A × B). fa p.0 × fb p.1)
 then_field {A} {B} {a} {b} {sa} {sb} {fa} {fb} p q = record { takes = both_take; again = both_again } where
-  both_take : (bytes : List ℕ) (x : (A × B) × List ℕ) → IsBytes bytes → then_at a b bytes ≡ Some x → Takes bytes (sa x.0.0 ++ sb x.0.1) x.1 × (fa x.0.0 × fb x.0.1)
+  both_take : (bytes : List ℕ) (x : (A × B) × List ℕ) → IsBytes bytes → then_read a b bytes ≡ Some x → Takes bytes (sa x.0.0 ++ sb x.0.1) x.1 × (fa x.0.0 × fb x.0.1)
   both_take bytes x h e =
       let first = bind_some (a bytes) (λ x. b x.1 >>= λ y. Some ((x.0, y.0), y.1)) x e in
       let second = bind_some (b first.0.1) (λ y. Some ((first.0.0, y.0), y.1)) x first.2 in
@@ -125,22 +125,22 @@ then_field {A} {B} {a} {b} {sa} {sb} {fa} {fb} p q = record { takes = both_take;
       subst (λ (z : (A × B) × List ℕ). Takes bytes (sa z.0.0 ++ sb z.0.1) z.1 × (fa z.0.0 × fb z.0.1)) (some_is ((first.0.0, second.0.0), second.0.1) x second.2)
       (record { parts = whole; rest_fits = t1.0.rest_fits }, (t0.1, t1.1))
 
-  both_again : (x : A × B) (rest : List ℕ) → (fa x.0 × fb x.1) → then_at a b ((sa x.0 ++ sb x.1) ++ rest) ≡ Some (x, rest)
+  both_again : (x : A × B) (rest : List ℕ) → (fa x.0 × fb x.1) → then_read a b ((sa x.0 ++ sb x.1) ++ rest) ≡ Some (x, rest)
   both_again x rest h =
-      ap (then_at a b) (append_assoc (sa x.0) (sb x.1) rest)
+      ap (then_read a b) (append_assoc (sa x.0) (sb x.1) rest)
       ∙ ap (λ (o : Option (A × List ℕ)). o >>= λ x. b x.1 >>= λ y. Some ((x.0, y.0), y.1)) (p.again x.0 (sb x.1 ++ rest) h.0)
       ∙ ap (λ (o : Option (B × List ℕ)). o >>= λ y. Some ((x.0, y.0), y.1)) (q.again x.1 rest h.1)
 
-pub where_field : {A : Type 0} {at : List ℕ → Option (A × List ℕ)} {spell : A → List ℕ} {fits : A → Type 0} → IsField at spell fits → (test : A → Bool) → IsField (where_at at test) spell (λ (x : A). fits x × (test x ≡ true))
+pub where_field : {A : Type 0} {at : List ℕ → Option (A × List ℕ)} {spell : A → List ℕ} {fits : A → Type 0} → IsField at spell fits → (test : A → Bool) → IsField (where_read at test) spell (λ (x : A). fits x × (test x ≡ true))
 where_field {A} {at} {spell} {fits} p test = record { takes = some_take; again = some_again } where
-  some_take : (bytes : List ℕ) (x : A × List ℕ) → IsBytes bytes → where_at at test bytes ≡ Some x → Takes bytes (spell x.0) x.1 × (fits x.0 × (test x.0 ≡ true))
+  some_take : (bytes : List ℕ) (x : A × List ℕ) → IsBytes bytes → where_read at test bytes ≡ Some x → Takes bytes (spell x.0) x.1 × (fits x.0 × (test x.0 ≡ true))
   some_take bytes x h e =
       let first = bind_some (at bytes) (λ x. cond (test x.0) (Some x) None) x e in
       let passed = cond_some (test first.0.0) first.0 x first.2 in
       let t = p.takes bytes first.0 h first.1 in
       subst (λ (z : A × List ℕ). Takes bytes (spell z.0) z.1 × (fits z.0 × (test z.0 ≡ true))) passed.1 (t.0, (t.1, passed.0))
 
-  some_again : (x : A) (rest : List ℕ) → (fits x × (test x ≡ true)) → where_at at test (spell x ++ rest) ≡ Some (x, rest)
+  some_again : (x : A) (rest : List ℕ) → (fits x × (test x ≡ true)) → where_read at test (spell x ++ rest) ≡ Some (x, rest)
   some_again x rest h =
       ap (λ (o : Option (A × List ℕ)). o >>= λ x. cond (test x.0) (Some x) None) (p.again x rest h.0)
       ∙ ap (λ (b : Bool). cond b (Some (x, rest)) None) h.1
@@ -151,9 +151,9 @@ pub record Parses {A B : Type 0} (spell : A → List ℕ) (fits : A → Type 0) 
   pub back : B → A
   pub again : (y : B) → suits y → fits (back y) × (parse (back y) ≡ Some y) × (spelled y ≡ spell (back y))
 
-pub parsed_field : {A B : Type 0} {at : List ℕ → Option (A × List ℕ)} {spell : A → List ℕ} {fits : A → Type 0} {parse : A → Option B} {spelled : B → List ℕ} {suits : B → Type 0} → IsField at spell fits → Parses spell fits parse spelled suits → IsField (parsed_at at parse) spelled suits
+pub parsed_field : {A B : Type 0} {at : List ℕ → Option (A × List ℕ)} {spell : A → List ℕ} {fits : A → Type 0} {parse : A → Option B} {spelled : B → List ℕ} {suits : B → Type 0} → IsField at spell fits → Parses spell fits parse spelled suits → IsField (parsed_read at parse) spelled suits
 parsed_field {A} {B} {at} {spell} {fits} {parse} {spelled} {suits} p q = record { takes = parsed_take; again = parsed_again } where
-  parsed_take : (bytes : List ℕ) (x : B × List ℕ) → IsBytes bytes → parsed_at at parse bytes ≡ Some x → Takes bytes (spelled x.0) x.1 × suits x.0
+  parsed_take : (bytes : List ℕ) (x : B × List ℕ) → IsBytes bytes → parsed_read at parse bytes ≡ Some x → Takes bytes (spelled x.0) x.1 × suits x.0
   parsed_take bytes x h e =
       let first = bind_some (at bytes) (λ x. parse x.0 >>= λ y. Some (y, x.1)) x e in
       let second = bind_some (parse first.0.0) (λ y. Some (y, first.0.1)) x first.2 in
@@ -162,19 +162,19 @@ parsed_field {A} {B} {at} {spell} {fits} {parse} {spelled} {suits} p q = record 
       subst (λ (z : B × List ℕ). Takes bytes (spelled z.0) z.1 × suits z.0) (some_is (second.0, first.0.1) x second.2)
       (record { parts = t.0.parts ∙ ap (λ (w : List ℕ). w ++ first.0.1) (sym s.0); rest_fits = t.0.rest_fits }, s.1)
 
-  parsed_again : (y : B) (rest : List ℕ) → suits y → parsed_at at parse (spelled y ++ rest) ≡ Some (y, rest)
+  parsed_again : (y : B) (rest : List ℕ) → suits y → parsed_read at parse (spelled y ++ rest) ≡ Some (y, rest)
   parsed_again y rest h =
       let a = q.again y h in
-      ap (λ (w : List ℕ). parsed_at at parse (w ++ rest)) a.2
+      ap (λ (w : List ℕ). parsed_read at parse (w ++ rest)) a.2
       ∙ ap (λ (o : Option (A × List ℕ)). o >>= λ x. parse x.0 >>= λ y. Some (y, x.1)) (p.again (q.back y) rest a.0)
       ∙ ap (λ (o : Option B). o >>= λ y. Some (y, rest)) a.1
 
-pub made_take : {A B : Type 0} {at : List ℕ → Option (A × List ℕ)} {spell : A → List ℕ} {fits : A → Type 0} → IsField at spell fits → (make : A → B) (bytes : List ℕ) (y : B × List ℕ) → IsBytes bytes → made_at at make bytes ≡ Some y → (x : A) × (make x ≡ y.0) × (Takes bytes (spell x) y.1 × fits x)
+pub made_take : {A B : Type 0} {at : List ℕ → Option (A × List ℕ)} {spell : A → List ℕ} {fits : A → Type 0} → IsField at spell fits → (make : A → B) (bytes : List ℕ) (y : B × List ℕ) → IsBytes bytes → made_read at make bytes ≡ Some y → (x : A) × (make x ≡ y.0) × (Takes bytes (spell x) y.1 × fits x)
 made_take {A} {B} {at} {spell} {fits} p make bytes y h e =
     let first = bind_some (at bytes) (λ x. Some (make x.0, x.1)) y e in
     let same : (let z : B × List ℕ = (make first.0.0, first.0.1) in z) ≡ y = some_is (make first.0.0, first.0.1) y first.2 in
     let t = p.takes bytes first.0 h first.1 in
     (first.0.0, ap (λ (z : B × List ℕ). z.0) same, (subst (λ (z : B × List ℕ). Takes bytes (spell first.0.0) z.1) same t.0, t.1))
 
-pub made_again : {A B : Type 0} {at : List ℕ → Option (A × List ℕ)} {spell : A → List ℕ} {fits : A → Type 0} → IsField at spell fits → (make : A → B) (x : A) (rest : List ℕ) → fits x → made_at at make (spell x ++ rest) ≡ Some (make x, rest)
+pub made_again : {A B : Type 0} {at : List ℕ → Option (A × List ℕ)} {spell : A → List ℕ} {fits : A → Type 0} → IsField at spell fits → (make : A → B) (x : A) (rest : List ℕ) → fits x → made_read at make (spell x ++ rest) ≡ Some (make x, rest)
 made_again {A} p make x rest h = ap (λ (o : Option (A × List ℕ)). o >>= λ x. Some (make x.0, x.1)) (p.again x rest h)

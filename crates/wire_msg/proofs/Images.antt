@@ -9,7 +9,7 @@ use Rattle.std.proofs.lemmas.Nat.{be_bytes_8, from_be_bytes-to_be_bytes_8}
 use Rattle.std.proofs.lemmas.Grind.{get_or_default_zero}
 use Rattle.page_image.specs.PageImage.{PageImageView, IsPageImage, spelling_of}
 use Rattle.wire_msg.specs.Spelling.{image_bytes}
-use Rattle.wire_msg.specs.Reading.{◌>>=◌, tags_from, image_from, image_at, bytes_at}
+use Rattle.wire_msg.specs.Reading.{◌>>=◌, tags_from, image_from, image_read, bytes_read}
 use Rattle.wire_msg.proofs.Fields.{IsBytes, IsBytes-take, IsBytes-drop, IsField, Takes, bytes_takes, bytes_again, bind_some, some_is}
 
 pub record AreTags (bytes tags : List ℕ) (count : ℕ) : Type 0 where
@@ -76,23 +76,23 @@ length-image_bytes image h =
     let tags : length image.tags ≡ 64 = h.tag_count in
     omega (arith, length-append image.bytes (flat_map (to_be_bytes w64) image.tags), length-tags image.tags)
 
-image_takes : (bytes : List ℕ) (x : PageImageView × List ℕ) → IsBytes bytes → image_at bytes ≡ Some x → Takes bytes (image_bytes x.0) x.1 × IsPageImage x.0
-unfolding image_at
+image_takes : (bytes : List ℕ) (x : PageImageView × List ℕ) → IsBytes bytes → image_read bytes ≡ Some x → Takes bytes (image_bytes x.0) x.1 × IsPageImage x.0
+unfolding image_read
 image_takes bytes x h e =
-    let first = bind_some (bytes_at 4608 bytes) (λ x. Some (image_from x.0, x.1)) x e in
+    let first = bind_some (bytes_read 4608 bytes) (λ x. Some (image_from x.0, x.1)) x e in
     let t = bytes_takes 4608 bytes first.0 h first.1 in
     let image = image_from_take first.0.0 t.1 t.2 in
     subst (λ (z : PageImageView × List ℕ). Takes bytes (image_bytes z.0) z.1 × IsPageImage z.0) (some_is (image_from first.0.0, first.0.1) x first.2)
     (record { parts = t.0.parts ∙ ap (λ (w : List ℕ). w ++ first.0.1) (sym image.0); rest_fits = t.0.rest_fits }, image.1)
 
-image_again : (image : PageImageView) (rest : List ℕ) → IsPageImage image → image_at (image_bytes image ++ rest) ≡ Some (image, rest)
-unfolding image_at
+image_again : (image : PageImageView) (rest : List ℕ) → IsPageImage image → image_read (image_bytes image ++ rest) ≡ Some (image, rest)
+unfolding image_read
 image_again image rest h =
-    let run : bytes_at 4608 (image_bytes image ++ rest) ≡ Some (image_bytes image, rest) =
-    ap (λ (n : ℕ). bytes_at n (image_bytes image ++ rest)) (sym (length-image_bytes image h)) ∙ bytes_again (image_bytes image) rest in
+    let run : bytes_read 4608 (image_bytes image ++ rest) ≡ Some (image_bytes image, rest) =
+    ap (λ (n : ℕ). bytes_read n (image_bytes image ++ rest)) (sym (length-image_bytes image h)) ∙ bytes_again (image_bytes image) rest in
     ap (λ (o : Option (List ℕ × List ℕ)). o >>= λ x. Some (image_from x.0, x.1)) run ∙ ap (λ (i : PageImageView). Some (i, rest)) (image_from_again image h)
 
-pub image_field : IsField image_at image_bytes IsPageImage
+pub image_field : IsField image_read image_bytes IsPageImage
 image_field = record { takes = image_takes; again = image_again }
 
 -- the image that a function read is the one that the bytes are

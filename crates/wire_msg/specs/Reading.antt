@@ -14,73 +14,73 @@ use Rattle.wire_msg.specs.declared.refusals.WireRefusal.{WireRefusal}
 use Rattle.wire_msg.specs.declared.refusals.WireRefusal.TheVariants.{BadFrame, NoMemory}
 
 -- What a function returned, seen by view, is what reading gives, unless memory ran out.
-abbrev pub Fails : {Y : Type 0} → WireRefusal → Option Y → Type 0
-Fails NoMemory read = Unit {0}
-Fails BadFrame read = read ≡ None
+abbrev pub FailsRead : {Y : Type 0} → WireRefusal → Option Y → Type 0
+FailsRead NoMemory read = Unit {0}
+FailsRead BadFrame read = read ≡ None
 
-abbrev pub Gives : {X Y : Type 0} → (X → Y) → Result X WireRefusal → Option Y → Type 0
-Gives view (Ok x) read = read ≡ Some (view x)
-Gives view (Err e) read = Fails e read
+abbrev pub GivesRead : {X Y : Type 0} → (X → Y) → Result X WireRefusal → Option Y → Type 0
+GivesRead view (Ok x) read = read ≡ Some (view x)
+GivesRead view (Err e) read = FailsRead e read
 
 infixl 10 ◌>>=◌
 abbrev pub ◌>>=◌ : {A B : Type 0} → Option A → (A → Option B) → Option B
 o >>= f = option_and_then f o
 
 -- one field and then another
-abbrev pub then_at : {A B : Type 0} → (List ℕ → Option (A × List ℕ)) → (List ℕ → Option (B × List ℕ)) → List ℕ → Option ((A × B) × List ℕ)
-then_at a b bytes = do
+abbrev pub then_read : {A B : Type 0} → (List ℕ → Option (A × List ℕ)) → (List ℕ → Option (B × List ℕ)) → List ℕ → Option ((A × B) × List ℕ)
+then_read a b bytes = do
   x ← a bytes
   y ← b x.1
   Some ((x.0, y.0), y.1)
 
 -- a field that passes a test
-abbrev pub where_at : {A : Type 0} → (List ℕ → Option (A × List ℕ)) → (A → Bool) → List ℕ → Option (A × List ℕ)
-where_at at test bytes = do
+abbrev pub where_read : {A : Type 0} → (List ℕ → Option (A × List ℕ)) → (A → Bool) → List ℕ → Option (A × List ℕ)
+where_read at test bytes = do
   x ← at bytes
   if test x.0 then Some x else None
 
 -- what is made of a field, where something can be
-abbrev pub parsed_at : {A B : Type 0} → (List ℕ → Option (A × List ℕ)) → (A → Option B) → List ℕ → Option (B × List ℕ)
-parsed_at at parse bytes = do
+abbrev pub parsed_read : {A B : Type 0} → (List ℕ → Option (A × List ℕ)) → (A → Option B) → List ℕ → Option (B × List ℕ)
+parsed_read at parse bytes = do
   x ← at bytes
   y ← parse x.0
   Some (y, x.1)
 
 -- what is made of each such field
-abbrev pub made_at : {A B : Type 0} → (List ℕ → Option (A × List ℕ)) → (A → B) → List ℕ → Option (B × List ℕ)
-made_at at make bytes = do
+abbrev pub made_read : {A B : Type 0} → (List ℕ → Option (A × List ℕ)) → (A → B) → List ℕ → Option (B × List ℕ)
+made_read at make bytes = do
   x ← at bytes
   Some (make x.0, x.1)
 
-unfoldable pub number_at : List ℕ → Option (ℕ × List ℕ)
-number_at bytes = if nat_lt (length bytes) 4 then None else Some (big_number 4 bytes, drop 4 bytes)
+unfoldable pub number_read : List ℕ → Option (ℕ × List ℕ)
+number_read bytes = if nat_lt (length bytes) 4 then None else Some (big_number 4 bytes, drop 4 bytes)
 
-unfoldable pub byte_at : List ℕ → Option (ℕ × List ℕ)
-byte_at [] = None
-byte_at (byte ∷ rest) = Some (byte, rest)
+unfoldable pub byte_read : List ℕ → Option (ℕ × List ℕ)
+byte_read [] = None
+byte_read (byte ∷ rest) = Some (byte, rest)
 
 -- a run of so many bytes
-unfoldable pub bytes_at : ℕ → List ℕ → Option (List ℕ × List ℕ)
-bytes_at count bytes = if nat_lt (length bytes) count then None else Some (take count bytes, drop count bytes)
+unfoldable pub bytes_read : ℕ → List ℕ → Option (List ℕ × List ℕ)
+bytes_read count bytes = if nat_lt (length bytes) count then None else Some (take count bytes, drop count bytes)
 
 -- the page with a number among the pages of all domains
 abbrev pub page_from : ℕ → PageView
 page_from n = record { domain = n / 1048576; number = n % 1048576 }
 
-unfoldable pub page_of : ℕ → Option PageView
-page_of n = if nat_lt n 16777216 then Some (page_from n) else None
+unfoldable pub page_numbered : ℕ → Option PageView
+page_numbered n = if nat_lt n 16777216 then Some (page_from n) else None
 
-unfoldable pub asked_of : ℕ → Option (Option PageView)
-asked_of n = if n == 4294967295 then Some None else option_map (λ page. Some page) (page_of n)
+unfoldable pub asked_numbered : ℕ → Option (Option PageView)
+asked_numbered n = if n == 4294967295 then Some None else option_map (λ page. Some page) (page_numbered n)
 
-unfoldable pub range_of : PageView × ℕ → Option RangeView
-range_of f =
+unfoldable pub range_numbered : PageView × ℕ → Option RangeView
+range_numbered f =
     if nat_le f.1 9 && (f.0.number % 2 ^ f.1 == 0)
     then Some (record { domain = f.0.domain; base = f.0.number; log = f.1 })
     else None
 
-unfoldable pub span_of : PageView × ℕ → Option SpanView
-span_of f =
+unfoldable pub span_numbered : PageView × ℕ → Option SpanView
+span_numbered f =
     if nat_lt 0 f.1 && nat_le (f.0.number + f.1) 1048576
     then Some (record { domain = f.0.domain; base = f.0.number; pages = f.1 })
     else None
@@ -105,102 +105,102 @@ tags_from (suc n) bytes = from_be_bytes w64 (take 8 bytes) ∷ tags_from n (drop
 unfoldable pub image_from : List ℕ → PageImageView
 image_from bytes = record { bytes = take 4096 bytes; tags = tags_from 64 (drop 4096 bytes) }
 
-unfoldable pub page_at : List ℕ → Option (PageView × List ℕ)
-page_at = parsed_at number_at page_of
+unfoldable pub page_read : List ℕ → Option (PageView × List ℕ)
+page_read = parsed_read number_read page_numbered
 
-unfoldable pub asked_at : List ℕ → Option (Option PageView × List ℕ)
-asked_at = parsed_at number_at asked_of
+unfoldable pub asked_read : List ℕ → Option (Option PageView × List ℕ)
+asked_read = parsed_read number_read asked_numbered
 
-unfoldable pub range_at : List ℕ → Option (RangeView × List ℕ)
-range_at = parsed_at (then_at page_at byte_at) range_of
+unfoldable pub range_read : List ℕ → Option (RangeView × List ℕ)
+range_read = parsed_read (then_read page_read byte_read) range_numbered
 
-unfoldable pub span_at : List ℕ → Option (SpanView × List ℕ)
-span_at = parsed_at (then_at page_at number_at) span_of
+unfoldable pub span_read : List ℕ → Option (SpanView × List ℕ)
+span_read = parsed_read (then_read page_read number_read) span_numbered
 
-unfoldable pub flag_at : List ℕ → Option (Bool × List ℕ)
-flag_at = parsed_at byte_at flag_of
+unfoldable pub flag_read : List ℕ → Option (Bool × List ℕ)
+flag_read = parsed_read byte_read flag_of
 
-unfoldable pub fill_at : List ℕ → Option ((Perm × Bool) × List ℕ)
-fill_at = parsed_at byte_at fill_of
+unfoldable pub fill_read : List ℕ → Option ((Perm × Bool) × List ℕ)
+fill_read = parsed_read byte_read fill_of
 
-unfoldable pub blade_at : List ℕ → Option (Option ℕ × List ℕ)
-blade_at = parsed_at byte_at blade_of
+unfoldable pub blade_read : List ℕ → Option (Option ℕ × List ℕ)
+blade_read = parsed_read byte_read blade_of
 
-unfoldable pub image_at : List ℕ → Option (PageImageView × List ℕ)
-image_at = made_at (bytes_at 4608) image_from
+unfoldable pub image_read : List ℕ → Option (PageImageView × List ℕ)
+image_read = made_read (bytes_read 4608) image_from
 
 abbrev pub asks_in : RangeView → Option PageView → Bool
 asks_in range None = true
 asks_in range (Some page) = in_range range page
 
 -- the fields of each kind
-unfoldable pub get_at : List ℕ → Option (Msg × List ℕ)
-get_at = made_at (then_at page_at flag_at) (λ f. Get f.0 f.1)
+unfoldable pub get_read : List ℕ → Option (Msg × List ℕ)
+get_read = made_read (then_read page_read flag_read) (λ f. Get f.0 f.1)
 
-unfoldable pub fill_message_at : List ℕ → Option (Msg × List ℕ)
-fill_message_at = made_at (then_at page_at (then_at fill_at image_at)) (λ f. Fill f.0 f.1.0.0 f.1.0.1 f.1.1)
+unfoldable pub fill_message_read : List ℕ → Option (Msg × List ℕ)
+fill_message_read = made_read (then_read page_read (then_read fill_read image_read)) (λ f. Fill f.0 f.1.0.0 f.1.0.1 f.1.1)
 
-unfoldable pub deny_at : List ℕ → Option (Msg × List ℕ)
-deny_at = made_at page_at (λ page. Deny page)
+unfoldable pub deny_read : List ℕ → Option (Msg × List ℕ)
+deny_read = made_read page_read (λ page. Deny page)
 
-unfoldable pub back_at : List ℕ → Option (Msg × List ℕ)
-back_at = made_at (then_at page_at image_at) (λ f. Back f.0 f.1)
+unfoldable pub back_read : List ℕ → Option (Msg × List ℕ)
+back_read = made_read (then_read page_read image_read) (λ f. Back f.0 f.1)
 
-unfoldable pub inv_at : List ℕ → Option (Msg × List ℕ)
-inv_at = made_at (where_at (then_at number_at (then_at range_at asked_at)) (λ f. asks_in f.1.0 f.1.1)) (λ f. Inv f.0 f.1.0 f.1.1)
+unfoldable pub inv_read : List ℕ → Option (Msg × List ℕ)
+inv_read = made_read (where_read (then_read number_read (then_read range_read asked_read)) (λ f. asks_in f.1.0 f.1.1)) (λ f. Inv f.0 f.1.0 f.1.1)
 
-unfoldable pub lower_at : List ℕ → Option (Msg × List ℕ)
-lower_at = made_at (where_at (then_at number_at (then_at range_at page_at)) (λ f. in_range f.1.0 f.1.1)) (λ f. Lower f.0 f.1.0 f.1.1)
+unfoldable pub lower_read : List ℕ → Option (Msg × List ℕ)
+lower_read = made_read (where_read (then_read number_read (then_read range_read page_read)) (λ f. in_range f.1.0 f.1.1)) (λ f. Lower f.0 f.1.0 f.1.1)
 
-unfoldable pub ack_at : List ℕ → Option (Msg × List ℕ)
-ack_at = made_at (then_at number_at number_at) (λ f. Ack f.0 f.1)
+unfoldable pub ack_read : List ℕ → Option (Msg × List ℕ)
+ack_read = made_read (then_read number_read number_read) (λ f. Ack f.0 f.1)
 
-unfoldable pub close_at : List ℕ → Option (Msg × List ℕ)
-close_at = made_at (then_at number_at (then_at span_at flag_at)) (λ f. Close f.0 f.1.0 f.1.1)
+unfoldable pub close_read : List ℕ → Option (Msg × List ℕ)
+close_read = made_read (then_read number_read (then_read span_read flag_read)) (λ f. Close f.0 f.1.0 f.1.1)
 
-unfoldable pub closed_at : List ℕ → Option (Msg × List ℕ)
-closed_at = made_at number_at (λ number. Closed number)
+unfoldable pub closed_read : List ℕ → Option (Msg × List ℕ)
+closed_read = made_read number_read (λ number. Closed number)
 
-unfoldable pub reopen_at : List ℕ → Option (Msg × List ℕ)
-reopen_at = made_at number_at (λ number. Reopen number)
+unfoldable pub reopen_read : List ℕ → Option (Msg × List ℕ)
+reopen_read = made_read number_read (λ number. Reopen number)
 
-unfoldable pub read_at : List ℕ → Option (Msg × List ℕ)
-read_at = made_at (then_at number_at (then_at blade_at page_at)) (λ f. Read f.0 f.1.0 f.1.1)
+unfoldable pub read_read : List ℕ → Option (Msg × List ℕ)
+read_read = made_read (then_read number_read (then_read blade_read page_read)) (λ f. Read f.0 f.1.0 f.1.1)
 
-unfoldable pub image_message_at : List ℕ → Option (Msg × List ℕ)
-image_message_at = made_at (then_at blade_at (then_at page_at image_at)) (λ f. Image f.0 f.1.0 f.1.1)
+unfoldable pub image_message_read : List ℕ → Option (Msg × List ℕ)
+image_message_read = made_read (then_read blade_read (then_read page_read image_read)) (λ f. Image f.0 f.1.0 f.1.1)
 
-unfoldable pub write_at : List ℕ → Option (Msg × List ℕ)
-write_at = made_at (then_at number_at image_at) (λ f. Write f.0 f.1)
+unfoldable pub write_read : List ℕ → Option (Msg × List ℕ)
+write_read = made_read (then_read number_read image_read) (λ f. Write f.0 f.1)
 
-unfoldable pub zero_at : List ℕ → Option (Msg × List ℕ)
-zero_at = made_at (where_at (then_at number_at number_at) (λ f. nat_lt 0 f.1 && nat_le (f.0 + f.1) 4294967295)) (λ f. Zero f.0 f.1)
+unfoldable pub zero_read : List ℕ → Option (Msg × List ℕ)
+zero_read = made_read (where_read (then_read number_read number_read) (λ f. nat_lt 0 f.1 && nat_le (f.0 + f.1) 4294967295)) (λ f. Zero f.0 f.1)
 
 -- the fields of the kind with this first byte
-unfoldable pub fields_at : ℕ → List ℕ → Option (Msg × List ℕ)
-fields_at kind bytes =
-    if kind == 1 then get_at bytes else
-    (if kind == 2 then fill_message_at bytes else
-    (if kind == 3 then deny_at bytes else
-    (if kind == 4 then back_at bytes else
-    (if kind == 5 then inv_at bytes else
-    (if kind == 6 then lower_at bytes else
-    (if kind == 7 then ack_at bytes else
-    (if kind == 8 then close_at bytes else
-    (if kind == 9 then closed_at bytes else
-    (if kind == 10 then reopen_at bytes else
-    (if kind == 11 then read_at bytes else
-    (if kind == 12 then image_message_at bytes else
-    (if kind == 13 then write_at bytes else
-    (if kind == 14 then zero_at bytes else None)))))))))))))
+unfoldable pub fields_read : ℕ → List ℕ → Option (Msg × List ℕ)
+fields_read kind bytes =
+    if kind == 1 then get_read bytes else
+    (if kind == 2 then fill_message_read bytes else
+    (if kind == 3 then deny_read bytes else
+    (if kind == 4 then back_read bytes else
+    (if kind == 5 then inv_read bytes else
+    (if kind == 6 then lower_read bytes else
+    (if kind == 7 then ack_read bytes else
+    (if kind == 8 then close_read bytes else
+    (if kind == 9 then closed_read bytes else
+    (if kind == 10 then reopen_read bytes else
+    (if kind == 11 then read_read bytes else
+    (if kind == 12 then image_message_read bytes else
+    (if kind == 13 then write_read bytes else
+    (if kind == 14 then zero_read bytes else None)))))))))))))
 
 -- the message at the front
-unfoldable pub message_at : List ℕ → Option (Msg × List ℕ)
-message_at [] = None
-message_at (kind ∷ bytes) = fields_at kind bytes
+unfoldable pub message_read : List ℕ → Option (Msg × List ℕ)
+message_read [] = None
+message_read (kind ∷ bytes) = fields_read kind bytes
 
 -- the message that the bytes are, all of them
 unfoldable pub message_of : List ℕ → Option Msg
 message_of bytes = do
-  m ← message_at bytes
+  m ← message_read bytes
   if length m.1 == 0 then Some m.0 else None

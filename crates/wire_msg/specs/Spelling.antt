@@ -56,21 +56,21 @@ unfoldable pub image_bytes : PageImageView → List ℕ
 image_bytes image = spelling_of image
 
 -- the first byte
-abbrev pub kind_of : Msg → ℕ
-kind_of (Get page write) = 1
-kind_of (Fill page perm writable image) = 2
-kind_of (Deny page) = 3
-kind_of (Back page image) = 4
-kind_of (Inv number range asked) = 5
-kind_of (Lower number range asked) = 6
-kind_of (Ack number count) = 7
-kind_of (Close number span ends) = 8
-kind_of (Closed number) = 9
-kind_of (Reopen number) = 10
-kind_of (Read phys blade page) = 11
-kind_of (Image blade page image) = 12
-kind_of (Write phys image) = 13
-kind_of (Zero phys pages) = 14
+abbrev pub kind_byte : Msg → ℕ
+kind_byte (Get page write) = 1
+kind_byte (Fill page perm writable image) = 2
+kind_byte (Deny page) = 3
+kind_byte (Back page image) = 4
+kind_byte (Inv number range asked) = 5
+kind_byte (Lower number range asked) = 6
+kind_byte (Ack number count) = 7
+kind_byte (Close number span ends) = 8
+kind_byte (Closed number) = 9
+kind_byte (Reopen number) = 10
+kind_byte (Read phys blade page) = 11
+kind_byte (Image blade page image) = 12
+kind_byte (Write phys image) = 13
+kind_byte (Zero phys pages) = 14
 
 -- the bytes after it
 abbrev pub fields_of : Msg → List ℕ
@@ -90,4 +90,4 @@ fields_of (Write phys image) = number_bytes phys ++ image_bytes image
 fields_of (Zero phys pages) = number_bytes phys ++ number_bytes pages
 
 abbrev pub spelling : Msg → List ℕ
-spelling message = kind_of message ∷ fields_of message
+spelling message = kind_byte message ∷ fields_of message

@@ -9,8 +9,8 @@ use Rattle.page_image.specs.PageImage.{IsPageImage}
 use Rattle.wire_msg.specs.declared.msgs.Msg.{Msg}
 use Rattle.wire_msg.specs.declared.msgs.Msg.TheVariants.{Get, Fill, Deny, Back, Inv, Lower, Ack, Close, Closed, Reopen, Read, Image, Write, Zero}
 
-abbrev pub IsNumber : ℕ → Type 0
-IsNumber n = n < 2 ^ 32
+abbrev pub FitsWord : ℕ → Type 0
+FitsWord n = n < 2 ^ 32
 
 abbrev pub IsPageView : PageView → Type 0
 IsPageView page = IsPage page.domain page.number
@@ -31,16 +31,16 @@ IsInBounds (Get page write) = IsPageView page
 IsInBounds (Fill page perm writable image) = IsPageView page × IsPageImage image
 IsInBounds (Deny page) = IsPageView page
 IsInBounds (Back page image) = IsPageView page × IsPageImage image
-IsInBounds (Inv number range asked) = IsNumber number × IsRangeView range × IsAsked asked
-IsInBounds (Lower number range asked) = IsNumber number × IsRangeView range × IsPageView asked
-IsInBounds (Ack number count) = IsNumber number × IsNumber count
-IsInBounds (Close number span ends) = IsNumber number × IsSpanView span
-IsInBounds (Closed number) = IsNumber number
-IsInBounds (Reopen number) = IsNumber number
-IsInBounds (Read phys blade page) = IsNumber phys × IsPageView page
+IsInBounds (Inv number range asked) = FitsWord number × IsRangeView range × IsAsked asked
+IsInBounds (Lower number range asked) = FitsWord number × IsRangeView range × IsPageView asked
+IsInBounds (Ack number count) = FitsWord number × FitsWord count
+IsInBounds (Close number span ends) = FitsWord number × IsSpanView span
+IsInBounds (Closed number) = FitsWord number
+IsInBounds (Reopen number) = FitsWord number
+IsInBounds (Read phys blade page) = FitsWord phys × IsPageView page
 IsInBounds (Image blade page image) = IsPageView page × IsPageImage image
-IsInBounds (Write phys image) = IsNumber phys × IsPageImage image
-IsInBounds (Zero phys pages) = IsNumber phys × IsNumber pages
+IsInBounds (Write phys image) = FitsWord phys × IsPageImage image
+IsInBounds (Zero phys pages) = FitsWord phys × FitsWord pages
 
 -- a page that is filled may be read, and is writable only if it may be written
 abbrev pub CanFill : Perm → Bool → Type 0
@@ -52,9 +52,9 @@ AsksIn range None = Unit {0}
 AsksIn range (Some page) = InRange range page
 
 -- one of eight blades, or a copy
-abbrev pub IsBlade : Option ℕ → Type 0
-IsBlade None = Unit {0}
-IsBlade (Some blade) = blade < 8
+abbrev pub IsBladeOrNone : Option ℕ → Type 0
+IsBladeOrNone None = Unit {0}
+IsBladeOrNone (Some blade) = blade < 8
 
 -- the fields agree with each other, which their types do not say
 abbrev pub FieldsAgree : Msg → Type 0
@@ -68,8 +68,8 @@ FieldsAgree (Ack number count) = Unit {0}
 FieldsAgree (Close number span ends) = Unit {0}
 FieldsAgree (Closed number) = Unit {0}
 FieldsAgree (Reopen number) = Unit {0}
-FieldsAgree (Read phys blade page) = IsBlade blade
-FieldsAgree (Image blade page image) = IsBlade blade
+FieldsAgree (Read phys blade page) = IsBladeOrNone blade
+FieldsAgree (Image blade page image) = IsBladeOrNone blade
 FieldsAgree (Write phys image) = Unit {0}
 FieldsAgree (Zero phys pages) = (0 < pages) × (phys + pages ≤ 4294967295)
 

@@ -1,3 +1,5 @@
+//! The law of spellings: a function that does nothing, with the law as clauses.
+
 ghost use Rattle.std.specs.Prelude.{◌≡◌, ◌++◌, List, ℕ};
 ghost use Rattle.wire_msg.specs.declared.msgs.Msg.{Msg as message};
 ghost use Rattle.wire_msg.specs.Spelling.{spelling};

@@ -1,3 +1,5 @@
+//! The messages of the rack.
+
 use mind_base::{Page, Perm, Range, Span};
 use page_image::PageImage;
 

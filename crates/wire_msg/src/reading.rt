@@ -1,9 +1,11 @@
+//! The message that bytes spell.
+
 ghost use Rattle.std.specs.Prelude.{◌≡◌, Err, Some, IfOk, length};
 ghost use Rattle.wire_msg.specs.declared.msgs.Msg.{Msg as message};
 ghost use Rattle.wire_msg.specs.declared.refusals.WireRefusal.TheVariants.{BadFrame as bad_frame};
 ghost use Rattle.wire_msg.specs.Spelling.{spelling};
 ghost use Rattle.wire_msg.specs.WellFormed.{IsWellFormed};
-ghost use Rattle.wire_msg.specs.Reading.{Gives, number_at, byte_at, bytes_at, page_of, asked_of, range_of, span_of, flag_of, fill_of, blade_of, image_from, get_at, fill_message_at, deny_at, back_at, inv_at, lower_at, ack_at, close_at, closed_at, reopen_at, read_at, image_message_at, write_at, zero_at, fields_at, message_at, message_of};
+ghost use Rattle.wire_msg.specs.Reading.{GivesRead, number_read, byte_read, bytes_read, page_numbered, asked_numbered, range_numbered, span_numbered, flag_of, fill_of, blade_of, image_from, range_read, span_read, flag_read, fill_read, blade_read, image_read, get_read, fill_message_read, deny_read, back_read, inv_read, lower_read, ack_read, close_read, closed_read, reopen_read, read_read, image_message_read, write_read, zero_read, fields_read, message_read, message_of};
 
 use crate::{Msg, WireRefusal};
 use byteorder::{BigEndian, ByteOrder};
@@ -17,7 +19,7 @@ pub fn decode(alloc: Global, bytes: &[u8]) -> Result<Msg, WireRefusal>
     ensures found { IfOk result (λ msg. IsWellFormed msg × (spelling msg ≡ bytes.now)) }
 
     // The message that is spelled so is given, unless memory ran out.
-    ensures only { (msg : message) → IsWellFormed msg → spelling msg ≡ bytes.now → Gives (λ m. m) result (Some msg) }
+    ensures only { (msg : message) → IsWellFormed msg → spelling msg ≡ bytes.now → GivesRead (λ m. m) result (Some msg) }
 
     // The bytes are refused exactly where no message is spelled so.
     ensures refused { result ≡ Err bad_frame → (msg : message) → IsWellFormed msg → spelling msg ≡ bytes.now → ⊥ }
@@ -27,22 +29,18 @@ pub fn decode(alloc: Global, bytes: &[u8]) -> Result<Msg, WireRefusal>
 
 #[tactic(auto, unfolding(crate::specs::Reading::message_of))]
 fn whole(alloc: Global, bytes: &[u8]) -> Result<Msg, WireRefusal>
-    ensures { Gives (λ m. m) result (message_of bytes.now) }
+    ensures { GivesRead (λ m. m) result (message_of bytes.now) }
 {
-    match message(alloc, bytes) {
-        Ok((msg, rest)) => {
-            if !rest.is_empty() {
-                return Err(WireRefusal::BadFrame);
-            }
-            Ok(msg)
-        }
-        Err(refusal) => Err(refusal),
+    let (msg, rest) = message(alloc, bytes)?;
+    if !rest.is_empty() {
+        return Err(WireRefusal::BadFrame);
     }
+    Ok(msg)
 }
 
-#[tactic(auto, unfolding(crate::specs::Reading::message_at))]
+#[tactic(auto, unfolding(crate::specs::Reading::message_read))]
 fn message(alloc: Global, bytes: &[u8]) -> Result<(Msg, &[u8]), WireRefusal>
-    ensures { Gives (λ x. (x.0, x.1.now)) result (message_at bytes.now) }
+    ensures { GivesRead (λ x. (x.0, x.1.now)) result (message_read bytes.now) }
 {
     match bytes {
         [] => Err(WireRefusal::BadFrame),
@@ -50,9 +48,9 @@ fn message(alloc: Global, bytes: &[u8]) -> Result<(Msg, &[u8]), WireRefusal>
     }
 }
 
-#[tactic(auto, unfolding(crate::specs::Reading::fields_at))]
+#[tactic(auto, unfolding(crate::specs::Reading::fields_read))]
 fn fields(alloc: Global, kind: u8, bytes: &[u8]) -> Result<(Msg, &[u8]), WireRefusal>
-    ensures { Gives (λ x. (x.0, x.1.now)) result (fields_at kind bytes.now) }
+    ensures { GivesRead (λ x. (x.0, x.1.now)) result (fields_read kind bytes.now) }
 {
     match kind {
         1 => get(bytes),
@@ -73,9 +71,9 @@ fn fields(alloc: Global, kind: u8, bytes: &[u8]) -> Result<(Msg, &[u8]), WireRef
     }
 }
 
-#[tactic(auto, unfolding(crate::specs::Reading::number_at))]
+#[tactic(auto, unfolding(crate::specs::Reading::number_read))]
 fn number(bytes: &[u8]) -> Result<(u32, &[u8]), WireRefusal>
-    ensures { Gives (λ x. (x.0, x.1.now)) result (number_at bytes.now) }
+    ensures { GivesRead (λ x. (x.0, x.1.now)) result (number_read bytes.now) }
 {
     if bytes.len() < 4 {
         return Err(WireRefusal::BadFrame);
@@ -83,9 +81,9 @@ fn number(bytes: &[u8]) -> Result<(u32, &[u8]), WireRefusal>
     Ok((BigEndian::read_u32(bytes), &bytes[4..]))
 }
 
-#[tactic(auto, unfolding(crate::specs::Reading::byte_at))]
+#[tactic(auto, unfolding(crate::specs::Reading::byte_read))]
 fn byte(bytes: &[u8]) -> Result<(u8, &[u8]), WireRefusal>
-    ensures { Gives (λ x. (x.0, x.1.now)) result (byte_at bytes.now) }
+    ensures { GivesRead (λ x. (x.0, x.1.now)) result (byte_read bytes.now) }
 {
     match bytes {
         [] => Err(WireRefusal::BadFrame),
@@ -93,9 +91,9 @@ fn byte(bytes: &[u8]) -> Result<(u8, &[u8]), WireRefusal>
     }
 }
 
-#[tactic(auto, unfolding(crate::specs::Reading::bytes_at))]
+#[tactic(auto, unfolding(crate::specs::Reading::bytes_read))]
 fn run(count: usize, bytes: &[u8]) -> Result<(&[u8], &[u8]), WireRefusal>
-    ensures given { Gives (λ x. (x.0.now, x.1.now)) result (bytes_at count bytes.now) }
+    ensures given { GivesRead (λ x. (x.0.now, x.1.now)) result (bytes_read count bytes.now) }
     ensures count { IfOk result (λ x. length x.0.now ≡ count) }
 {
     if bytes.len() < count {
@@ -104,9 +102,9 @@ fn run(count: usize, bytes: &[u8]) -> Result<(&[u8], &[u8]), WireRefusal>
     Ok(bytes.split_at(count))
 }
 
-#[tactic(auto, unfolding(crate::specs::Reading::page_of))]
+#[tactic(auto, unfolding(crate::specs::Reading::page_numbered))]
 fn page(number: u32) -> Result<Page, WireRefusal>
-    ensures { Gives (λ page. page) result (page_of number) }
+    ensures { GivesRead (λ page. page) result (page_numbered number) }
 {
     if number >= 16_777_216 {
         return Err(WireRefusal::BadFrame);
@@ -117,20 +115,19 @@ fn page(number: u32) -> Result<Page, WireRefusal>
     })
 }
 
-#[tactic(auto, unfolding(crate::specs::Reading::asked_of))]
+#[tactic(auto, unfolding(crate::specs::Reading::asked_numbered))]
 fn asked(number: u32) -> Result<Option<Page>, WireRefusal>
-    ensures { Gives (λ asked. asked) result (asked_of number) }
+    ensures { GivesRead (λ asked. asked) result (asked_numbered number) }
 {
     if number == u32::MAX {
         return Ok(None);
     }
-    let page = page(number)?;
-    Ok(Some(page))
+    Ok(Some(page(number)?))
 }
 
-#[tactic(auto, unfolding(crate::specs::Reading::range_of))]
+#[tactic(auto, unfolding(crate::specs::Reading::range_numbered))]
 fn range(base: Page, log: u8) -> Result<Range, WireRefusal>
-    ensures { Gives (λ range. range) result (range_of (base, log)) }
+    ensures { GivesRead (λ range. range) result (range_numbered (base, log)) }
 {
     if log > 9 || base.number % (1 << log) != 0 {
         return Err(WireRefusal::BadFrame);
@@ -142,9 +139,9 @@ fn range(base: Page, log: u8) -> Result<Range, WireRefusal>
     })
 }
 
-#[tactic(auto, unfolding(crate::specs::Reading::span_of))]
+#[tactic(auto, unfolding(crate::specs::Reading::span_numbered))]
 fn span(base: Page, pages: u32) -> Result<Span, WireRefusal>
-    ensures { Gives (λ span. span) result (span_of (base, pages)) }
+    ensures { GivesRead (λ span. span) result (span_numbered (base, pages)) }
 {
     if pages == 0 || pages > 1_048_576 - base.number {
         return Err(WireRefusal::BadFrame);
@@ -158,7 +155,7 @@ fn span(base: Page, pages: u32) -> Result<Span, WireRefusal>
 
 #[tactic(auto, unfolding(crate::specs::Reading::flag_of))]
 fn flag(byte: u8) -> Result<bool, WireRefusal>
-    ensures { Gives (λ flag. flag) result (flag_of byte) }
+    ensures { GivesRead (λ flag. flag) result (flag_of byte) }
 {
     if byte > 1 {
         return Err(WireRefusal::BadFrame);
@@ -168,7 +165,7 @@ fn flag(byte: u8) -> Result<bool, WireRefusal>
 
 #[tactic(auto, unfolding(crate::specs::Reading::fill_of))]
 fn fill_perm(byte: u8) -> Result<(Perm, bool), WireRefusal>
-    ensures { Gives (λ x. x) result (fill_of byte) }
+    ensures { GivesRead (λ x. x) result (fill_of byte) }
 {
     match byte {
         0 => Ok((Perm::R, false)),
@@ -180,7 +177,7 @@ fn fill_perm(byte: u8) -> Result<(Perm, bool), WireRefusal>
 
 #[tactic(auto, unfolding(crate::specs::Reading::blade_of))]
 fn blade(byte: u8) -> Result<Option<u8>, WireRefusal>
-    ensures { Gives (λ blade. blade) result (blade_of byte) }
+    ensures { GivesRead (λ blade. blade) result (blade_of byte) }
 {
     match byte {
         0..=7 => Ok(Some(byte)),
@@ -191,7 +188,7 @@ fn blade(byte: u8) -> Result<Option<u8>, WireRefusal>
 
 fn image(alloc: Global, bytes: &[u8]) -> Result<PageImage, WireRefusal>
     requires { length bytes.now ≡ 4608 }
-    ensures { Gives (λ image. image) result (Some (image_from bytes.now)) }
+    ensures { GivesRead (λ image. image) result (Some (image_from bytes.now)) }
 {
     match PageImage::from_bytes(alloc, bytes)? {
         None => Err(WireRefusal::BadFrame),
@@ -199,27 +196,76 @@ fn image(alloc: Global, bytes: &[u8]) -> Result<PageImage, WireRefusal>
     }
 }
 
-#[tactic(auto, unfolding(crate::specs::Reading::get_at, crate::specs::Reading::page_at, crate::specs::Reading::flag_at))]
+#[tactic(auto, unfolding(crate::specs::Reading::range_read, crate::specs::Reading::page_read))]
+fn range_at(bytes: &[u8]) -> Result<(Range, &[u8]), WireRefusal>
+    ensures { GivesRead (λ x. (x.0, x.1.now)) result (range_read bytes.now) }
+{
+    let (base, rest) = number(bytes)?;
+    let base = page(base)?;
+    let (log, rest) = byte(rest)?;
+    Ok((range(base, log)?, rest))
+}
+
+#[tactic(auto, unfolding(crate::specs::Reading::span_read, crate::specs::Reading::page_read))]
+fn span_at(bytes: &[u8]) -> Result<(Span, &[u8]), WireRefusal>
+    ensures { GivesRead (λ x. (x.0, x.1.now)) result (span_read bytes.now) }
+{
+    let (base, rest) = number(bytes)?;
+    let base = page(base)?;
+    let (pages, rest) = number(rest)?;
+    Ok((span(base, pages)?, rest))
+}
+
+#[tactic(auto, unfolding(crate::specs::Reading::flag_read))]
+fn flag_at(bytes: &[u8]) -> Result<(bool, &[u8]), WireRefusal>
+    ensures { GivesRead (λ x. (x.0, x.1.now)) result (flag_read bytes.now) }
+{
+    let (byte, rest) = byte(bytes)?;
+    Ok((flag(byte)?, rest))
+}
+
+#[tactic(auto, unfolding(crate::specs::Reading::fill_read))]
+fn perm_at(bytes: &[u8]) -> Result<((Perm, bool), &[u8]), WireRefusal>
+    ensures { GivesRead (λ x. (x.0, x.1.now)) result (fill_read bytes.now) }
+{
+    let (byte, rest) = byte(bytes)?;
+    Ok((fill_perm(byte)?, rest))
+}
+
+#[tactic(auto, unfolding(crate::specs::Reading::blade_read))]
+fn blade_at(bytes: &[u8]) -> Result<(Option<u8>, &[u8]), WireRefusal>
+    ensures { GivesRead (λ x. (x.0, x.1.now)) result (blade_read bytes.now) }
+{
+    let (byte, rest) = byte(bytes)?;
+    Ok((blade(byte)?, rest))
+}
+
+#[tactic(auto, unfolding(crate::specs::Reading::image_read))]
+fn image_at(alloc: Global, bytes: &[u8]) -> Result<(PageImage, &[u8]), WireRefusal>
+    ensures { GivesRead (λ x. (x.0, x.1.now)) result (image_read bytes.now) }
+{
+    let (spelled, rest) = run(4608, bytes)?;
+    Ok((image(alloc, spelled)?, rest))
+}
+
+#[tactic(auto, unfolding(crate::specs::Reading::get_read, crate::specs::Reading::page_read))]
 fn get(bytes: &[u8]) -> Result<(Msg, &[u8]), WireRefusal>
-    ensures { Gives (λ x. (x.0, x.1.now)) result (get_at bytes.now) }
+    ensures { GivesRead (λ x. (x.0, x.1.now)) result (get_read bytes.now) }
 {
     let (page_number, rest) = number(bytes)?;
     let page = page(page_number)?;
-    let (write_byte, rest) = byte(rest)?;
-    let write = flag(write_byte)?;
+    let (write, rest) = flag_at(rest)?;
     Ok((Msg::Get { page, write }, rest))
 }
 
-#[tactic(auto, unfolding(crate::specs::Reading::fill_message_at, crate::specs::Reading::page_at, crate::specs::Reading::fill_at, crate::specs::Reading::image_at))]
+#[tactic(auto, unfolding(crate::specs::Reading::fill_message_read, crate::specs::Reading::page_read))]
 fn fill(alloc: Global, bytes: &[u8]) -> Result<(Msg, &[u8]), WireRefusal>
-    ensures { Gives (λ x. (x.0, x.1.now)) result (fill_message_at bytes.now) }
+    ensures { GivesRead (λ x. (x.0, x.1.now)) result (fill_message_read bytes.now) }
 {
     let (page_number, rest) = number(bytes)?;
     let page = page(page_number)?;
-    let (perm_byte, rest) = byte(rest)?;
-    let (perm, writable) = fill_perm(perm_byte)?;
-    let (image_bytes, rest) = run(4608, rest)?;
-    let image = image(alloc, image_bytes)?;
+    let ((perm, writable), rest) = perm_at(rest)?;
+    let (image, rest) = image_at(alloc, rest)?;
     Ok((
         Msg::Fill {
             page,
@@ -231,79 +277,80 @@ fn fill(alloc: Global, bytes: &[u8]) -> Result<(Msg, &[u8]), WireRefusal>
     ))
 }
 
-#[tactic(auto, unfolding(crate::specs::Reading::deny_at, crate::specs::Reading::page_at))]
+#[tactic(auto, unfolding(crate::specs::Reading::deny_read, crate::specs::Reading::page_read))]
 fn deny(bytes: &[u8]) -> Result<(Msg, &[u8]), WireRefusal>
-    ensures { Gives (λ x. (x.0, x.1.now)) result (deny_at bytes.now) }
+    ensures { GivesRead (λ x. (x.0, x.1.now)) result (deny_read bytes.now) }
 {
     let (page_number, rest) = number(bytes)?;
     let page = page(page_number)?;
     Ok((Msg::Deny { page }, rest))
 }
 
-#[tactic(auto, unfolding(crate::specs::Reading::back_at, crate::specs::Reading::page_at, crate::specs::Reading::image_at))]
+#[tactic(auto, unfolding(crate::specs::Reading::back_read, crate::specs::Reading::page_read))]
 fn back(alloc: Global, bytes: &[u8]) -> Result<(Msg, &[u8]), WireRefusal>
-    ensures { Gives (λ x. (x.0, x.1.now)) result (back_at bytes.now) }
+    ensures { GivesRead (λ x. (x.0, x.1.now)) result (back_read bytes.now) }
 {
     let (page_number, rest) = number(bytes)?;
     let page = page(page_number)?;
-    let (image_bytes, rest) = run(4608, rest)?;
-    let image = image(alloc, image_bytes)?;
+    let (image, rest) = image_at(alloc, rest)?;
     Ok((Msg::Back { page, image }, rest))
 }
 
-#[tactic(auto, unfolding(crate::specs::Reading::inv_at, crate::specs::Reading::range_at, crate::specs::Reading::page_at, crate::specs::Reading::asked_at))]
+#[tactic(auto, unfolding(crate::specs::Reading::inv_read, crate::specs::Reading::asked_read))]
 fn inv(bytes: &[u8]) -> Result<(Msg, &[u8]), WireRefusal>
-    ensures { Gives (λ x. (x.0, x.1.now)) result (inv_at bytes.now) }
+    ensures { GivesRead (λ x. (x.0, x.1.now)) result (inv_read bytes.now) }
 {
     let (transition, rest) = number(bytes)?;
-    let (base, rest) = number(rest)?;
-    let base = page(base)?;
-    let (log, rest) = byte(rest)?;
-    let range = range(base, log)?;
-    let (asked_number, rest) = number(rest)?;
-    let asked = asked(asked_number)?;
-    if let Some(page) = asked
-        && !range.has(page)
-    {
-        return Err(WireRefusal::BadFrame);
+    match range_at(rest) {
+        Ok((range, rest)) => {
+            let (asked_number, rest) = number(rest)?;
+            let asked = asked(asked_number)?;
+            if let Some(page) = asked
+                && !range.has(page)
+            {
+                return Err(WireRefusal::BadFrame);
+            }
+            Ok((
+                Msg::Inv {
+                    number: transition,
+                    range,
+                    asked,
+                },
+                rest,
+            ))
+        }
+        Err(refusal) => Err(refusal),
     }
-    Ok((
-        Msg::Inv {
-            number: transition,
-            range,
-            asked,
-        },
-        rest,
-    ))
 }
 
-#[tactic(auto, unfolding(crate::specs::Reading::lower_at, crate::specs::Reading::range_at, crate::specs::Reading::page_at))]
+#[tactic(auto, unfolding(crate::specs::Reading::lower_read, crate::specs::Reading::page_read))]
 fn lower(bytes: &[u8]) -> Result<(Msg, &[u8]), WireRefusal>
-    ensures { Gives (λ x. (x.0, x.1.now)) result (lower_at bytes.now) }
+    ensures { GivesRead (λ x. (x.0, x.1.now)) result (lower_read bytes.now) }
 {
     let (transition, rest) = number(bytes)?;
-    let (base, rest) = number(rest)?;
-    let base = page(base)?;
-    let (log, rest) = byte(rest)?;
-    let range = range(base, log)?;
-    let (asked_number, rest) = number(rest)?;
-    let asked = page(asked_number)?;
-    if !range.has(asked) {
-        return Err(WireRefusal::BadFrame);
+    match range_at(rest) {
+        Ok((range, rest)) => {
+            let (asked_number, rest) = number(rest)?;
+            let asked = page(asked_number)?;
+            if !range.has(asked) {
+                return Err(WireRefusal::BadFrame);
+            }
+            Ok((
+                Msg::Lower {
+                    number: transition,
+                    range,
+                    asked,
+                },
+                rest,
+            ))
+        }
+        Err(refusal) => Err(refusal),
     }
-    Ok((
-        Msg::Lower {
-            number: transition,
-            range,
-            asked,
-        },
-        rest,
-    ))
 }
 
-#[tactic(auto, unfolding(crate::specs::Reading::ack_at))]
+#[tactic(auto, unfolding(crate::specs::Reading::ack_read))]
 fn ack(bytes: &[u8]) -> Result<(Msg, &[u8]), WireRefusal>
-    ensures { Gives (λ x. (x.0, x.1.now)) result (ack_at bytes.now) }
+    ensures { GivesRead (λ x. (x.0, x.1.now)) result (ack_read bytes.now) }
 {
     let (transition, rest) = number(bytes)?;
     let (count, rest) = number(rest)?;
@@ -316,81 +363,77 @@ fn ack(bytes: &[u8]) -> Result<(Msg, &[u8]), WireRefusal>
     ))
 }
 
-#[tactic(auto, unfolding(crate::specs::Reading::close_at, crate::specs::Reading::span_at, crate::specs::Reading::page_at, crate::specs::Reading::flag_at))]
+#[tactic(auto, unfolding(crate::specs::Reading::close_read))]
 fn close(bytes: &[u8]) -> Result<(Msg, &[u8]), WireRefusal>
-    ensures { Gives (λ x. (x.0, x.1.now)) result (close_at bytes.now) }
+    ensures { GivesRead (λ x. (x.0, x.1.now)) result (close_read bytes.now) }
 {
     let (command, rest) = number(bytes)?;
-    let (base, rest) = number(rest)?;
-    let base = page(base)?;
-    let (pages, rest) = number(rest)?;
-    let span = span(base, pages)?;
-    let (ends_byte, rest) = byte(rest)?;
-    let ends = flag(ends_byte)?;
-    Ok((
-        Msg::Close {
-            number: command,
-            span,
-            ends,
-        },
-        rest,
-    ))
+    match span_at(rest) {
+        Ok((span, rest)) => {
+            let (ends, rest) = flag_at(rest)?;
+            Ok((
+                Msg::Close {
+                    number: command,
+                    span,
+                    ends,
+                },
+                rest,
+            ))
+        }
+        Err(refusal) => Err(refusal),
+    }
 }
 
-#[tactic(auto, unfolding(crate::specs::Reading::closed_at))]
+#[tactic(auto, unfolding(crate::specs::Reading::closed_read))]
 fn closed(bytes: &[u8]) -> Result<(Msg, &[u8]), WireRefusal>
-    ensures { Gives (λ x. (x.0, x.1.now)) result (closed_at bytes.now) }
+    ensures { GivesRead (λ x. (x.0, x.1.now)) result (closed_read bytes.now) }
 {
-    let (command, rest) = number(bytes)?;
-    Ok((Msg::Closed { number: command }, rest))
+    let (number, rest) = number(bytes)?;
+    Ok((Msg::Closed { number }, rest))
 }
 
-#[tactic(auto, unfolding(crate::specs::Reading::reopen_at))]
+#[tactic(auto, unfolding(crate::specs::Reading::reopen_read))]
 fn reopen(bytes: &[u8]) -> Result<(Msg, &[u8]), WireRefusal>
-    ensures { Gives (λ x. (x.0, x.1.now)) result (reopen_at bytes.now) }
+    ensures { GivesRead (λ x. (x.0, x.1.now)) result (reopen_read bytes.now) }
 {
-    let (command, rest) = number(bytes)?;
-    Ok((Msg::Reopen { number: command }, rest))
+    let (number, rest) = number(bytes)?;
+    Ok((Msg::Reopen { number }, rest))
 }
 
-#[tactic(auto, unfolding(crate::specs::Reading::read_at, crate::specs::Reading::blade_at, crate::specs::Reading::page_at))]
+#[tactic(auto, unfolding(crate::specs::Reading::read_read, crate::specs::Reading::page_read))]
 fn read(bytes: &[u8]) -> Result<(Msg, &[u8]), WireRefusal>
-    ensures { Gives (λ x. (x.0, x.1.now)) result (read_at bytes.now) }
+    ensures { GivesRead (λ x. (x.0, x.1.now)) result (read_read bytes.now) }
 {
     let (phys, rest) = number(bytes)?;
-    let (blade_byte, rest) = byte(rest)?;
-    let blade = blade(blade_byte)?;
+    let (blade, rest) = blade_at(rest)?;
     let (page_number, rest) = number(rest)?;
     let page = page(page_number)?;
     Ok((Msg::Read { phys, blade, page }, rest))
 }
 
-#[tactic(auto, unfolding(crate::specs::Reading::image_message_at, crate::specs::Reading::blade_at, crate::specs::Reading::page_at, crate::specs::Reading::image_at))]
+#[tactic(auto, unfolding(crate::specs::Reading::image_message_read, crate::specs::Reading::page_read))]
 fn image_message(alloc: Global, bytes: &[u8]) -> Result<(Msg, &[u8]), WireRefusal>
-    ensures { Gives (λ x. (x.0, x.1.now)) result (image_message_at bytes.now) }
+    ensures { GivesRead (λ x. (x.0, x.1.now)) result (image_message_read bytes.now) }
 {
-    let (blade_byte, rest) = byte(bytes)?;
-    let blade = blade(blade_byte)?;
+    let (blade, rest) = blade_at(bytes)?;
     let (page_number, rest) = number(rest)?;
     let page = page(page_number)?;
-    let (image_bytes, rest) = run(4608, rest)?;
-    let image = image(alloc, image_bytes)?;
+    let (image, rest) = image_at(alloc, rest)?;
     Ok((Msg::Image { blade, page, image }, rest))
 }
 
-#[tactic(auto, unfolding(crate::specs::Reading::write_at, crate::specs::Reading::image_at))]
+#[tactic(auto, unfolding(crate::specs::Reading::write_read))]
 fn write(alloc: Global, bytes: &[u8]) -> Result<(Msg, &[u8]), WireRefusal>
-    ensures { Gives (λ x. (x.0, x.1.now)) result (write_at bytes.now) }
+    ensures { GivesRead (λ x. (x.0, x.1.now)) result (write_read bytes.now) }
 {
     let (phys, rest) = number(bytes)?;
-    let (image_bytes, rest) = run(4608, rest)?;
-    let image = image(alloc, image_bytes)?;
+    let (image, rest) = image_at(alloc, rest)?;
     Ok((Msg::Write { phys, image }, rest))
 }
 
-#[tactic(auto, unfolding(crate::specs::Reading::zero_at))]
+#[tactic(auto, unfolding(crate::specs::Reading::zero_read))]
 fn zero(bytes: &[u8]) -> Result<(Msg, &[u8]), WireRefusal>
-    ensures { Gives (λ x. (x.0, x.1.now)) result (zero_at bytes.now) }
+    ensures { GivesRead (λ x. (x.0, x.1.now)) result (zero_read bytes.now) }
 {
     let (phys, rest) = number(bytes)?;
     let (pages, rest) = number(rest)?;

@@ -1,3 +1,5 @@
+//! Why bytes spell no message.
+
 ghost use Rattle.std.specs.Prelude.{◌≡◌};
 ghost use Rattle.wire_msg.specs.declared.refusals.WireRefusal.TheVariants.{NoMemory as no_memory};
 

@@ -1,3 +1,5 @@
+//! Messages and their bytes, by rows.
+
 ghost use Rattle.wire_msg.specs.WellFormed.{FieldsAgree};
 
 use crate::{Msg, WireRefusal, decode, encode};

@@ -1,3 +1,5 @@
+//! The bytes that spell a message.
+
 ghost use Rattle.std.specs.Prelude.{◌≡◌, ◌<◌, ◌^◌, ◌++◌, ◌∷◌, [], take, IfSome, OnOk, OnErr, option_copied};
 ghost use Rattle.page_image.specs.PageImage.{IsPageImage};
 ghost use Rattle.wire_msg.specs.Spelling.{spelling, number_bytes, page_bytes, range_bytes, span_bytes, asked_bytes, flag_bytes, fill_bytes, blade_bytes, image_bytes};
@@ -74,12 +76,12 @@ fn put_head(head: &mut Vec<u8>, msg: &Msg) -> Result<(), NoMemory>
             number,
             range,
             asked,
-        } => put_inv(head, *number, *range, *asked),
+        } => put_order(head, 5, *number, *range, *asked),
         Msg::Lower {
             number,
             range,
             asked,
-        } => put_lower(head, *number, *range, *asked),
+        } => put_order(head, 6, *number, *range, Some(*asked)),
         Msg::Ack { number, count } => put_numbers(head, 7, *number, *count),
         Msg::Close { number, span, ends } => put_close(head, *number, *span, *ends),
         Msg::Closed { number } => put_number(head, 9, *number),
@@ -167,6 +169,15 @@ fn add_blade(head: &mut Vec<u8>, blade: Option<u8>) -> Result<(), NoMemory>
     }
 }
 
+/// Appends for whom a page is read.
+fn add_reader(head: &mut Vec<u8>, blade: Option<u8>, page: Page) -> Result<(), NoMemory>
+    ensures ok { OnOk result (head.new.items ≡ head.old.items ++ (blade_bytes blade ++ page_bytes page)) }
+    ensures fits { OnOk result (IsPageView page) }
+{
+    add_blade(head, blade)?;
+    add_page(head, page)
+}
+
 fn put_number(head: &mut Vec<u8>, kind: u8, number: u32) -> Result<(), NoMemory>
     ensures ok { OnOk result (head.new.items ≡ head.old.items ++ kind ∷ number_bytes number) }
     ensures fits { OnOk result (number < 2 ^ 32) }
@@ -180,8 +191,7 @@ fn put_numbers(head: &mut Vec<u8>, kind: u8, first: u32, second: u32) -> Result<
         ≡ head.old.items ++ kind ∷ (number_bytes first ++ number_bytes second)) }
     ensures fits { OnOk result ((first < 2 ^ 32) × (second < 2 ^ 32)) }
 {
-    add_byte(head, kind)?;
-    add_number(head, first)?;
+    put_number(head, kind, first)?;
     add_number(head, second)
 }
 
@@ -197,8 +207,7 @@ fn put_get(head: &mut Vec<u8>, page: Page, write: bool) -> Result<(), NoMemory>
     ensures ok { OnOk result (head.new.items ≡ head.old.items ++ 1 ∷ (page_bytes page ++ flag_bytes write)) }
     ensures fits { OnOk result (IsPageView page) }
 {
-    add_byte(head, 1)?;
-    add_page(head, page)?;
+    put_page(head, 1, page)?;
     add_flag(head, write)
 }
 
@@ -207,36 +216,25 @@ fn put_fill(head: &mut Vec<u8>, page: Page, perm: Perm, writable: bool) -> Resul
         ≡ head.old.items ++ 2 ∷ (page_bytes page ++ fill_bytes perm writable)) }
     ensures fits { OnOk result (IsPageView page) }
 {
-    add_byte(head, 2)?;
-    add_page(head, page)?;
+    put_page(head, 2, page)?;
     add_perm(head, perm, writable)
 }
 
-fn put_inv(
+/// Appends what a transition tells a blade.
+fn put_order(
     head: &mut Vec<u8>,
+    kind: u8,
     number: u32,
     range: Range,
     asked: Option<Page>,
 ) -> Result<(), NoMemory>
     ensures ok { OnOk result (head.new.items
-        ≡ head.old.items ++ 5 ∷ (number_bytes number ++ (range_bytes range ++ asked_bytes asked))) }
+        ≡ head.old.items ++ kind ∷ (number_bytes number ++ (range_bytes range ++ asked_bytes asked))) }
     ensures fits { OnOk result ((number < 2 ^ 32) × IsRangeView range × IsAsked asked) }
 {
-    add_byte(head, 5)?;
-    add_number(head, number)?;
+    put_number(head, kind, number)?;
     add_range(head, range)?;
     add_asked(head, asked)
-}
-
-fn put_lower(head: &mut Vec<u8>, number: u32, range: Range, asked: Page) -> Result<(), NoMemory>
-    ensures ok { OnOk result (head.new.items
-        ≡ head.old.items ++ 6 ∷ (number_bytes number ++ (range_bytes range ++ page_bytes asked))) }
-    ensures fits { OnOk result ((number < 2 ^ 32) × IsRangeView range × IsPageView asked) }
-{
-    add_byte(head, 6)?;
-    add_number(head, number)?;
-    add_range(head, range)?;
-    add_page(head, asked)
 }
 
 fn put_close(head: &mut Vec<u8>, number: u32, span: Span, ends: bool) -> Result<(), NoMemory>
@@ -244,8 +242,7 @@ fn put_close(head: &mut Vec<u8>, number: u32, span: Span, ends: bool) -> Result<
         ≡ head.old.items ++ 8 ∷ (number_bytes number ++ (span_bytes span ++ flag_bytes ends))) }
     ensures fits { OnOk result ((number < 2 ^ 32) × IsSpanView span) }
 {
-    add_byte(head, 8)?;
-    add_number(head, number)?;
+    put_number(head, 8, number)?;
     add_span(head, span)?;
     add_flag(head, ends)
 }
@@ -255,10 +252,8 @@ fn put_read(head: &mut Vec<u8>, phys: u32, blade: Option<u8>, page: Page) -> Res
         ≡ head.old.items ++ 11 ∷ (number_bytes phys ++ (blade_bytes blade ++ page_bytes page))) }
     ensures fits { OnOk result ((phys < 2 ^ 32) × IsPageView page) }
 {
-    add_byte(head, 11)?;
-    add_number(head, phys)?;
-    add_blade(head, blade)?;
-    add_page(head, page)
+    put_number(head, 11, phys)?;
+    add_reader(head, blade, page)
 }
 
 fn put_image_head(head: &mut Vec<u8>, blade: Option<u8>, page: Page) -> Result<(), NoMemory>
@@ -266,6 +261,5 @@ fn put_image_head(head: &mut Vec<u8>, blade: Option<u8>, page: Page) -> Result<(
     ensures fits { OnOk result (IsPageView page) }
 {
     add_byte(head, 12)?;
-    add_blade(head, blade)?;
-    add_page(head, page)
+    add_reader(head, blade, page)
 }

@@ -1,13 +1,13 @@
-use Rattle.std.proofs.Common.{◌≡◌, ℕ, List, ◌++◌, map, All, sym, ap, ◌∙◌, subst}
+use Rattle.std.proofs.Common.{◌≡◌, ℕ, List, ◌++◌, map, All, sym, subst}
 use Rattle.std.specs.Global.{Vec}
-use Rattle.link_retry.specs.Link.{LinkView, Delivers}
+use Rattle.link_retry.specs.Link.{LinkView, FrameDelivers}
 use Rattle.link_retry.specs.GoBackN.{DeliversInOrder}
 use Rattle.wire_msg.specs.Spelling.{spelling}
 use Rattle.wire_msg.specs.declared.msgs.Msg.{Msg}
 use Rattle.wire_msg.specs.WellFormed.{IsWellFormed}
 use Rattle.rack_net.specs.Net.{spelled}
-use Rattle.rack_net.specs.Kept.{IsSpelled, read, link_of}
-use Rattle.rack_net.proofs.Carrying.{taken-spelled, held-delivered, fifo-delivered, as-messages}
+use Rattle.rack_net.specs.Kept.{IsSpelled, link_of}
+use Rattle.rack_net.proofs.Carrying.{taken-spelled, held-delivered, fifo-delivered, as-messages, when-read}
 use Rattle.rack_net.proofs.Texts.{all-formed}
 use Rattle.rack_net.proofs.carried.deliver_on.Goals as goal
 
@@ -18,28 +18,24 @@ read_all-requires c =
 
 pub returns-clause-fifo : goal.returns-clause-fifo
 returns-clause-fifo c =
-    let read_are : c.in_ok-msgs.msgs.items ≡ map read (map (λ v. v.items) c.in_ok-taken.taken.items) = c.in_ok-msgs.ensures ∙ ap (λ (texts : List (Vec ℕ)). map read (map (λ v. v.items) texts)) c.as_slice.ensures.value in
-    subst (λ (msgs : List Msg). (link_of c.args.link.now).pending ≡ msgs ++ (link_of c.deliver.new.self).pending) (sym read_are)
+    when-read (λ (msgs : List Msg). (link_of c.args.link.now).pending ≡ msgs ++ (link_of c.deliver.new.self).pending) _ _ _ c.in_ok-msgs.ensures c.as_slice.ensures.value
     (fifo-delivered c.args.link.now c.args.side c.args.k _ c.deliver.new.self c.in_ok-taken.ensures.ok)
 
 pub returns-clause-link : goal.returns-clause-link
 returns-clause-link c =
-    let read_are : c.in_ok-msgs.msgs.items ≡ map read (map (λ v. v.items) c.in_ok-taken.taken.items) = c.in_ok-msgs.ensures ∙ ap (λ (texts : List (Vec ℕ)). map read (map (λ v. v.items) texts)) c.as_slice.ensures.value in
-    subst (λ (msgs : List Msg). Delivers (spelled (link_of c.args.link.now)) c.args.side c.args.k (map spelling msgs) (spelled (link_of c.deliver.new.self))) (sym read_are)
-    (as-messages (λ (a : LinkView) (t : List (List ℕ)) (b : LinkView). Delivers a c.args.side c.args.k t b) c.args.link.now c.args.side c.args.k _ c.deliver.new.self
+    when-read (λ (msgs : List Msg). FrameDelivers (spelled (link_of c.args.link.now)) c.args.side c.args.k (map spelling msgs) (spelled (link_of c.deliver.new.self))) _ _ _ c.in_ok-msgs.ensures c.as_slice.ensures.value
+    (as-messages (λ (a : LinkView) (t : List (List ℕ)) (b : LinkView). FrameDelivers a c.args.side c.args.k t b) c.args.link.now c.args.side c.args.k _ c.deliver.new.self
     c.requires c.in_ok-taken.ensures.link c.in_ok-taken.ensures.ok c.in_ok-taken.ensures.ok)
 
 pub returns-clause-go_back_n : goal.returns-clause-go_back_n
 returns-clause-go_back_n c =
-    let read_are : c.in_ok-msgs.msgs.items ≡ map read (map (λ v. v.items) c.in_ok-taken.taken.items) = c.in_ok-msgs.ensures ∙ ap (λ (texts : List (Vec ℕ)). map read (map (λ v. v.items) texts)) c.as_slice.ensures.value in
-    subst (λ (msgs : List Msg). DeliversInOrder (spelled (link_of c.args.link.now)) c.args.side c.args.k (map spelling msgs) (spelled (link_of c.deliver.new.self))) (sym read_are)
+    when-read (λ (msgs : List Msg). DeliversInOrder (spelled (link_of c.args.link.now)) c.args.side c.args.k (map spelling msgs) (spelled (link_of c.deliver.new.self))) _ _ _ c.in_ok-msgs.ensures c.as_slice.ensures.value
     (as-messages (λ (a : LinkView) (t : List (List ℕ)) (b : LinkView). DeliversInOrder a c.args.side c.args.k t b) c.args.link.now c.args.side c.args.k _ c.deliver.new.self
     c.requires c.in_ok-taken.ensures.link c.in_ok-taken.ensures.ok c.in_ok-taken.ensures.go_back_n)
 
 pub returns-clause-formed : goal.returns-clause-formed
 returns-clause-formed c =
-    let read_are : c.in_ok-msgs.msgs.items ≡ map read (map (λ v. v.items) c.in_ok-taken.taken.items) = c.in_ok-msgs.ensures ∙ ap (λ (texts : List (Vec ℕ)). map read (map (λ v. v.items) texts)) c.as_slice.ensures.value in
-    subst (All IsWellFormed) (sym read_are)
+    when-read (All IsWellFormed) _ _ _ c.in_ok-msgs.ensures c.as_slice.ensures.value
     (all-formed _ (taken-spelled c.args.link.now c.args.side c.args.k _ c.deliver.new.self c.requires c.in_ok-taken.ensures.ok))
 
 pub returns-clause-held : goal.returns-clause-held

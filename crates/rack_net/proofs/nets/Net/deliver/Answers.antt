@@ -1,22 +1,20 @@
 use Rattle.std.proofs.Common.{◌≡◌, ◌++◌, map, set}
-use Rattle.link_retry.specs.Link.{Delivers}
+use Rattle.link_retry.specs.Link.{FrameDelivers}
 use Rattle.link_retry.specs.GoBackN.{DeliversInOrder}
 use Rattle.wire_msg.specs.Spelling.{spelling}
 use Rattle.rack_net.specs.Net.{spelled}
-use Rattle.rack_net.specs.Kept.{view_of}
+use Rattle.rack_net.specs.Kept.{net_view}
 use Rattle.rack_net.proofs.Putting.{Updates, updates, by-name, is-net}
 use Rattle.rack_net.proofs.nets.Net.deliver.Goals as goal
 
-step : (c : goal.In-Ok) → Updates c.args.self.now (view_of c.self.inside.blades c.self.inside.memories (set c.self.inside.links.items c.place-at.result c.deliver_on.new.link)) c.args.link c.index_mut.result.now c.deliver_on.new.link
-step c =
-    updates c.args.self.now c.self.inside.blades c.self.inside.memories c.self.inside.links.items c.args.link c.place-at.result c.index_mut.result.now c.deliver_on.new.link
-    c.self.view_is c.self.invariant c.requires c.place-at.ensures c.index_mut.ensures.value c.in-Ok.ensures.held
+step : (c : goal.In-Ok) → Updates c.args.self.now (net_view c.self.inside.blades c.self.inside.memories (set c.self.inside.links.items c.place-at.result c.deliver_on.new.link)) c.args.link c.index_mut.result.now c.deliver_on.new.link
+step c = updates c.self.view_is c.self.invariant c.requires c.place-at.ensures c.index_mut.ensures.value c.in-Ok.ensures.held
 
 pub returns-in-Ok-clause-fifo : goal.returns-in-Ok-clause-fifo
 returns-in-Ok-clause-fifo c = by-name _ _ c.args.link _ _ (λ a b. a.pending ≡ c.in-Ok.taken.items ++ b.pending) (step c) c.in-Ok.ensures.fifo
 
 pub returns-in-Ok-clause-link : goal.returns-in-Ok-clause-link
-returns-in-Ok-clause-link c = by-name _ _ c.args.link _ _ (λ a b. Delivers (spelled a) c.args.side c.args.k (map spelling c.in-Ok.taken.items) (spelled b)) (step c) c.in-Ok.ensures.link
+returns-in-Ok-clause-link c = by-name _ _ c.args.link _ _ (λ a b. FrameDelivers (spelled a) c.args.side c.args.k (map spelling c.in-Ok.taken.items) (spelled b)) (step c) c.in-Ok.ensures.link
 
 pub returns-in-Ok-clause-go_back_n : goal.returns-in-Ok-clause-go_back_n
 returns-in-Ok-clause-go_back_n c = by-name _ _ c.args.link _ _ (λ a b. DeliversInOrder (spelled a) c.args.side c.args.k (map spelling c.in-Ok.taken.items) (spelled b)) (step c) c.in-Ok.ensures.go_back_n

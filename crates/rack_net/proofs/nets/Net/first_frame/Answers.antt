@@ -2,7 +2,7 @@ use Rattle.std.proofs.Common.{List, All, subst}
 use Rattle.std.specs.Prelude.{None}
 use Rattle.link_retry.specs.Link.{LinkView}
 use Rattle.rack_net.specs.Net.{NetView, IsNet, IsFirstFrame, FindsFrame}
-use Rattle.rack_net.specs.Kept.{IsQuiet, IsFirstBusy}
+use Rattle.rack_net.specs.Kept.{IsQuietLink, IsFirstBusy}
 use Rattle.rack_net.proofs.Putting.{is-net}
 use Rattle.rack_net.proofs.Finding.{no-frame, first-frame, found-below}
 use Rattle.rack_net.proofs.nets.Net.first_frame.Goals as goal
@@ -10,7 +10,7 @@ use Rattle.rack_net.proofs.nets.Net.first_frame.Goals as goal
 pub returns-in-None-clause-first : goal.returns-in-None-clause-first
 returns-in-None-clause-first c =
     subst (λ (v : NetView). FindsFrame v None) c.self.view_is
-    (no-frame c.self.inside.blades c.self.inside.memories c.self.inside.links.items c.self.invariant (subst (All IsQuiet) c.as_slice.ensures.value c.in-None.ensures))
+    (no-frame c.self.inside.blades c.self.inside.memories c.self.inside.links.items c.self.invariant (subst (All IsQuietLink) c.as_slice.ensures.value c.in-None.ensures))
 
 pub returns-in-None-clause-net : goal.returns-in-None-clause-net
 returns-in-None-clause-net c = subst IsNet c.self.view_is (is-net _ _ _ c.self.invariant)

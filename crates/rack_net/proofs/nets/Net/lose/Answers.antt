@@ -1,14 +1,12 @@
 use Rattle.std.proofs.Common.{◌≡◌, set}
 use Rattle.link_retry.specs.Link.{after_lose}
 use Rattle.rack_net.specs.Net.{spelled}
-use Rattle.rack_net.specs.Kept.{view_of}
+use Rattle.rack_net.specs.Kept.{net_view}
 use Rattle.rack_net.proofs.Putting.{Updates, updates, by-name}
 use Rattle.rack_net.proofs.nets.Net.lose.Goals as goal
 
-step : (c : goal.After-self-1) → Updates c.args.self.now (view_of c.self.inside.blades c.self.inside.memories (set c.self.inside.links.items c.place-at.result c.lose_on.new.link)) c.args.link c.index_mut.result.now c.lose_on.new.link
-step c =
-    updates c.args.self.now c.self.inside.blades c.self.inside.memories c.self.inside.links.items c.args.link c.place-at.result c.index_mut.result.now c.lose_on.new.link
-    c.self.view_is c.self.invariant c.requires c.place-at.ensures c.index_mut.ensures.value c.lose_on.ensures.held
+step : (c : goal.After-self-1) → Updates c.args.self.now (net_view c.self.inside.blades c.self.inside.memories (set c.self.inside.links.items c.place-at.result c.lose_on.new.link)) c.args.link c.index_mut.result.now c.lose_on.new.link
+step c = updates c.self.view_is c.self.invariant c.requires c.place-at.ensures c.index_mut.ensures.value c.lose_on.ensures.held
 
 pub returns-clause-fifo : goal.returns-clause-fifo
 returns-clause-fifo c = by-name _ _ c.args.link _ _ (λ a b. b.pending ≡ a.pending) (step c) c.lose_on.ensures.fifo

@@ -1,16 +1,16 @@
 use Rattle.std.proofs.Common.{◌≡◌, List, sym, subst}
 use Rattle.link_retry.specs.Link.{LinkView}
 use Rattle.rack_net.specs.Net.{IsNet, empty_link, links_of}
-use Rattle.rack_net.specs.Kept.{view_of}
+use Rattle.rack_net.specs.Kept.{net_view}
 use Rattle.rack_net.proofs.Putting.{is-net, kept-new, all-empty}
 use Rattle.rack_net.proofs.nets.Net.new.Goals as goal
 
 pub returns-clause-empty : goal.returns-clause-empty
 returns-clause-empty c =
-    subst (λ (links : List LinkView). links_of (view_of c.args.blades c.args.memories links) ≡ (λ _. empty_link)) (sym c.in_ok-links.ensures)
+    subst (λ (links : List LinkView). links_of (net_view c.args.blades c.args.memories links) ≡ (λ _. empty_link)) (sym c.in_ok-links.ensures)
     (all-empty c.args.blades c.args.memories)
 
 pub returns-clause-net : goal.returns-clause-net
 returns-clause-net c =
-    subst (λ (links : List LinkView). IsNet (view_of c.args.blades c.args.memories links)) (sym c.in_ok-links.ensures)
+    subst (λ (links : List LinkView). IsNet (net_view c.args.blades c.args.memories links)) (sym c.in_ok-links.ensures)
     (is-net c.args.blades c.args.memories _ (kept-new c.args.blades c.args.memories))

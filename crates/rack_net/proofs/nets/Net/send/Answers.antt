@@ -4,14 +4,12 @@ use Rattle.mind_base.specs.declared.failures.Stop.{Stop}
 use Rattle.link_retry.specs.Link.{after_send}
 use Rattle.wire_msg.specs.Spelling.{spelling}
 use Rattle.rack_net.specs.Net.{spelled}
-use Rattle.rack_net.specs.Kept.{view_of, IsHeld}
+use Rattle.rack_net.specs.Kept.{net_view, IsHeld}
 use Rattle.rack_net.proofs.Putting.{Updates, updates, by-name, is-net, kept-changed, held-at}
 use Rattle.rack_net.proofs.nets.Net.send.Goals as goal
 
-step : (c : goal.In-Ok) → Updates c.args.self.now (view_of c.self.inside.blades c.self.inside.memories (set c.self.inside.links.items c.place-at.result c.send_on.new.link)) c.args.link c.index_mut.result.now c.send_on.new.link
-step c =
-    updates c.args.self.now c.self.inside.blades c.self.inside.memories c.self.inside.links.items c.args.link c.place-at.result c.index_mut.result.now c.send_on.new.link
-    c.self.view_is c.self.invariant c.requires.of_net c.place-at.ensures c.index_mut.ensures.value c.in-Ok.ensures.held
+step : (c : goal.In-Ok) → Updates c.args.self.now (net_view c.self.inside.blades c.self.inside.memories (set c.self.inside.links.items c.place-at.result c.send_on.new.link)) c.args.link c.index_mut.result.now c.send_on.new.link
+step c = updates c.self.view_is c.self.invariant c.requires.of_net c.place-at.ensures c.index_mut.ensures.value c.in-Ok.ensures.held
 
 pub returns-in-Ok-clause-fifo : goal.returns-in-Ok-clause-fifo
 returns-in-Ok-clause-fifo c = by-name _ _ c.args.link _ _ (λ a b. b.pending ≡ a.pending ++ c.args.msg.now ∷ []) (step c) c.in-Ok.ensures.fifo
