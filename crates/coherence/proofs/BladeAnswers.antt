@@ -1,13 +1,14 @@
 -- An invalidation or a lowering is answered.
-use Rattle.std.proofs.Common.{◌≡◌, ◌⊎◌, inl, inr, ℕ, ◌+◌, ◌==◌, true, false, ap, sym, refl, subst, List, [], ◌∷◌, Option, Some, None, arith, ◌∙◌}
+use Rattle.std.proofs.Common.{◌≡◌, ◌⊎◌, inl, inr, ℕ, ◌+◌, ◌==◌, Bool, true, false, ap, sym, refl, subst, List, [], ◌∷◌, Option, Some, None, arith, ◌∙◌}
 use Rattle.mind_base.specs.Page.{PageView}
 use Rattle.mind_base.specs.Range.{RangeView}
+use Rattle.page_cache.specs.PageCache.{is_writable}
 use Rattle.region_directory.specs.declared.entries.Busy.{Busy}
 use Rattle.wire_msg.specs.declared.msgs.Msg.{Msg}
 use Rattle.wire_msg.specs.declared.msgs.Msg.TheVariants.{Inv, Lower, Ack}
 use Rattle.coherence.specs.World.{World}
 use Rattle.coherence.specs.Counts.{bit, total, none_is, is_back, is_fill, is_deny, is_call}
-use Rattle.coherence.specs.Facts.{IsCoherent, IsUp, AreDowns, AreAnswered, AreCalled, AreWritten, WaitsFor, transition, is_writable, names}
+use Rattle.coherence.specs.Facts.{IsCoherent, IsUp, AreDowns, AreAnswered, AreCalled, AreWritten, WaitsSomewhere, transition, names}
 use Rattle.coherence.specs.Moves.{answers, HoldsNone, HoldsNoneWritable}
 use Rattle.coherence.proofs.Keys.{put-here, put-other}
 use Rattle.coherence.proofs.Lists.{total-append, total-one, total-cons, none_is-total, total-none_is, none_is-nothing, downs-cons, ups-one}
@@ -19,7 +20,7 @@ pub record Answered (c number : ℕ) (behind : List Msg) (w : World) : Type 0 wh
   pub fills : (page : PageView) → total (is_fill page) (w.downs c) ≡ total (is_fill page) behind
   pub denies : (page : PageView) → total (is_deny page) (w.downs c) ≡ total (is_deny page) behind
   pub rest : AreDowns w c behind
-  pub waits : WaitsFor w.regions number c
+  pub waits : WaitsSomewhere w.regions number c
   pub unfilled : (page : PageView) (busy : Busy) → transition number (w.regions page) ≡ Some busy → none_is (is_fill page) behind ≡ true
   pub left : (page : PageView) (busy : Busy) → transition number (w.regions page) ≡ Some busy
       → (w.frames c page ≡ None) ⊎ ((is_writable (w.frames c page) ≡ false) × (names busy.target c ≡ true))
@@ -99,32 +100,38 @@ answers-keeps c number count behind w s h = let v = answers c number count behin
 
 -- ---- the two moves
 
+-- the first message down is the call, and nothing else
+answered-first : (c number : ℕ) (m : Msg) (behind : List Msg) (w : World) → w.downs c ≡ m ∷ behind
+    → ((other : ℕ) → is_call other m ≡ (other == number)) → ((page : PageView) → is_fill page m ≡ false) → ((page : PageView) → is_deny page m ≡ false)
+    → AreDowns w c behind → WaitsSomewhere w.regions number c
+    → ((page : PageView) (busy : Busy) → transition number (w.regions page) ≡ Some busy → none_is (is_fill page) behind ≡ true)
+    → ((page : PageView) (busy : Busy) → transition number (w.regions page) ≡ Some busy
+    → (w.frames c page ≡ None) ⊎ ((is_writable (w.frames c page) ≡ false) × (names busy.target c ≡ true)))
+    → Answered c number behind w
+answered-first c number m behind w e call fill deny rest waits unfilled left = record {
+  calls = λ other. counted (is_call other) (other == number) (call other);
+  fills = λ page. counted (is_fill page) false (fill page) ∙ omega arith;
+  denies = λ page. counted (is_deny page) false (deny page) ∙ omega arith;
+  rest = rest;
+  waits = waits;
+  unfilled = unfilled;
+  left = left;
+} where
+  counted : (test : Msg → Bool) (b : Bool) → test m ≡ b → total test (w.downs c) ≡ bit b + total test behind
+  counted test b is = ap (total test) e ∙ total-cons test m behind ∙ ap (λ t. bit t + total test behind) is
+
 pub answers_inv-keeps : (c number : ℕ) (range : RangeView) (asked : Option PageView) (count : ℕ) (behind : List Msg) (w : World)
     → w.downs c ≡ Inv number range asked ∷ behind → HoldsNone w c range → IsCoherent w → IsCoherent (answers c number count behind w)
 answers_inv-keeps c number range asked count behind w e held h =
-    let m = Inv number range asked in
-    let parts = downs-cons w c m behind (subst (λ q. AreDowns w c q) e (h.downs c)) in
-    answers-keeps c number count behind w (record {
-      calls = λ other. ap (total (is_call other)) e ∙ total-cons (is_call other) m behind;
-      fills = λ page. ap (total (is_fill page)) e ∙ total-cons (is_fill page) m behind ∙ omega arith;
-      denies = λ page. ap (total (is_deny page)) e ∙ total-cons (is_deny page) m behind ∙ omega arith;
-      rest = parts.1;
-      waits = parts.0.0;
-      unfilled = λ page busy g. (parts.0.1 page busy g).fill;
-      left = λ page busy g. inl (held page (parts.0.1 page busy g).block);
-    }) h
+    let parts = downs-cons w c (Inv number range asked) behind (subst (λ q. AreDowns w c q) e (h.downs c)) in
+    answers-keeps c number count behind w
+    (answered-first c number (Inv number range asked) behind w e (λ other. refl) (λ page. refl) (λ page. refl) parts.1 parts.0.0
+    (λ page busy g. (parts.0.1 page busy g).fill) (λ page busy g. inl (held page (parts.0.1 page busy g).block))) h
 
 pub answers_lower-keeps : (c number : ℕ) (range : RangeView) (asked : PageView) (count : ℕ) (behind : List Msg) (w : World)
     → w.downs c ≡ Lower number range asked ∷ behind → HoldsNoneWritable w c range → IsCoherent w → IsCoherent (answers c number count behind w)
 answers_lower-keeps c number range asked count behind w e held h =
-    let m = Lower number range asked in
-    let parts = downs-cons w c m behind (subst (λ q. AreDowns w c q) e (h.downs c)) in
-    answers-keeps c number count behind w (record {
-      calls = λ other. ap (total (is_call other)) e ∙ total-cons (is_call other) m behind;
-      fills = λ page. ap (total (is_fill page)) e ∙ total-cons (is_fill page) m behind ∙ omega arith;
-      denies = λ page. ap (total (is_deny page)) e ∙ total-cons (is_deny page) m behind ∙ omega arith;
-      rest = parts.1;
-      waits = parts.0.0;
-      unfilled = λ page busy g. (parts.0.1 page busy g).0.fill;
-      left = λ page busy g. inr (held page (parts.0.1 page busy g).0.block, (parts.0.1 page busy g).1);
-    }) h
+    let parts = downs-cons w c (Lower number range asked) behind (subst (λ q. AreDowns w c q) e (h.downs c)) in
+    answers-keeps c number count behind w
+    (answered-first c number (Lower number range asked) behind w e (λ other. refl) (λ page. refl) (λ page. refl) parts.1 parts.0.0
+    (λ page busy g. (parts.0.1 page busy g).0.fill) (λ page busy g. inr (held page (parts.0.1 page busy g).0.block, (parts.0.1 page busy g).1))) h

@@ -7,6 +7,8 @@ use Rattle.mind_base.specs.declared.commands.Perm.{Perm}
 use Rattle.mind_base.specs.declared.notes.State.{State}
 use Rattle.mind_base.specs.declared.notes.State.TheVariants.{I, S, M}
 use Rattle.mind_base.specs.Range.{in_range}
+use Rattle.mind_base.specs.Permission.{allows}
+use Rattle.page_cache.specs.PageCache.{is_writable}
 use Rattle.region_directory.specs.declared.entries.Busy.{Busy}
 use Rattle.page_cache.proofs.Laws.{same_page-refl}
 use Rattle.page_cache.specs.declared.frames.Frame.{Frame}
@@ -15,12 +17,12 @@ use Rattle.wire_msg.specs.declared.msgs.Msg.{Msg}
 use Rattle.wire_msg.specs.declared.msgs.Msg.TheVariants.{Get, Fill, Deny, Back, Inv, Lower, Ack}
 use Rattle.coherence.specs.World.{Region, World, put}
 use Rattle.coherence.specs.Counts.{total, none_is, is_get, is_back, is_fill, is_deny}
-use Rattle.coherence.specs.Facts.{IsCoherent, AreFrames, AreAnswered, AreWanted, AreCalled, AreWritten, is_fetching, IsUp, AreUps, IsDown, AreDowns, IsFill, IsCall, Keeps, names, allows, WaitsFor, transition, is_writable, may, may_write, owns, has_not_answered, stays}
+use Rattle.coherence.specs.Facts.{IsCoherent, AreFrames, AreAnswered, AreWanted, AreCalled, AreWritten, is_fetching, IsUp, AreUps, IsDown, AreDowns, IsFill, IsCall, KeepsAtMost, names, WaitsSomewhere, transition, may, may_hold_writable, owns, has_not_answered, stays}
 use Rattle.coherence.proofs.Lists.{tos_kept, froms_kept, Among, among-none, none_is-append, none_is-nothing, ups_changed, downs_kept, ups-none}
 use Rattle.coherence.proofs.Keys.{put-cases, at_number}
 
 -- who may write a page may hold it
-pub may_write-may : (region : Option Region) (blade : ℕ) → may_write region blade ≡ true → may region blade ≡ true
+pub may_write-may : (region : Option Region) (blade : ℕ) → may_hold_writable region blade ≡ true → may region blade ≡ true
 may_write-may None blade h = h
 may_write-may (Some region) blade h = by region.state region.busy h where
   by : (state : State) (busy : Option Busy) → owns state blade && has_not_answered busy blade ≡ true → names state blade && stays busy blade ≡ true
@@ -30,7 +32,7 @@ may_write-may (Some region) blade h = by region.state region.busy h where
   by (M owner) (Some busy) e = grind arith
 
 -- where a blade may write a page, no other may hold it
-pub writes_alone : (region : Option Region) (writer holder : ℕ) → may_write region writer ≡ true → may region holder ≡ true → holder ≡ writer
+pub writes_alone : (region : Option Region) (writer holder : ℕ) → may_hold_writable region writer ≡ true → may region holder ≡ true → holder ≡ writer
 writes_alone None writer holder h g = grind (arith, h)
 writes_alone (Some region) writer holder h g = by region.state (and_parts _ _ h).0 (and_parts _ _ g).0 where
   by : (state : State) → owns state writer ≡ true → names state holder ≡ true → holder ≡ writer
@@ -54,7 +56,7 @@ pub record UpsStep (w v : World) (blade : ℕ) (queue tail : List Msg) : Type 0 
       → (is_writable (v.frames blade page) ≡ false) × (none_is (is_back page) tail ≡ true)
   pub gone : (page : PageView) → none_is (is_fill page) (w.downs blade) ≡ true → w.frames blade page ≡ None → v.frames blade page ≡ None
   -- an image that is on its way back is still the newest
-  pub flat : (page : PageView) → may_write (w.regions page) blade ≡ true → is_writable (w.frames blade page) ≡ false → v.flat page ≡ w.flat page
+  pub flat : (page : PageView) → may_hold_writable (w.regions page) blade ≡ true → is_writable (w.frames blade page) ≡ false → v.flat page ≡ w.flat page
 
 up-get : (w v : World) (blade : ℕ) (queue tail : List Msg) → UpsStep w v blade queue tail
     → (page : PageView) (write : Bool) (behind : List Msg) → Among (Get page write) queue
@@ -66,7 +68,7 @@ up-get w v blade queue tail s page write behind among h = by (s.get page) where
 
 keeps : (w v : World) (blade : ℕ) (queue tail : List Msg) → UpsStep w v blade queue tail
     → (behind : List Msg) (page : PageView) (busy : Busy)
-    → Keeps (w.frames blade page) (w.downs blade) behind page blade busy → Keeps (v.frames blade page) (v.downs blade) (behind ++ tail) page blade busy
+    → KeepsAtMost (w.frames blade page) (w.downs blade) behind page blade busy → KeepsAtMost (v.frames blade page) (v.downs blade) (behind ++ tail) page blade busy
 keeps w v blade queue tail s behind page busy k = record {
   back = none_is-append (is_back page) behind tail k.back kept.1;
   fill = s.fills page k.fill;
@@ -88,7 +90,7 @@ up-back : (w v : World) (blade : ℕ) (queue tail : List Msg) → UpsStep w v bl
     → (page : PageView) (image : PageImageView) (behind : List Msg)
     → IsUp w blade (Back page image) behind → IsUp v blade (Back page image) (behind ++ tail)
 up-back w v blade queue tail s page image behind h = record {
-  writer = ap (λ f. may_write (f page) blade) s.regions ∙ h.writer;
+  writer = ap (λ f. may_hold_writable (f page) blade) s.regions ∙ h.writer;
   newest = h.newest ∙ sym (s.flat page h.writer h.lowered);
   placed = ap (λ f. is_some (f page)) s.places ∙ h.placed;
   lowered = (s.unwritable page h.unfilled h.lowered).0;
@@ -101,7 +103,7 @@ up-step : (w v : World) (blade : ℕ) (queue tail : List Msg) → UpsStep w v bl
 up-step w v blade queue tail s (Get page write) behind among h = up-get w v blade queue tail s page write behind among h
 up-step w v blade queue tail s (Back page image) behind among h = up-back w v blade queue tail s page image behind h
 up-step w v blade queue tail s (Ack number count) behind among h = (
-  subst (λ f. WaitsFor f number blade) (sym s.regions) h.0,
+  subst (λ f. WaitsSomewhere f number blade) (sym s.regions) h.0,
   λ page busy e. keeps w v blade queue tail s behind page busy (h.1 page busy (ap (λ f. transition number (f page)) (sym s.regions) ∙ e)),
 )
 up-step w v blade queue tail s m behind among h = absurd h
@@ -142,7 +144,7 @@ down-fill w v blade queue s page perm writable image among h = by (s.asks page) 
   by (inl e) (inr f) = absurd (none f)
   by (inl e) (inl f) = record {
     held = ap (λ r. may (r page) blade) s.regions ∙ h.held;
-    writer = λ g. ap (λ r. may_write (r page) blade) s.regions ∙ h.writer g;
+    writer = λ g. ap (λ r. may_hold_writable (r page) blade) s.regions ∙ h.writer g;
     newest = h.newest ∙ sym f;
     perm = h.perm ∙ ap (λ p. p page) (sym s.perms);
     readable = ap (λ p. allows writable (p page)) s.perms ∙ h.readable;
@@ -164,11 +166,11 @@ down-step : (w v : World) (blade : ℕ) (queue : List Msg) → DownsStep w v bla
 down-step w v blade queue s (Fill page perm writable image) behind among h = down-fill w v blade queue s page perm writable image among h
 down-step w v blade queue s (Deny page) behind among h = down-deny w v blade queue s page among h
 down-step w v blade queue s (Inv number range asked) behind among h = subst
-    (λ r. WaitsFor r number blade
+    (λ r. WaitsSomewhere r number blade
     × ((page : PageView) (busy : Busy) → transition number (r page) ≡ Some busy → IsCall (r page) page (in_range range page) behind))
     (sym s.regions) h
 down-step w v blade queue s (Lower number range asked) behind among h = subst
-    (λ r. WaitsFor r number blade
+    (λ r. WaitsSomewhere r number blade
     × ((page : PageView) (busy : Busy) → transition number (r page) ≡ Some busy
     → IsCall (r page) page (in_range range page) behind × (names busy.target blade ≡ true)))
     (sym s.regions) h

@@ -5,14 +5,15 @@ use Rattle.std.proofs.lemmas.Option.{same_Some}
 use Rattle.mind_base.specs.Page.{PageView}
 use Rattle.mind_base.specs.declared.commands.Perm.{Perm}
 use Rattle.mind_base.specs.declared.commands.Perm.TheVariants.{No, R, Rw}
-use Rattle.page_cache.specs.PageCache.{same_page, lowered_frame}
+use Rattle.mind_base.specs.Permission.{allows}
+use Rattle.page_cache.specs.PageCache.{same_page, lowered_frame, is_writable}
 use Rattle.page_cache.specs.declared.frames.Frame.{Frame}
 use Rattle.page_cache.proofs.Laws.{same_page-true, same_page-refl}
 use Rattle.wire_msg.specs.declared.msgs.Msg.{Msg}
 use Rattle.wire_msg.specs.declared.msgs.Msg.TheVariants.{Back}
 use Rattle.coherence.specs.World.{Wanted, World, put_both}
 use Rattle.coherence.specs.Counts.{bit, total, none_is, is_get, is_back, is_fill, is_ack}
-use Rattle.coherence.specs.Facts.{IsCoherent, IsFrame, AreFrames, AreUps, AreWanted, AreAnswered, AreCalled, AreWritten, is_writable, is_dirty, allows}
+use Rattle.coherence.specs.Facts.{IsCoherent, IsFrame, AreFrames, AreUps, AreWanted, AreAnswered, AreCalled, AreWritten, is_dirty}
 use Rattle.coherence.specs.Moves.{backs, sends, gave_up, lowered}
 use Rattle.coherence.proofs.Keys.{put_both-here, put_both-other, both-cases}
 use Rattle.coherence.proofs.Lists.{total-append, total-one, total-none, total-none_is, ups-none, ups-one}

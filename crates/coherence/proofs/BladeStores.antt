@@ -8,7 +8,7 @@ use Rattle.page_cache.proofs.Laws.{same_page-true}
 use Rattle.page_image.specs.PageImage.{PageImageView}
 use Rattle.coherence.specs.World.{Wanted, World, put_page}
 use Rattle.coherence.specs.Counts.{is_back}
-use Rattle.coherence.specs.Facts.{IsCoherent, IsFrame, AreFrames, AreWanted, AreAnswered, AreFetches, AreWritten, is_dirty, is_fetching, may, written}
+use Rattle.coherence.specs.Facts.{IsCoherent, IsFrame, AreFrames, AreWanted, AreAnswered, AreFetches, AreWritten, is_dirty, is_fetching, may, images_written}
 use Rattle.coherence.specs.Moves.{stored}
 use Rattle.coherence.proofs.Keys.{put_both-other, put_page-here, put_page-away, both-cases, AtBoth, Here, Away, at_both}
 use Rattle.coherence.proofs.Lists.{none_is-nothing}
@@ -126,7 +126,7 @@ stores-clean c p frame image w blade page e g = grind arith
 
 stores-written : (c : ℕ) (p : PageView) (frame : Frame) (image : PageImageView) (w : World) → AreWritten w → AreWritten (stored c p frame image w)
 stores-written c p frame image w h page place e g = by (same_page page p) refl where
-  by : (b : Bool) → same_page page p ≡ b → written (w.tos place.0) (w.images place.0) place.1 ≡ (stored c p frame image w).flat page
+  by : (b : Bool) → same_page page p ≡ b → images_written (w.tos place.0) (w.images place.0) place.1 ≡ (stored c p frame image w).flat page
   by true here = absurd (stores-dirty c p frame image w page here (g c).0)
   by false away = h page place e (λ blade. (stores-clean c p frame image w blade page away (g blade).0, (g blade).1)) ∙ sym (put_page-away p image w.flat page away)
 

@@ -5,7 +5,7 @@ use Rattle.std.proofs.lemmas.Bool.{eqb-true}
 use Rattle.std.proofs.lemmas.Option.{same_Some}
 use Rattle.mind_base.specs.Page.{PageView}
 use Rattle.mind_base.specs.declared.commands.Perm.{Perm}
-use Rattle.page_cache.specs.PageCache.{same_page}
+use Rattle.page_cache.specs.PageCache.{same_page, is_writable}
 use Rattle.page_cache.specs.declared.frames.Frame.{Frame}
 use Rattle.page_cache.proofs.Laws.{same_page-refl}
 use Rattle.page_image.specs.PageImage.{PageImageView}
@@ -13,7 +13,7 @@ use Rattle.wire_msg.specs.declared.msgs.Msg.{Msg}
 use Rattle.wire_msg.specs.declared.msgs.Msg.TheVariants.{Fill, Deny}
 use Rattle.coherence.specs.World.{Wanted, World, put, put_both}
 use Rattle.coherence.specs.Counts.{bit, total, none_is, is_get, is_back, is_fill, is_deny, is_call}
-use Rattle.coherence.specs.Facts.{IsCoherent, IsFrame, IsFill, AreFrames, AreDowns, AreWanted, AreAnswered, AreCalled, AreWritten, is_writable, is_dirty}
+use Rattle.coherence.specs.Facts.{IsCoherent, IsFrame, IsFill, AreFrames, AreDowns, AreWanted, AreAnswered, AreCalled, AreWritten, is_dirty}
 use Rattle.coherence.specs.Moves.{took, filled, was_denied}
 use Rattle.coherence.proofs.Keys.{put_both-here, put_both-other, put_both-away, put-here, put-other, both-cases, at_both, AtBoth, Here, Away}
 use Rattle.coherence.proofs.Lists.{bit-zero, total-cons, none_is-total, total-none_is, none_is-nothing, downs-cons}

@@ -9,6 +9,7 @@ pub mod BladeAnswers
 pub mod BladeMoves
 pub mod Changes
 pub mod Queues
+pub mod MemoryMoves
 pub mod MemoryReads
 pub mod MemoryWrites
 pub mod SwitchTransitions

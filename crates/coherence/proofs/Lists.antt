@@ -13,16 +13,13 @@ use Rattle.coherence.specs.Facts.{IsUp, AreUps, IsDown, AreDowns, AreTos, AreFro
 -- ---- counts
 
 pub total-append : (test : Msg → Bool) (queue tail : List Msg) → total test (queue ++ tail) ≡ total test queue + total test tail
-unfolding total
 total-append test [] tail = omega arith
 total-append test (m ∷ queue) tail = omega (arith, total-append test queue tail)
 
 pub total-cons : (test : Msg → Bool) (m : Msg) (queue : List Msg) → total test (m ∷ queue) ≡ bit (test m) + total test queue
-unfolding total
 total-cons test m queue = refl
 
 pub total-none : (test : Msg → Bool) → total test [] ≡ 0
-unfolding total
 total-none test = refl
 
 pub total-one : (test : Msg → Bool) (m : Msg) → total test (m ∷ []) ≡ bit (test m)
@@ -68,7 +65,6 @@ among-tail m n queue h test e = h test (omega (arith, total-cons test n queue))
 pub ups_changed : (w v : World) (blade : ℕ) (queue tail : List Msg)
     → ((m : Msg) (behind : List Msg) → Among m queue → IsUp w blade m behind → IsUp v blade m (behind ++ tail))
     → AreUps v blade tail → AreUps w blade queue → AreUps v blade (queue ++ tail)
-unfolding AreUps
 ups_changed w v blade [] tail step h g = h
 ups_changed w v blade (m ∷ queue) tail step h g =
     (step m queue (among-head m queue) g.0, ups_changed w v blade queue tail (λ n behind a. step n behind (among-tail n m queue a)) h g.1)
@@ -77,13 +73,11 @@ ups_changed w v blade (m ∷ queue) tail step h g =
 pub downs_changed : (w v : World) (blade : ℕ) (queue tail : List Msg)
     → ((m : Msg) (behind : List Msg) → Among m queue → IsDown w blade m behind → IsDown v blade m (behind ++ tail))
     → AreDowns v blade tail → AreDowns w blade queue → AreDowns v blade (queue ++ tail)
-unfolding AreDowns
 downs_changed w v blade [] tail step h g = h
 downs_changed w v blade (m ∷ queue) tail step h g =
     (step m queue (among-head m queue) g.0, downs_changed w v blade queue tail (λ n behind a. step n behind (among-tail n m queue a)) h g.1)
 
 pub downs-none : (w : World) (blade : ℕ) → AreDowns w blade []
-unfolding AreDowns
 downs-none w blade = tt
 
 -- the same where nothing is appended
@@ -96,15 +90,12 @@ downs_kept w v blade queue step h = subst (λ q. AreDowns v blade q) (append-nil
 
 -- a link with no message, with one, and the first message of a link
 pub ups-none : (w : World) (blade : ℕ) → AreUps w blade []
-unfolding AreUps
 ups-none w blade = tt
 
 pub ups-one : (w : World) (blade : ℕ) (m : Msg) → IsUp w blade m [] → AreUps w blade (m ∷ [])
-unfolding AreUps
 ups-one w blade m h = (h, tt)
 
 pub downs-cons : (w : World) (blade : ℕ) (m : Msg) (queue : List Msg) → AreDowns w blade (m ∷ queue) → IsDown w blade m queue × AreDowns w blade queue
-unfolding AreDowns
 downs-cons w blade m queue h = h
 
 -- ---- the links of the memory blades
@@ -113,7 +104,6 @@ downs-cons w blade m queue h = h
 pub tos_kept : (w v : World) (memory : ℕ) (images : ℕ → PageImageView) (queue : List Msg) → v.places ≡ w.places → v.wants ≡ w.wants
     → ((blade : ℕ) (page : PageView) → is_fetching (w.wants blade page) ≡ true → v.flat page ≡ w.flat page)
     → AreTos w memory images queue → AreTos v memory images queue
-unfolding AreTos
 tos_kept w v memory images [] places wants flat h = h
 tos_kept w v memory images (Read phys (Some blade) page ∷ queue) places wants flat h = (
   ap (λ f. f page) places ∙ h.0,
@@ -138,7 +128,6 @@ from_kept w v memory message places wants flat h = absurd h
 pub froms_kept : (w v : World) (memory : ℕ) (queue : List Msg) → v.places ≡ w.places → v.wants ≡ w.wants
     → ((blade : ℕ) (page : PageView) → is_fetching (w.wants blade page) ≡ true → v.flat page ≡ w.flat page)
     → AreFroms w memory queue → AreFroms v memory queue
-unfolding AreFroms
 froms_kept w v memory [] places wants flat h = h
 froms_kept w v memory (message ∷ queue) places wants flat h =
     (from_kept w v memory message places wants flat h.0, froms_kept w v memory queue places wants flat h.1)

@@ -6,10 +6,12 @@ use Rattle.mind_base.specs.Page.{PageView}
 use Rattle.wire_msg.specs.declared.msgs.Msg.{Msg}
 use Rattle.wire_msg.specs.declared.msgs.Msg.TheVariants.{Read, Image}
 use Rattle.coherence.specs.World.{World, put}
-use Rattle.coherence.specs.Facts.{IsCoherent, AreFroms, AreTos, AreWritten, AreFetched, written}
+use Rattle.coherence.specs.Facts.{IsCoherent, AreFroms, AreTos, AreWritten, AreFetched, images_written}
 use Rattle.coherence.specs.Moves.{May, moved, Reads, read}
 use Rattle.coherence.proofs.Changes.{by-number}
-use Rattle.coherence.proofs.Queues.{total-append, none-never, froms-kept}
+use Rattle.coherence.proofs.MemoryMoves.{memory_moved}
+use Rattle.coherence.proofs.Lists.{total-append}
+use Rattle.coherence.proofs.Queues.{none-never, froms-kept}
 
 fetched_read : (w : World) (memory phys blade : ℕ) (page : PageView) (behind : List Msg) → w.tos memory ≡ Read phys (Some blade) page ∷ behind
     → AreFetched w → AreFetched (read memory phys blade page behind w)
@@ -33,25 +35,12 @@ froms_read w memory phys blade page behind head tos froms m =
 written_read : (w : World) (memory phys blade : ℕ) (page : PageView) (behind : List Msg) → w.tos memory ≡ Read phys (Some blade) page ∷ behind
     → AreWritten w → AreWritten (read memory phys blade page behind w)
 written_read w memory phys blade page behind head wrote p place lies clean =
-    by-number (λ n b. written (w.tos n) (w.images n) place.1 ≡ w.flat p → written (if b then behind else w.tos n) (w.images n) place.1 ≡ w.flat p) place.0 memory
-    (λ known. subst (λ q. written q (w.images memory) place.1 ≡ w.flat p) head known) (λ e known. known) (wrote p place lies clean)
+    by-number (λ n b. images_written (w.tos n) (w.images n) place.1 ≡ w.flat p → images_written (if b then behind else w.tos n) (w.images n) place.1 ≡ w.flat p) place.0 memory
+    (λ known. subst (λ q. images_written q (w.images memory) place.1 ≡ w.flat p) head known) (λ e known. known) (wrote p place lies clean)
 
 pub reads : (w : World) (memory phys blade : ℕ) (page : PageView) (behind : List Msg) → IsCoherent w → May w (Reads memory phys blade page behind)
     → IsCoherent (moved w (Reads memory phys blade page behind))
-reads w memory phys blade page behind safe head = record {
-  frames = safe.frames;
-  ups = safe.ups;
-  downs = safe.downs;
-  answered = safe.answered;
-  wanted = safe.wanted;
-  fetched = fetched_read w memory phys blade page behind head safe.fetched;
-  called = safe.called;
-  fetches = safe.fetches;
-  numbered = safe.numbered;
-  blocks = safe.blocks;
-  targets = safe.targets;
-  tos = tos_read w memory phys blade page behind head safe.tos;
-  written = written_read w memory phys blade page behind head safe.written;
-  froms = froms_read w memory phys blade page behind head safe.tos safe.froms;
-  placed = record { apart = safe.placed.apart; placed = safe.placed.placed };
-}
+reads w memory phys blade page behind safe head =
+    memory_moved (put memory behind w.tos) (put memory (w.froms memory ++ Image (Some blade) page (w.images memory phys) ∷ []) w.froms) w.images w safe
+    (fetched_read w memory phys blade page behind head safe.fetched) (tos_read w memory phys blade page behind head safe.tos)
+    (written_read w memory phys blade page behind head safe.written) (froms_read w memory phys blade page behind head safe.tos safe.froms)

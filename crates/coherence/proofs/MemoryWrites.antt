@@ -6,9 +6,10 @@ use Rattle.page_image.specs.PageImage.{PageImageView}
 use Rattle.wire_msg.specs.declared.msgs.Msg.{Msg}
 use Rattle.wire_msg.specs.declared.msgs.Msg.TheVariants.{Write}
 use Rattle.coherence.specs.World.{World, put}
-use Rattle.coherence.specs.Facts.{IsCoherent, AreTos, AreWritten, AreFetched, written}
+use Rattle.coherence.specs.Facts.{IsCoherent, AreTos, AreWritten, AreFetched, images_written}
 use Rattle.coherence.specs.Moves.{May, moved, Writes, wrote}
 use Rattle.coherence.proofs.Changes.{by-number}
+use Rattle.coherence.proofs.MemoryMoves.{memory_moved}
 
 fetched_wrote : (w : World) (memory phys : ℕ) (image : PageImageView) (behind : List Msg) → w.tos memory ≡ Write phys image ∷ behind
     → AreFetched w → AreFetched (wrote memory phys image behind w)
@@ -24,25 +25,12 @@ tos_wrote w memory phys image behind head tos m =
 written_wrote : (w : World) (memory phys : ℕ) (image : PageImageView) (behind : List Msg) → w.tos memory ≡ Write phys image ∷ behind
     → AreWritten w → AreWritten (wrote memory phys image behind w)
 written_wrote w memory phys image behind head all p place lies clean =
-    by-number (λ n b. written (w.tos n) (w.images n) place.1 ≡ w.flat p → written (if b then behind else w.tos n) (if b then put phys image (w.images memory) else w.images n) place.1 ≡ w.flat p) place.0 memory
-    (λ known. subst (λ q. written q (w.images memory) place.1 ≡ w.flat p) head known) (λ e known. known) (all p place lies clean)
+    by-number (λ n b. images_written (w.tos n) (w.images n) place.1 ≡ w.flat p → images_written (if b then behind else w.tos n) (if b then put phys image (w.images memory) else w.images n) place.1 ≡ w.flat p) place.0 memory
+    (λ known. subst (λ q. images_written q (w.images memory) place.1 ≡ w.flat p) head known) (λ e known. known) (all p place lies clean)
 
 pub writes : (w : World) (memory phys : ℕ) (image : PageImageView) (behind : List Msg) → IsCoherent w → May w (Writes memory phys image behind)
     → IsCoherent (moved w (Writes memory phys image behind))
-writes w memory phys image behind safe head = record {
-  frames = safe.frames;
-  ups = safe.ups;
-  downs = safe.downs;
-  answered = safe.answered;
-  wanted = safe.wanted;
-  fetched = fetched_wrote w memory phys image behind head safe.fetched;
-  called = safe.called;
-  fetches = safe.fetches;
-  numbered = safe.numbered;
-  blocks = safe.blocks;
-  targets = safe.targets;
-  tos = tos_wrote w memory phys image behind head safe.tos;
-  written = written_wrote w memory phys image behind head safe.written;
-  froms = safe.froms;
-  placed = record { apart = safe.placed.apart; placed = safe.placed.placed };
-}
+writes w memory phys image behind safe head =
+    memory_moved (put memory behind w.tos) w.froms (put memory (put phys image (w.images memory)) w.images) w safe
+    (fetched_wrote w memory phys image behind head safe.fetched) (tos_wrote w memory phys image behind head safe.tos)
+    (written_wrote w memory phys image behind head safe.written) safe.froms

@@ -1,19 +1,15 @@
 -- What holds of a queue still holds when what surrounds it changes.
-use Rattle.std.proofs.Common.{◌≡◌, ℕ, ◌+◌, Bool, true, false, List, [], ◌∷◌, ◌++◌, Some, refl, sym, ◌∙◌, eqb-true, eq-eqb, arith}
+use Rattle.std.proofs.Common.{◌≡◌, ℕ, Bool, true, false, List, [], ◌∷◌, ◌++◌, Some, refl, sym, subst, ◌∙◌, append-nil, arith}
 use Rattle.std.proofs.lemmas.Bool.Decides.{nat_tests}
 use Rattle.mind_base.specs.Page.{PageView}
 use Rattle.page_image.specs.PageImage.{PageImageView}
 use Rattle.wire_msg.specs.declared.msgs.Msg.{Msg}
 use Rattle.wire_msg.specs.declared.msgs.Msg.TheVariants.{Read, Write}
-use Rattle.coherence.specs.Counts.{total, none_is}
+use Rattle.coherence.specs.Counts.{none_is}
 use Rattle.coherence.specs.World.{World, put}
-use Rattle.coherence.specs.Facts.{IsUp, AreUps, IsDown, AreDowns, IsFrom, AreFroms, AreTos, written, is_fetching}
+use Rattle.coherence.specs.Facts.{IsUp, AreUps, IsDown, AreDowns, IsFrom, AreFroms, AreTos, images_written, is_fetching}
 
 -- ---- counts
-
-pub total-append : (test : Msg → Bool) (q tail : List Msg) → total test (q ++ tail) ≡ total test q + total test tail
-total-append test [] tail = omega arith
-total-append test (m ∷ q) tail = let rest = total-append test q tail in omega arith
 
 -- a queue without such a message
 pub none-head : (test : Msg → Bool) (m : Msg) (q : List Msg) → none_is test (m ∷ q) ≡ true → test m ≡ false
@@ -25,18 +21,9 @@ none-rest test m q h = grind (arith, nat_tests)
 pub none-more : (test : Msg → Bool) (m : Msg) (q : List Msg) → test m ≡ false → none_is test q ≡ true → none_is test (m ∷ q) ≡ true
 none-more test m q h t = grind (arith, nat_tests)
 
-pub none-counted : (test : Msg → Bool) (q : List Msg) → total test q ≡ 0 → none_is test q ≡ true
-none-counted test q h = eq-eqb (total test q) 0 h
-
-pub none-total : (test : Msg → Bool) (q : List Msg) → none_is test q ≡ true → total test q ≡ 0
-none-total test q h = eqb-true (total test q) 0 h
-
 pub none-never : (q : List Msg) → none_is (λ m. false) q ≡ true
 none-never [] = refl
 none-never (m ∷ q) = let rest = none-never q in grind (arith, nat_tests, rest)
-
-pub none-append : (test : Msg → Bool) (q tail : List Msg) → none_is test q ≡ true → none_is test tail ≡ true → none_is test (q ++ tail) ≡ true
-none-append test q tail h t = grind (arith, nat_tests, total-append)
 
 -- ---- up queues
 
@@ -59,9 +46,9 @@ downs-kept w w' blade bad tail keeps last (m ∷ q) none downs =
 pub downs-same : (w w' : World) (blade : ℕ) (bad : Msg → Bool)
     → ((m : Msg) (behind : List Msg) → bad m ≡ false → IsDown w blade m behind → IsDown w' blade m behind)
     → (q : List Msg) → none_is bad q ≡ true → AreDowns w blade q → AreDowns w' blade q
-downs-same w w' blade bad keeps [] none downs = tt
-downs-same w w' blade bad keeps (m ∷ q) none downs =
-    (keeps m q (none-head bad m q none) downs.0, downs-same w w' blade bad keeps q (none-rest bad m q none) downs.1)
+downs-same w w' blade bad keeps q none downs =
+    subst (λ q. AreDowns w' blade q) (append-nil q)
+    (downs-kept w w' blade bad [] (λ m behind fine down. subst (λ q. IsDown w' blade m q) (sym (append-nil behind)) (keeps m behind fine down)) tt q none downs)
 
 -- ---- queues from memory blades
 
@@ -75,9 +62,7 @@ froms-kept w w' memory bad tail keeps last (m ∷ q) none froms =
 pub froms-same : (w w' : World) (memory : ℕ) (bad : Msg → Bool)
     → ((m : Msg) → bad m ≡ false → IsFrom w memory m → IsFrom w' memory m)
     → (q : List Msg) → none_is bad q ≡ true → AreFroms w memory q → AreFroms w' memory q
-froms-same w w' memory bad keeps [] none froms = tt
-froms-same w w' memory bad keeps (m ∷ q) none froms =
-    (keeps m (none-head bad m q none) froms.0, froms-same w w' memory bad keeps q (none-rest bad m q none) froms.1)
+froms-same w w' memory bad keeps q none froms = subst (λ q. AreFroms w' memory q) (append-nil q) (froms-kept w w' memory bad [] keeps tt q none froms)
 
 -- ---- queues to memory blades
 
@@ -87,7 +72,7 @@ KeepsReads w w' memory bad = (phys blade : ℕ) (page : PageView) → bad (Read 
     → is_fetching (w.wants blade page) ≡ true → (w'.places page ≡ Some (memory, phys)) × (w'.flat page ≡ w.flat page) × (is_fetching (w'.wants blade page) ≡ true)
 
 pub tos-kept : (w w' : World) (memory : ℕ) (bad : Msg → Bool) (tail : List Msg) → KeepsReads w w' memory bad
-    → (q : List Msg) (images : ℕ → PageImageView) → none_is bad q ≡ true → AreTos w' memory (written q images) tail → AreTos w memory images q → AreTos w' memory images (q ++ tail)
+    → (q : List Msg) (images : ℕ → PageImageView) → none_is bad q ≡ true → AreTos w' memory (images_written q images) tail → AreTos w memory images q → AreTos w' memory images (q ++ tail)
 tos-kept w w' memory bad tail keeps [] images none last tos = last
 tos-kept w w' memory bad tail keeps (Read phys (Some blade) page ∷ q) images none last tos =
     let kept = keeps phys blade page (none-head bad (Read phys (Some blade) page) q none) tos.0 tos.2 in
@@ -98,16 +83,10 @@ tos-kept w w' memory bad tail keeps (m ∷ q) images none last tos = absurd tos
 
 pub tos-same : (w w' : World) (memory : ℕ) (bad : Msg → Bool) → KeepsReads w w' memory bad
     → (q : List Msg) (images : ℕ → PageImageView) → none_is bad q ≡ true → AreTos w memory images q → AreTos w' memory images q
-tos-same w w' memory bad keeps [] images none tos = tt
-tos-same w w' memory bad keeps (Read phys (Some blade) page ∷ q) images none tos =
-    let kept = keeps phys blade page (none-head bad (Read phys (Some blade) page) q none) tos.0 tos.2 in
-    (kept.0, tos.1 ∙ sym kept.1, kept.2, tos-same w w' memory bad keeps q images (none-rest bad (Read phys (Some blade) page) q none) tos.3)
-tos-same w w' memory bad keeps (Write phys image ∷ q) images none tos =
-    tos-same w w' memory bad keeps q (put phys image images) (none-rest bad (Write phys image) q none) tos
-tos-same w w' memory bad keeps (m ∷ q) images none tos = absurd tos
+tos-same w w' memory bad keeps q images none tos = subst (λ q. AreTos w' memory images q) (append-nil q) (tos-kept w w' memory bad [] keeps q images none tt tos)
 
 -- the images once one more message has come
-pub written-append : (q tail : List Msg) (images : ℕ → PageImageView) → written (q ++ tail) images ≡ written tail (written q images)
+pub written-append : (q tail : List Msg) (images : ℕ → PageImageView) → images_written (q ++ tail) images ≡ images_written tail (images_written q images)
 written-append [] tail images = refl
 written-append (Write phys image ∷ q) tail images = written-append q tail (put phys image images)
 written-append (m ∷ q) tail images = written-append q tail images

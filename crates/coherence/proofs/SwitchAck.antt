@@ -4,6 +4,7 @@ use Rattle.std.specs.Prelude.{if◌then◌else◌}
 use Rattle.std.proofs.lemmas.Bool.Decides.{nat_tests}
 use Rattle.mind_base.specs.Page.{PageView}
 use Rattle.mind_base.specs.Range.{in_range}
+use Rattle.page_cache.specs.PageCache.{is_writable}
 use Rattle.region_directory.specs.declared.entries.Busy.{Busy}
 use Rattle.invalidate_multicast.specs.Blades.{has_blade}
 use Rattle.page_cache.proofs.Laws.{same_page-refl}
@@ -11,10 +12,11 @@ use Rattle.wire_msg.specs.declared.msgs.Msg.{Msg}
 use Rattle.wire_msg.specs.declared.msgs.Msg.TheVariants.{Fill, Back, Inv, Lower, Ack}
 use Rattle.coherence.specs.Counts.{bit, is_back, is_fill, is_call, is_ack, total, none_is}
 use Rattle.coherence.specs.World.{Region, World, put}
-use Rattle.coherence.specs.Facts.{IsCoherent, IsUp, AreUps, IsDown, AreDowns, AreWritten, AreAnswered, AreCalled, AreFetches, AreFrames, AreNumbered, AreBlocks, AreTargets, IsTarget, IsFetch, Keeps, WaitsFor, transition, names, is_writable}
+use Rattle.coherence.specs.Facts.{IsCoherent, IsUp, AreUps, IsDown, AreDowns, AreWritten, AreAnswered, AreCalled, AreFetches, AreFrames, AreNumbered, AreBlocks, AreTargets, IsTarget, IsFetch, KeepsAtMost, WaitsSomewhere, transition, names}
 use Rattle.coherence.proofs.Changes.{by-test, by-number}
-use Rattle.coherence.proofs.Queues.{none-head, none-rest, none-counted, none-total}
-use Rattle.coherence.specs.Moves.{May, moved, HearsAck, acknowledged, answered_by}
+use Rattle.coherence.proofs.Lists.{total-none_is, none_is-total}
+use Rattle.coherence.proofs.Queues.{none-head, none-rest}
+use Rattle.coherence.specs.Moves.{May, moved, HearsAck, acknowledged, region_answered}
 use Rattle.coherence.proofs.SwitchTransitions.{transition_tells}
 use Rattle.coherence.proofs.SwitchAnswer.{left, acked_entry, left_other, left_gone, left_stays, held_acked, writer_acked, transition_before, transition_still, idle_acked, range_acked, stood}
 
@@ -23,8 +25,8 @@ module _ (w : World) (c n count : ℕ) (behind : List Msg) (head : w.ups c ≡ A
   first = subst (AreUps w c) head (safe.ups c)
 
   -- what the acknowledgement says of a page of its transition
-  promise : (b : ℕ) (p : PageView) → b ≡ c → (under : Busy) → transition n (w.regions p) ≡ Some under → Keeps (w.frames b p) (w.downs b) behind p b under
-  promise b p same under is = subst (λ k. Keeps (w.frames k p) (w.downs k) behind p k under) (sym same) (first.0.1 p under is)
+  promise : (b : ℕ) (p : PageView) → b ≡ c → (under : Busy) → transition n (w.regions p) ≡ Some under → KeepsAtMost (w.frames b p) (w.downs b) behind p b under
+  promise b p same under is = subst (λ k. KeepsAtMost (w.frames k p) (w.downs k) behind p k under) (sym same) (first.0.1 p under is)
 
   -- the number is in no other message from the blade or to it
   alone : (none_is (is_call n) (w.downs c) ≡ true) × (none_is (is_ack n) behind ≡ true)
@@ -32,7 +34,7 @@ module _ (w : World) (c n count : ℕ) (behind : List Msg) (head : w.ups c ≡ A
       let two : total (is_ack n) (w.ups c) ≡ bit (n == n) + total (is_ack n) behind = ap (total (is_ack n)) head in
       let one : bit (n == n) ≡ 1 = ap bit (eq-eqb n n refl) in
       let most : bit (has_blade waits.1.waiting c) ≡ 1 = ap bit waits.3 in
-      (none-counted (is_call n) (w.downs c) (omega arith), none-counted (is_ack n) behind (omega arith))
+      (total-none_is (is_call n) (w.downs c) (omega arith), total-none_is (is_ack n) behind (omega arith))
 
   frames_acked : AreFrames (acknowledged c n behind w)
   frames_acked b p frame is =
@@ -55,7 +57,7 @@ module _ (w : World) (c n count : ℕ) (behind : List Msg) (head : w.ups c ≡ A
       unwritable writable under (inr kept) = let e = subst (λ o. is_writable o ≡ false) is kept.0 in absurd (cc (e, writable))
 
   -- other blades and other transitions are waited for as before
-  waits_acked : (number b : ℕ) → (b ≡ c → number ≡ n → ⊥) → WaitsFor w.regions number b → WaitsFor (acknowledged c n behind w).regions number b
+  waits_acked : (number b : ℕ) → (b ≡ c → number ≡ n → ⊥) → WaitsSomewhere w.regions number b → WaitsSomewhere (acknowledged c n behind w).regions number b
   waits_acked number b other (p, under, is, waits) = let still = transition_still n c number b (w.regions p) under other is waits in (p, still.under, still.is, still.waits)
 
   -- ---- up queues
@@ -144,8 +146,8 @@ module _ (w : World) (c n count : ℕ) (behind : List Msg) (head : w.ups c ≡ A
           → total (is_call k) (w.downs c) + total (is_ack k) behind ≡ bit (has_blade (left n c was) c)
       own k was number known = by-test (λ t. (k == n) ≡ t → total (is_call k) (w.downs c) + total (is_ack k) behind ≡ bit (has_blade (left n c was) c)) (k == n)
           (λ _ e. let same : k ≡ n = eqb-true k n e in
-          let calls = none-total (is_call n) (w.downs c) alone.0 in
-          let acks = none-total (is_ack n) behind alone.1 in
+          let calls = none_is-total (is_call n) (w.downs c) alone.0 in
+          let acks = none_is-total (is_ack n) behind alone.1 in
           let gone = ap bit (left_gone n c was (number ∙ same)) in
           subst (λ j. total (is_call j) (w.downs c) + total (is_ack j) behind ≡ bit (has_blade (left n c was) c)) (sym same) (omega arith))
           (λ _ e. let acks : total (is_ack k) (w.ups c) ≡ bit (k == n) + total (is_ack k) behind = ap (total (is_ack k)) head in
@@ -174,15 +176,15 @@ module _ (w : World) (c n count : ℕ) (behind : List Msg) (head : w.ups c ≡ A
   blocks_acked : AreBlocks (acknowledged c n behind w)
   blocks_acked p r is = by (w.regions p) refl where
     by : (o : Option Region) → w.regions p ≡ o
-        → (in_range r.range p ≡ true) × ((other : PageView) → in_range r.range other ≡ true → answered_by n c (w.regions other) ≡ Some r)
-    by None e = absurd (let t = ap (answered_by n c) e in cc (t, is))
+        → (in_range r.range p ≡ true) × ((other : PageView) → in_range r.range other ≡ true → region_answered n c (w.regions other) ≡ Some r)
+    by None e = absurd (let t = ap (region_answered n c) e in cc (t, is))
     by (Some region) e =
         let block = safe.blocks p region e in
-        let now : answered_by n c (Some region) ≡ Some r = sym (ap (answered_by n c) e) ∙ is in
+        let now : region_answered n c (Some region) ≡ Some r = sym (ap (region_answered n c) e) ∙ is in
         let same : acked_entry n c region ≡ r = cc (now) in
         let range : r.range ≡ region.range = sym (ap (λ x. x.range) same) ∙ range_acked n c region in (
           subst (λ x. in_range x p ≡ true) (sym range) block.0,
-          λ other within. ap (answered_by n c) (block.1 other (subst (λ x. in_range x other ≡ true) range within)) ∙ now,
+          λ other within. ap (region_answered n c) (block.1 other (subst (λ x. in_range x other ≡ true) range within)) ∙ now,
         )
 
   all_acked : IsCoherent (acknowledged c n behind w)

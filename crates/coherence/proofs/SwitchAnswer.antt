@@ -6,12 +6,12 @@ use Rattle.std.proofs.lemmas.Nat.Bits.{bit_at_above}
 use Rattle.region_directory.specs.declared.entries.Busy.{Busy}
 use Rattle.invalidate_multicast.specs.Blades.{has_blade}
 use Rattle.coherence.specs.World.{Region}
-use Rattle.coherence.specs.Facts.{numbered, transition, names, owns, stays, has_not_answered, may, may_write}
+use Rattle.coherence.specs.Facts.{numbered, transition, names, owns, stays, has_not_answered, may, may_hold_writable}
 use Rattle.coherence.proofs.Changes.{by-test}
 use Rattle.invalidate_multicast.specs.Blades.{without_blade}
 use Rattle.invalidate_multicast.specs.Transition.{after_answer}
 use Rattle.invalidate_multicast.proofs.BladeLemmas.{without-gone, without-other}
-use Rattle.coherence.specs.Moves.{ended, answered_by}
+use Rattle.coherence.specs.Moves.{ended, region_answered}
 use Rattle.coherence.proofs.SwitchTransitions.{Tells, transition_tells}
 
 -- whom the transition waits for when the blade has answered the one with the number
@@ -98,7 +98,7 @@ is_transition : (n : ℕ) (region : Region) (under : Busy) → region.busy ≡ S
 is_transition n region under e same = ap (numbered n) e ∙ ap (λ t. if t then Some under else None) (eq-eqb under.number n same)
 
 pub held_acked : (n c : ℕ) (old : Option Region) (b : ℕ) → (b ≡ c → (under : Busy) → transition n old ≡ Some under → names under.target b ≡ true)
-    → may old b ≡ true → may (answered_by n c old) b ≡ true
+    → may old b ≡ true → may (region_answered n c old) b ≡ true
 held_acked n c None b keeps h = h
 held_acked n c (Some region) b keeps h = by region.busy refl where
   parts : (names region.state b ≡ true) × (stays region.busy b ≡ true)
@@ -110,18 +110,18 @@ held_acked n c (Some region) b keeps h = by region.busy refl where
       parts.0 (subst (λ o. stays o b ≡ true) e parts.1)
 
 pub writer_acked : (n c : ℕ) (old : Option Region) (b : ℕ) → (b ≡ c → (under : Busy) → transition n old ≡ Some under → ⊥)
-    → may_write old b ≡ true → may_write (answered_by n c old) b ≡ true
+    → may_hold_writable old b ≡ true → may_hold_writable (region_answered n c old) b ≡ true
 writer_acked n c None b keeps h = h
 writer_acked n c (Some region) b keeps h = by region.busy refl where
   parts : (owns region.state b ≡ true) × (has_not_answered region.busy b ≡ true)
   parts = and_parts (owns region.state b) (has_not_answered region.busy b) h
 
-  some : (under : Busy) → region.busy ≡ Some under → (new : Region) → Acked n c region under new → has_blade (left n c under) b ≡ true → may_write (Some new) b ≡ true
+  some : (under : Busy) → region.busy ≡ Some under → (new : Region) → Acked n c region under new → has_blade (left n c under) b ≡ true → may_hold_writable (Some new) b ≡ true
   some under e new (Ends none same) waits = absurd (waits_not_zero (left n c under) b waits none)
-  some under e new (Goes not same) waits = subst (λ r. may_write (Some r) b ≡ true) (sym same) (and_from _ _ parts.0 waits)
+  some under e new (Goes not same) waits = subst (λ r. may_hold_writable (Some r) b ≡ true) (sym same) (and_from _ _ parts.0 waits)
 
-  by : (o : Option Busy) → region.busy ≡ o → may_write (Some (acked_entry n c region)) b ≡ true
-  by None e = subst (λ r. may_write (Some r) b ≡ true) (sym (idle_entry n c region e)) h
+  by : (o : Option Busy) → region.busy ≡ o → may_hold_writable (Some (acked_entry n c region)) b ≡ true
+  by None e = subst (λ r. may_hold_writable (Some r) b ≡ true) (sym (idle_entry n c region e)) h
   by (Some under) e = some under e (acked_entry n c region) (acked n c region under e)
       (left_waits n c under b (λ same number. keeps same under (is_transition n region under e number)) (subst (λ o. has_not_answered o b ≡ true) e parts.1))
 
@@ -133,7 +133,7 @@ pub record Before (n c k : ℕ) (old : Option Region) (under : Busy) : Type 0 wh
   pub is : transition k old ≡ Some first
   pub now : under ≡ waits_for (left n c first) first
 
-pub transition_before : (n c k : ℕ) (old : Option Region) (under : Busy) → transition k (answered_by n c old) ≡ Some under → Before n c k old under
+pub transition_before : (n c k : ℕ) (old : Option Region) (under : Busy) → transition k (region_answered n c old) ≡ Some under → Before n c k old under
 transition_before n c k None under is = absurd (cc is)
 transition_before n c k (Some region) under is = by region.busy refl where
   tells : Tells k (Some (acked_entry n c region)) under
@@ -156,7 +156,7 @@ transition_before n c k (Some region) under is = by region.busy refl where
 -- one that waits for a blade is still under way, unless the blade is the one that answered
 pub record Still (n c k b : ℕ) (old : Option Region) : Type 0 where
   pub under : Busy
-  pub is : transition k (answered_by n c old) ≡ Some under
+  pub is : transition k (region_answered n c old) ≡ Some under
   pub waits : has_blade under.waiting b ≡ true
 
 pub transition_still : (n c k b : ℕ) (old : Option Region) (first : Busy) → (b ≡ c → k ≡ n → ⊥) → transition k old ≡ Some first → has_blade first.waiting b ≡ true → Still n c k b old
@@ -181,7 +181,7 @@ transition_still n c k b (Some region) first other is waits = by (acked_entry n 
 
 -- ---- entries
 
-pub idle_acked : (n c : ℕ) (old : Option Region) → IfSome old (λ r. r.busy ≡ None) → answered_by n c old ≡ old
+pub idle_acked : (n c : ℕ) (old : Option Region) → IfSome old (λ r. r.busy ≡ None) → region_answered n c old ≡ old
 idle_acked n c None idle = refl
 idle_acked n c (Some region) idle = ap Some (idle_entry n c region idle)
 
@@ -204,7 +204,7 @@ pub record Stood (n c : ℕ) (old : Option Region) (r : Region) (under : Busy) :
   pub state : r.state ≡ first.state
   pub now : under ≡ waits_for (left n c before) before
 
-pub stood : (n c : ℕ) (old : Option Region) (r : Region) (under : Busy) → answered_by n c old ≡ Some r → r.busy ≡ Some under → Stood n c old r under
+pub stood : (n c : ℕ) (old : Option Region) (r : Region) (under : Busy) → region_answered n c old ≡ Some r → r.busy ≡ Some under → Stood n c old r under
 stood n c None r under is at = absurd (cc is)
 stood n c (Some region) r under is at = by region.busy refl where
   same_entry : acked_entry n c region ≡ r

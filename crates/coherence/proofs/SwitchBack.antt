@@ -9,9 +9,10 @@ use Rattle.page_image.specs.PageImage.{PageImageView}
 use Rattle.wire_msg.specs.declared.msgs.Msg.{Msg}
 use Rattle.wire_msg.specs.declared.msgs.Msg.TheVariants.{Back, Write}
 use Rattle.coherence.specs.World.{World, put}
-use Rattle.coherence.specs.Facts.{IsCoherent, AreUps, AreTos, AreWritten, AreAnswered, AreFetched, AreCalled, ArePlaced, written}
+use Rattle.coherence.specs.Facts.{IsCoherent, AreUps, AreTos, AreWritten, AreAnswered, AreFetched, AreCalled, ArePlaced, images_written}
 use Rattle.coherence.proofs.Changes.{by-number}
-use Rattle.coherence.proofs.Queues.{none-never, total-append, tos-kept, written-append}
+use Rattle.coherence.proofs.Lists.{total-append}
+use Rattle.coherence.proofs.Queues.{none-never, tos-kept, written-append}
 use Rattle.coherence.specs.Moves.{May, moved, HearsBack, went_back}
 
 answered_back : (w : World) (blade : ℕ) (page : PageView) (image : PageImageView) (place : ℕ × ℕ) (behind : List Msg) → w.ups blade ≡ Back page image ∷ behind
@@ -28,18 +29,18 @@ called_back w blade page image place behind head called b number p busy is = gri
 
 -- the page that came back is the newest where it lies once the writes have come
 written_here : (w : World) (page : PageView) (image : PageImageView) (place at : ℕ × ℕ) → at ≡ place → image ≡ w.flat page
-    → written (put place.0 (w.tos place.0 ++ Write place.1 image ∷ []) w.tos at.0) (w.images at.0) at.1 ≡ w.flat page
+    → images_written (put place.0 (w.tos place.0 ++ Write place.1 image ∷ []) w.tos at.0) (w.images at.0) at.1 ≡ w.flat page
 written_here w page image place at same newest = grind (arith, nat_tests, written-append (w.tos place.0) (Write place.1 image ∷ []) (w.images place.0))
 
 -- what lies elsewhere is as it was
-written_there : (w : World) (page : PageView) (image : PageImageView) (place at : ℕ × ℕ) → (at ≡ place → ⊥) → written (w.tos at.0) (w.images at.0) at.1 ≡ w.flat page
-    → written (put place.0 (w.tos place.0 ++ Write place.1 image ∷ []) w.tos at.0) (w.images at.0) at.1 ≡ w.flat page
+written_there : (w : World) (page : PageView) (image : PageImageView) (place at : ℕ × ℕ) → (at ≡ place → ⊥) → images_written (w.tos at.0) (w.images at.0) at.1 ≡ w.flat page
+    → images_written (put place.0 (w.tos place.0 ++ Write place.1 image ∷ []) w.tos at.0) (w.images at.0) at.1 ≡ w.flat page
 written_there w page image place at other known = grind (arith, nat_tests, other, written-append (w.tos place.0) (Write place.1 image ∷ []) (w.images place.0))
 
 written_back : (w : World) (blade : ℕ) (page : PageView) (image : PageImageView) (place : ℕ × ℕ) (behind : List Msg) → w.ups blade ≡ Back page image ∷ behind
     → w.places page ≡ Some place → image ≡ w.flat page → ArePlaced w → AreWritten w → AreWritten (went_back blade place image behind w)
 written_back w blade page image place behind head lies newest placed all p at is clean = by (same_page p page) refl where
-  by : (b : Bool) → same_page p page ≡ b → written (put place.0 (w.tos place.0 ++ Write place.1 image ∷ []) w.tos at.0) (w.images at.0) at.1 ≡ w.flat p
+  by : (b : Bool) → same_page p page ≡ b → images_written (put place.0 (w.tos place.0 ++ Write place.1 image ∷ []) w.tos at.0) (w.images at.0) at.1 ≡ w.flat p
   by true e = let same : p ≡ page = same_page-true p page e in written_here w p image place at (grind arith) (grind arith)
   by false e = written_there w p image place at (λ same. let both : p ≡ page = placed.apart p page place (grind arith) lies in grind (arith, same_page-refl p))
       (all p at is (λ b. let c = clean b in (c.0, grind (arith, nat_tests, c.1))))

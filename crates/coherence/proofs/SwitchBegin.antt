@@ -11,9 +11,10 @@ use Rattle.wire_msg.specs.declared.msgs.Msg.{Msg}
 use Rattle.wire_msg.specs.declared.msgs.Msg.TheVariants.{Get, Fill, Deny, Back, Inv, Lower, Ack}
 use Rattle.coherence.specs.Counts.{bit, is_fill, is_deny, is_call, is_ack, total, none_is}
 use Rattle.coherence.specs.World.{Region, World, put_range}
-use Rattle.coherence.specs.Facts.{IsCoherent, IsUp, AreUps, IsDown, AreDowns, AreAnswered, AreCalled, AreFetches, AreNumbered, AreTargets, IsTarget, WaitsFor, transition, names, owns, stays, has_not_answered, may, may_write}
+use Rattle.coherence.specs.Facts.{IsCoherent, IsUp, AreUps, IsDown, AreDowns, AreAnswered, AreCalled, AreFetches, AreNumbered, AreTargets, IsTarget, WaitsSomewhere, transition, names, owns, stays, has_not_answered, may, may_hold_writable}
 use Rattle.coherence.proofs.Changes.{by-test}
-use Rattle.coherence.proofs.Queues.{ups-kept, downs-kept, none-never, total-append, none-more, none-counted, none-total}
+use Rattle.coherence.proofs.Lists.{total-append, total-none_is, none_is-total}
+use Rattle.coherence.proofs.Queues.{ups-kept, downs-kept, none-never, none-more}
 use Rattle.coherence.specs.Moves.{May, MayBegin, IsCallOf, call_to, moved, Begins, begun}
 use Rattle.coherence.proofs.SwitchEntries.{blocks_put}
 use Rattle.coherence.proofs.SwitchGrant.{block_closed}
@@ -59,10 +60,10 @@ begins_held true old region busy b here covered h =
     and_from _ _ named (by-test (λ t. has_blade busy.waiting b ≡ t → t || names busy.target b ≡ true) (has_blade busy.waiting b) (λ _ _. refl) (λ _ e. covered named e) refl)
 
 begins_writer : (t : Bool) (old : Option Region) (region : Region) (busy : Busy) (b : ℕ) → (t ≡ true → old ≡ Some region) → (owns region.state b ≡ true → has_blade busy.waiting b ≡ true)
-    → may_write old b ≡ true → may_write (if t then Some (with_busy busy region) else old) b ≡ true
+    → may_hold_writable old b ≡ true → may_hold_writable (if t then Some (with_busy busy region) else old) b ≡ true
 begins_writer false old region busy b here writers h = h
 begins_writer true old region busy b here writers h =
-    let owned = (and_parts (owns region.state b) (has_not_answered region.busy b) (subst (λ o. may_write o b ≡ true) (here refl) h)).0 in
+    let owned = (and_parts (owns region.state b) (has_not_answered region.busy b) (subst (λ o. may_hold_writable o b ≡ true) (here refl) h)).0 in
     and_from _ _ owned (writers owned)
 
 -- a transition of the new entries is the one that is begun, at a page of its block, or was there before
@@ -93,7 +94,7 @@ module _ (w : World) (region : Region) (busy : Busy) (message : Msg) (can : MayB
   held_begun : (p : PageView) (b : ℕ) → may (w.regions p) b ≡ true → may ((begun region busy message w).regions p) b ≡ true
   held_begun p b = begins_held (in_range region.range p) (w.regions p) region busy b (can.entry p) (can.covered b)
 
-  writer_begun : (p : PageView) (b : ℕ) → may_write (w.regions p) b ≡ true → may_write ((begun region busy message w).regions p) b ≡ true
+  writer_begun : (p : PageView) (b : ℕ) → may_hold_writable (w.regions p) b ≡ true → may_hold_writable ((begun region busy message w).regions p) b ≡ true
   writer_begun p b = begins_writer (in_range region.range p) (w.regions p) region busy b (can.entry p) (can.writers b)
 
   -- the number is new
@@ -101,7 +102,7 @@ module _ (w : World) (region : Region) (busy : Busy) (message : Msg) (can : MayB
   number_new number le same = let e = can.number in absurd (omega arith)
 
   -- what waited for a blade before does so still
-  waits_begun : (number b : ℕ) → WaitsFor w.regions number b → WaitsFor (begun region busy message w).regions number b
+  waits_begun : (number b : ℕ) → WaitsSomewhere w.regions number b → WaitsSomewhere (begun region busy message w).regions number b
   waits_begun number b (p, under, is, waits) = (p, under, outside, waits) where
     outside : transition number ((begun region busy message w).regions p) ≡ Some under
     outside = by-test (λ t. in_range region.range p ≡ t → transition number (if t then Some (with_busy busy region) else w.regions p) ≡ Some under) (in_range region.range p)
@@ -120,7 +121,7 @@ module _ (w : World) (region : Region) (busy : Busy) (message : Msg) (can : MayB
   fill_begun : (n : ℕ) (p : PageView) (q : List Msg) → none_is (is_fill p) q ≡ true → none_is (is_fill p) (q ++ call_to busy message n) ≡ true
   fill_begun n p q none =
       let e = call_counts (is_fill p) busy message n (call_fills region.range busy message p can.call) in
-      let sum = total-append (is_fill p) q (call_to busy message n) in none-counted (is_fill p) (q ++ call_to busy message n) (let z = none-total (is_fill p) q none in omega arith)
+      let sum = total-append (is_fill p) q (call_to busy message n) in total-none_is (is_fill p) (q ++ call_to busy message n) (let z = none_is-total (is_fill p) q none in omega arith)
 
   ups_begun : (n : ℕ) (m : Msg) (later : List Msg) → IsUp w n m later → IsUp (begun region busy message w) n m later
   ups_begun n (Back p image) later up =
@@ -157,14 +158,14 @@ module _ (w : World) (region : Region) (busy : Busy) (message : Msg) (can : MayB
   downs_begun n m later down = down
 
   -- the call that goes out
-  begun_waits : (n : ℕ) → has_blade busy.waiting n ≡ true → WaitsFor (begun region busy message w).regions busy.number n
+  begun_waits : (n : ℕ) → has_blade busy.waiting n ≡ true → WaitsSomewhere (begun region busy message w).regions busy.number n
   begun_waits n waits = (page_in region.range, busy, is, waits) where
     is : transition busy.number ((begun region busy message w).regions (page_in region.range)) ≡ Some busy
     is = ap (λ t. transition busy.number (if t then Some (with_busy busy region) else w.regions (page_in region.range))) (page_inside region.range)
         ∙ ap (λ t. if t then Some busy else None) (eq-eqb busy.number busy.number refl)
 
-  waits_as : (number : ℕ) → number ≡ busy.number → (n : ℕ) → has_blade busy.waiting n ≡ true → WaitsFor (begun region busy message w).regions number n
-  waits_as number same n waits = subst (λ k. WaitsFor (begun region busy message w).regions k n) (sym same) (begun_waits n waits)
+  waits_as : (number : ℕ) → number ≡ busy.number → (n : ℕ) → has_blade busy.waiting n ≡ true → WaitsSomewhere (begun region busy message w).regions number n
+  waits_as number same n waits = subst (λ k. WaitsSomewhere (begun region busy message w).regions k n) (sym same) (begun_waits n waits)
 
   unused : (number : ℕ) → number ≡ busy.number → (p : PageView) (under : Busy) → transition number (w.regions p) ≡ Some under → ⊥
   unused number same p under at = number_new number (number_used w safe.numbered number p under at) same
@@ -222,8 +223,8 @@ module _ (w : World) (region : Region) (busy : Busy) (message : Msg) (can : MayB
     by : Which w region busy number p under
         → total (is_call number) (w.downs b ++ call_to busy message b) + total (is_ack number) (w.ups b) ≡ bit (has_blade under.waiting b)
     by (New inside same at) =
-        let calls = none-total (is_call busy.number) (w.downs b) (new_calls b (w.downs b) (safe.downs b)) in
-        let acks = none-total (is_ack busy.number) (w.ups b) (new_acks b (w.ups b) (safe.ups b)) in
+        let calls = none_is-total (is_call busy.number) (w.downs b) (new_calls b (w.downs b) (safe.downs b)) in
+        let acks = none_is-total (is_ack busy.number) (w.ups b) (new_acks b (w.ups b) (safe.ups b)) in
         let sent = call_count region.range busy message b can.call in
         let sum = total-append (is_call busy.number) (w.downs b) (call_to busy message b) in
         let now : total (is_call busy.number) (w.downs b ++ call_to busy message b) + total (is_ack busy.number) (w.ups b) ≡ bit (has_blade busy.waiting b) = omega arith in

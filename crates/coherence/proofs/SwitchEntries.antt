@@ -7,7 +7,7 @@ use Rattle.region_directory.specs.declared.entries.Busy.{Busy}
 use Rattle.wire_msg.specs.declared.msgs.Msg.{Msg}
 use Rattle.wire_msg.specs.declared.msgs.Msg.TheVariants.{Fill, Back, Inv, Lower, Ack}
 use Rattle.coherence.specs.World.{Region, World, put_range}
-use Rattle.coherence.specs.Facts.{IsCoherent, IsUp, IsDown, AreBlocks, IsTarget, WaitsFor, transition, may, may_write}
+use Rattle.coherence.specs.Facts.{IsCoherent, IsUp, IsDown, AreBlocks, IsTarget, WaitsSomewhere, transition, may, may_hold_writable}
 use Rattle.coherence.proofs.Changes.{by-test}
 use Rattle.coherence.proofs.Queues.{ups-kept, downs-same, none-never}
 
@@ -24,7 +24,7 @@ was-same old now is = record { region = now; entry = is; state = refl; busy = re
 -- who may hold a page, or write it, still may; transitions are as they were, and so is what has one
 pub record Widens (old new : PageView → Option Region) : Type 0 where
   pub held : (p : PageView) (b : ℕ) → may (old p) b ≡ true → may (new p) b ≡ true
-  pub writer : (p : PageView) (b : ℕ) → may_write (old p) b ≡ true → may_write (new p) b ≡ true
+  pub writer : (p : PageView) (b : ℕ) → may_hold_writable (old p) b ≡ true → may_hold_writable (new p) b ≡ true
   pub transition : (p : PageView) (number : ℕ) → transition number (new p) ≡ transition number (old p)
   pub idle : (p : PageView) → IfSome (old p) (λ r. r.busy ≡ None) → IfSome (new p) (λ r. r.busy ≡ None)
   pub busy : (p : PageView) (r : Region) (busy : Busy) → new p ≡ Some r → r.busy ≡ Some busy → Was (old p) r
@@ -32,7 +32,7 @@ pub record Widens (old new : PageView → Option Region) : Type 0 where
 abbrev pub with_regions : (PageView → Option Region) → World → World
 with_regions new w = record w { regions = new }
 
-waits_on : (w : World) (new : PageView → Option Region) → Widens w.regions new → (number blade : ℕ) → WaitsFor w.regions number blade → WaitsFor new number blade
+waits_on : (w : World) (new : PageView → Option Region) → Widens w.regions new → (number blade : ℕ) → WaitsSomewhere w.regions number blade → WaitsSomewhere new number blade
 waits_on w new widens number blade (p, busy, is, waits) = (p, busy, widens.transition p number ∙ is, waits)
 
 ups_widened : (w : World) (new : PageView → Option Region) → Widens w.regions new → (n : ℕ) (m : Msg) (later : List Msg) → IsUp w n m later → IsUp (with_regions new w) n m later

@@ -1,5 +1,5 @@
 -- A request that is granted keeps all that is true: first its entry names the blade, then the page is read.
-use Rattle.std.proofs.Common.{◌≡◌, refl, sym, ℕ, ◌&&◌, Bool, true, false, List, [], ◌∷◌, ◌++◌, Option, Some, None, IfSome, subst, ap, arith, ◌∙◌, eq-eqb, eqb-true}
+use Rattle.std.proofs.Common.{◌≡◌, refl, sym, ℕ, Bool, true, false, List, [], ◌∷◌, ◌++◌, Option, Some, None, IfSome, subst, ap, arith, ◌∙◌, eq-eqb, eqb-true}
 use Rattle.std.specs.Prelude.{if◌then◌else◌}
 use Rattle.std.proofs.lemmas.Bool.{and_parts, and_from}
 use Rattle.std.proofs.lemmas.Bool.Decides.{nat_tests}
@@ -15,9 +15,10 @@ use Rattle.wire_msg.specs.declared.msgs.Msg.{Msg}
 use Rattle.wire_msg.specs.declared.msgs.Msg.TheVariants.{Get, Back, Ack, Read, Image}
 use Rattle.coherence.specs.Counts.{is_back, none_is}
 use Rattle.coherence.specs.World.{Region, World, put, put_both, put_range}
-use Rattle.coherence.specs.Facts.{IsCoherent, IsUp, AreUps, IsFrom, AreTos, AreWritten, AreAnswered, AreWanted, AreFetched, AreFetches, AreFrames, AreBlocks, IsFetch, transition, names, owns, stays, has_not_answered, may, may_write, is_dirty, is_fetching, written}
+use Rattle.coherence.specs.Facts.{IsCoherent, IsUp, AreUps, IsFrom, AreTos, AreWritten, AreAnswered, AreWanted, AreFetched, AreFetches, AreFrames, AreBlocks, IsFetch, transition, names, owns, stays, has_not_answered, may, may_hold_writable, is_dirty, is_fetching, images_written}
 use Rattle.coherence.proofs.Changes.{by-test, by-number, by-both}
-use Rattle.coherence.proofs.Queues.{ups-kept, none-never, total-append, tos-kept, tos-same, froms-same, written-append, none-more}
+use Rattle.coherence.proofs.Lists.{total-append}
+use Rattle.coherence.proofs.Queues.{ups-kept, none-never, tos-kept, tos-same, froms-same, written-append, none-more}
 use Rattle.coherence.specs.Moves.{May, Grants, moved, GrantsIt}
 use Rattle.coherence.proofs.SwitchEntries.{with_regions, was-same, widened, blocks_put}
 
@@ -57,23 +58,19 @@ grants_names true old new blade g =
 abbrev in_state : State → Region → Region
 in_state state region = record region { state = state }
 
+-- what an entry lets a blade do it still lets it, in a state that names all that were named
+grants_still : (lets : Option Region → Bool) (t : Bool) (old : Option Region) (region : Region) (state : State) → (t ≡ true → old ≡ Some region)
+    → (lets (Some region) ≡ true → lets (Some (in_state state region)) ≡ true) → lets old ≡ true → lets (if t then Some (in_state state region) else old) ≡ true
+grants_still lets false old region state here step h = h
+grants_still lets true old region state here step h = step (subst (λ o. lets o ≡ true) (here refl) h)
+
 grants_held : (t : Bool) (old : Option Region) (region : Region) (state : State) (b : ℕ) → (t ≡ true → old ≡ Some region) → (names region.state b ≡ true → names state b ≡ true)
     → may old b ≡ true → may (if t then Some (in_state state region) else old) b ≡ true
-grants_held false old region state b here named h = h
-grants_held true old region state b here named h =
-    let e = here refl in
-    let h' : names region.state b && stays region.busy b ≡ true = subst (λ o. may o b ≡ true) e h in
-    let parts = and_parts _ _ h' in
-    and_from _ _ (named parts.0) parts.1
+grants_held t old region state b here named = grants_still (λ o. may o b) t old region state here (λ h. let parts = and_parts _ _ h in and_from _ _ (named parts.0) parts.1)
 
 grants_writer : (t : Bool) (old : Option Region) (region : Region) (state : State) (b : ℕ) → (t ≡ true → old ≡ Some region) → (owns region.state b ≡ true → owns state b ≡ true)
-    → may_write old b ≡ true → may_write (if t then Some (in_state state region) else old) b ≡ true
-grants_writer false old region state b here named h = h
-grants_writer true old region state b here named h =
-    let e = here refl in
-    let h' : owns region.state b && has_not_answered region.busy b ≡ true = subst (λ o. may_write o b ≡ true) e h in
-    let parts = and_parts _ _ h' in
-    and_from _ _ (named parts.0) parts.1
+    → may_hold_writable old b ≡ true → may_hold_writable (if t then Some (in_state state region) else old) b ≡ true
+grants_writer t old region state b here named = grants_still (λ o. may_hold_writable o b) t old region state here (λ h. let parts = and_parts _ _ h in and_from _ _ (named parts.0) parts.1)
 
 grants_transition : (t : Bool) (old : Option Region) (region : Region) (state : State) (number : ℕ) → (t ≡ true → old ≡ Some region)
     → transition number (if t then Some (in_state state region) else old) ≡ transition number old
@@ -125,7 +122,7 @@ record MayRead (w : World) (blade : ℕ) (page : PageView) (write : Bool) (place
   wanted : w.wants blade page ≡ Some (record { write = write; fetching = false })
   lies : w.places page ≡ Some place
   fetch : IsFetch (w.regions page) (w.perms page) write blade
-  alone : (other : ℕ) → may_write (w.regions page) other ≡ true → other ≡ blade
+  alone : (other : ℕ) → may_hold_writable (w.regions page) other ≡ true → other ≡ blade
 
 module _ (w : World) (blade : ℕ) (page : PageView) (write : Bool) (place : ℕ × ℕ) (can : MayRead w blade page write place) where
   answered_read : AreAnswered w → AreAnswered (begins_read blade page write place w)
@@ -173,7 +170,7 @@ module _ (w : World) (blade : ℕ) (page : PageView) (write : Bool) (place : ℕ
   unsent_message : (b : ℕ) (m : Msg) (later : List Msg) → IsUp w b m later → is_back page m ≡ false
   unsent_message b (Back p image) later up = by-test (λ t. same_page page p ≡ t → t ≡ false) (same_page page p)
       (λ _ e. let here : p ≡ page = sym (same_page-true page p e) in
-      let same = can.alone b (subst (λ x. may_write (w.regions x) b ≡ true) here up.writer) in
+      let same = can.alone b (subst (λ x. may_hold_writable (w.regions x) b ≡ true) here up.writer) in
       let none = subst (λ n. w.wants n page ≡ None) same (subst (λ x. w.wants b x ≡ None) here up.unwanted) in
       let is = can.wanted in
       absurd (cc (none, is)))
@@ -190,7 +187,7 @@ module _ (w : World) (blade : ℕ) (page : PageView) (write : Bool) (place : ℕ
 
   written_read : AreWritten w → AreWritten (begins_read blade page write place w)
   written_read all p at lies clean =
-      by-number (λ n t. written (w.tos n) (w.images n) at.1 ≡ w.flat p → written (if t then w.tos place.0 ++ Read place.1 (Some blade) page ∷ [] else w.tos n) (w.images n) at.1 ≡ w.flat p) at.0 place.0
+      by-number (λ n t. images_written (w.tos n) (w.images n) at.1 ≡ w.flat p → images_written (if t then w.tos place.0 ++ Read place.1 (Some blade) page ∷ [] else w.tos n) (w.images n) at.1 ≡ w.flat p) at.0 place.0
       (λ known. ap (λ images. images at.1) (written-append (w.tos place.0) (Read place.1 (Some blade) page ∷ []) (w.images place.0)) ∙ known) (λ away known. known) (all p at lies clean)
 
   read_granted : IsCoherent w → IsCoherent (begins_read blade page write place w)
@@ -238,6 +235,6 @@ grants_it w blade page write place region state safe can =
       wanted = can.wanted;
       lies = can.lies;
       fetch = fetch;
-      alone = λ other h. named.alone other (and_parts (owns state other) (has_not_answered region.busy other) (subst (λ o. may_write o other ≡ true) now h)).0;
+      alone = λ other h. named.alone other (and_parts (owns state other) (has_not_answered region.busy other) (subst (λ o. may_hold_writable o other ≡ true) now h)).0;
     } in
     read_granted between blade page write place reading (entry_granted w region state blade write block.1 can.idle named safe)

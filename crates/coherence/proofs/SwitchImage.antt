@@ -14,7 +14,8 @@ use Rattle.coherence.specs.Counts.{bit, is_fill, is_read, is_image, total, none_
 use Rattle.coherence.specs.World.{Region, World, Wanted, put}
 use Rattle.coherence.specs.Facts.{IsCoherent, IsUp, IsDown, AreDowns, IsFrom, AreFroms, AreTos, AreAnswered, AreWanted, AreFetched, AreCalled, AreFetches, transition, is_fetching}
 use Rattle.coherence.proofs.Changes.{by-test, by-number, by-both}
-use Rattle.coherence.proofs.Queues.{ups-kept, downs-kept, none-never, total-append, tos-same, froms-same}
+use Rattle.coherence.proofs.Lists.{total-append}
+use Rattle.coherence.proofs.Queues.{ups-kept, downs-kept, none-never, tos-same, froms-same}
 use Rattle.coherence.specs.Moves.{May, moved, HearsImage, passed_on}
 
 idle_transition : (region : Option Region) (number : ℕ) → IfSome region (λ r. r.busy ≡ None) → transition number region ≡ None

@@ -3,14 +3,16 @@ use Rattle.std.proofs.Common.{◌≡◌, refl, ℕ, Bool, true, false, List, [],
 use Rattle.std.specs.Prelude.{if◌then◌else◌}
 use Rattle.std.proofs.lemmas.Bool.Decides.{nat_tests}
 use Rattle.mind_base.specs.Page.{PageView}
+use Rattle.mind_base.specs.Permission.{allows}
 use Rattle.page_cache.proofs.Laws.{same_page-true, same_page-refl}
 use Rattle.wire_msg.specs.declared.msgs.Msg.{Msg}
 use Rattle.wire_msg.specs.declared.msgs.Msg.TheVariants.{Deny, Back, Inv, Lower, Ack, Image}
 use Rattle.coherence.specs.Counts.{is_fill, none_is}
 use Rattle.coherence.specs.World.{World, Wanted}
-use Rattle.coherence.specs.Facts.{IsCoherent, IsUp, IsDown, AreDowns, IsFrom, AreAnswered, AreWanted, AreFetched, AreCalled, AreFetches, allows, is_fetching}
+use Rattle.coherence.specs.Facts.{IsCoherent, IsUp, IsDown, AreDowns, IsFrom, AreAnswered, AreWanted, AreFetched, AreCalled, AreFetches, is_fetching}
 use Rattle.coherence.proofs.Changes.{by-number}
-use Rattle.coherence.proofs.Queues.{ups-kept, downs-kept, none-never, none-append, total-append, tos-same, froms-same}
+use Rattle.coherence.proofs.Lists.{none_is-append, total-append}
+use Rattle.coherence.proofs.Queues.{ups-kept, downs-kept, none-never, tos-same, froms-same}
 use Rattle.coherence.specs.Moves.{May, moved, Refuses, refused}
 
 answered_refused : (w : World) (blade : ℕ) (page : PageView) (wanted : Wanted) → w.wants blade page ≡ Some wanted
@@ -52,9 +54,9 @@ ups_refused w blade page n m later up = up
 
 downs_refused : (w : World) (blade : ℕ) (page : PageView) (n : ℕ) (m : Msg) (later : List Msg) → IsDown w n m later → IsDown (refused blade page w) n m (later ++ Deny page ∷ [])
 downs_refused w blade page n (Inv number range asked) later down =
-    (down.0, λ p busy is. let call = down.1 p busy is in record { block = call.block; fill = none-append (is_fill p) later (Deny page ∷ []) call.fill refl })
+    (down.0, λ p busy is. let call = down.1 p busy is in record { block = call.block; fill = none_is-append (is_fill p) later (Deny page ∷ []) call.fill refl })
 downs_refused w blade page n (Lower number range asked) later down =
-    (down.0, λ p busy is. let call = down.1 p busy is in (record { block = call.0.block; fill = none-append (is_fill p) later (Deny page ∷ []) call.0.fill refl }, call.1))
+    (down.0, λ p busy is. let call = down.1 p busy is in (record { block = call.0.block; fill = none_is-append (is_fill p) later (Deny page ∷ []) call.0.fill refl }, call.1))
 downs_refused w blade page n m later down = down
 
 froms_refused : (w : World) (blade : ℕ) (page : PageView) → is_fetching (w.wants blade page) ≡ false

@@ -10,7 +10,7 @@ use Rattle.mind_base.specs.Range.{RangeView, in_range, halves_of}
 use Rattle.mind_base.specs.declared.notes.State.{State}
 use Rattle.region_directory.specs.declared.entries.Busy.{Busy}
 use Rattle.coherence.specs.World.{Region, World}
-use Rattle.coherence.specs.Facts.{IsCoherent, AreBlocks, AreBlocksOf, names, owns, stays, has_not_answered, numbered, transition, may, may_write}
+use Rattle.coherence.specs.Facts.{IsCoherent, AreBlocks, AreBlocksOf, names, owns, stays, has_not_answered, numbered, transition, may, may_hold_writable}
 use Rattle.coherence.specs.Moves.{May, moved, ReshapesTo, Reshapes, KeepsEntry, KeepsState, with_range, split_into, merged_into, MayMerge}
 use Rattle.coherence.proofs.Changes.{by-test}
 use Rattle.coherence.proofs.SwitchEntries.{Was, widened, blocks_put}
@@ -32,7 +32,7 @@ may-kept None (Some now) kept b h = absurd kept
 may-kept (Some was) None kept b h = absurd kept
 may-kept (Some was) (Some now) kept b h = subst (λ busy. (names now.state b && stays busy b) ≡ true) (sym kept.0) (held-kept was.busy was.state now.state kept.1 b h)
 
-may_write-kept : (old new : Option Region) → KeepsEntry old new → (b : ℕ) → may_write old b ≡ true → may_write new b ≡ true
+may_write-kept : (old new : Option Region) → KeepsEntry old new → (b : ℕ) → may_hold_writable old b ≡ true → may_hold_writable new b ≡ true
 may_write-kept None None kept b h = h
 may_write-kept None (Some now) kept b h = absurd kept
 may_write-kept (Some was) None kept b h = absurd kept

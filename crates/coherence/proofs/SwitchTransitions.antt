@@ -4,7 +4,7 @@ use Rattle.std.specs.Prelude.{if◌then◌else◌}
 use Rattle.mind_base.specs.Page.{PageView}
 use Rattle.region_directory.specs.declared.entries.Busy.{Busy}
 use Rattle.coherence.specs.World.{Region, World}
-use Rattle.coherence.specs.Facts.{AreNumbered, WaitsFor, numbered, transition}
+use Rattle.coherence.specs.Facts.{AreNumbered, WaitsSomewhere, numbered, transition}
 use Rattle.coherence.proofs.Changes.{by-test}
 
 -- the transition is the entry's, and has the number
@@ -32,5 +32,5 @@ number_used w numbered number page busy is =
     let tells = transition_tells number (w.regions page) busy is in
     subst (λ n. n ≤ w.last) tells.number (numbered page tells.region busy tells.entry tells.busy)
 
-pub waits_used : (w : World) → AreNumbered w → (number blade : ℕ) → WaitsFor w.regions number blade → number ≤ w.last
+pub waits_used : (w : World) → AreNumbered w → (number blade : ℕ) → WaitsSomewhere w.regions number blade → number ≤ w.last
 waits_used w numbered number blade (page, busy, is, waits) = number_used w numbered number page busy is

@@ -3,36 +3,25 @@ use Rattle.std.proofs.Common.{◌≡◌, refl, sym, ◌∙◌, ap, subst, ℕ, B
 use Rattle.std.specs.Prelude.{if◌then◌else◌, is_some, option_map, option_and_then}
 use Rattle.std.specs.List.{AllByRecursion}
 use Rattle.std.proofs.Math.Path.{fun_ext}
-use Rattle.std.proofs.lemmas.Bool.{eqb-true, eq-eqb, and_parts, and_from, false≢true}
+use Rattle.std.proofs.lemmas.Bool.{and_parts, false≢true}
 use Rattle.std.proofs.lemmas.Bool.Decides.{nat_tests}
 use Rattle.std.proofs.lemmas.List.Sums.{fold-append}
 use Rattle.std.proofs.lemmas.Nat.{pow_pos}
 use Rattle.std.proofs.lemmas.Option.{none-some, same_Some}
 use Rattle.mind_base.specs.Page.{PageView}
-use Rattle.mind_base.specs.Range.{RangeView, in_range}
+use Rattle.mind_base.specs.Range.{RangeView, in_range, same_range}
 use Rattle.mind_base.specs.declared.notes.Note.{Note}
 use Rattle.mind_base.specs.declared.notes.State.{State}
 use Rattle.mind_base.specs.declared.plans.RackPlan.{RackPlan}
+use Rattle.mind_base.proofs.SameRange.{same_range-refl, same_range-true}
 use Rattle.page_cache.specs.declared.frames.Frame.{Frame}
-use Rattle.coherence.specs.Facts.{IsCoherent, AreBlocksOf, names, owns, stays, has_not_answered, may, may_write}
-use Rattle.coherence.specs.Held.{Holdings, Entries, held_after, entries_after, same_block}
+use Rattle.coherence.specs.Facts.{IsCoherent, AreBlocksOf, names, owns, stays, has_not_answered, may, may_hold_writable}
+use Rattle.coherence.specs.Held.{Holdings, Entries, held_after, entries_after}
 use Rattle.coherence.specs.Lawful.{IsNamed, IsLawful, MayBeNoted, AreLawful, Matches, IsWithin, Tells, first_page, state_in}
 use Rattle.coherence.specs.World.{Region, World}
 use Rattle.coherence.proofs.BladeMoves.{single_writer}
 
 -- ---- blocks
-
-pub same_block-refl : (range : RangeView) → same_block range range ≡ true
-same_block-refl range = and_from _ _ (and_from _ _ (eq-eqb range.domain range.domain refl) (eq-eqb range.base range.base refl)) (eq-eqb range.log range.log refl)
-
-pub same_block-true : (a b : RangeView) → same_block a b ≡ true → a ≡ b
-same_block-true a b e =
-    let parts = and_parts _ _ e in
-    let first = and_parts _ _ parts.0 in
-    let domain : a.domain ≡ b.domain = eqb-true _ _ first.0 in
-    let base : a.base ≡ b.base = eqb-true _ _ first.1 in
-    let log : a.log ≡ b.log = eqb-true _ _ parts.1 in
-    λ i. record { domain = domain i; base = base i; log = log i }
 
 pub first_page-in : (range : RangeView) → in_range range (first_page range) ≡ true
 first_page-in range = grind (arith, nat_tests, pow_pos range.log)
@@ -66,19 +55,19 @@ pub record HasState (regions : PageView → Option Region) (range : RangeView) (
   pub is : region.state ≡ state
 
 state_of : RangeView → Option Region → Option State
-state_of range = option_and_then (λ region. if same_block region.range range then Some region.state else None)
+state_of range = option_and_then (λ region. if same_range region.range range then Some region.state else None)
 
 pub has_state : (regions : PageView → Option Region) (range : RangeView) (state : State) → state_in regions range ≡ Some state → HasState regions range state
 has_state regions range state e = by (regions (first_page range)) refl e where
-  by_block : (region : Region) → regions (first_page range) ≡ Some region → (b : Bool) → same_block region.range range ≡ b
+  by_block : (region : Region) → regions (first_page range) ≡ Some region → (b : Bool) → same_range region.range range ≡ b
       → (if b then Some region.state else None) ≡ Some state → HasState regions range state
-  by_block region at true t h = record { region = region; at = at; block = same_block-true region.range range t; is = same_Some region.state state h }
+  by_block region at true t h = record { region = region; at = at; block = same_range-true region.range range t; is = same_Some region.state state h }
   by_block region at false t h = absurd (none-some state h)
 
-  by : (o : Option Region) → regions (first_page range) ≡ o → option_and_then (λ region. if same_block region.range range then Some region.state else None) o ≡ Some state
+  by : (o : Option Region) → regions (first_page range) ≡ o → option_and_then (λ region. if same_range region.range range then Some region.state else None) o ≡ Some state
       → HasState regions range state
   by None at h = absurd (none-some state h)
-  by (Some region) at h = by_block region at (same_block region.range range) refl h
+  by (Some region) at h = by_block region at (same_range region.range range) refl h
 
 pub has_some : (regions : PageView → Option Region) (range : RangeView) → is_some (state_in regions range) ≡ true → (state : State) × HasState regions range state
 has_some regions range e = by (state_in regions range) refl e where
@@ -89,8 +78,8 @@ has_some regions range e = by (state_in regions range) refl e where
 pub state-found : (regions : PageView → Option Region) (range : RangeView) (region : Region) → regions (first_page range) ≡ Some region → region.range ≡ range
     → state_in regions range ≡ Some region.state
 state-found regions range region at block =
-    ap (option_and_then (λ r. if same_block r.range range then Some r.state else None)) at
-    ∙ ap (λ b. if b then Some region.state else None) (subst (λ r. same_block region.range r ≡ true) block (same_block-refl region.range))
+    ap (option_and_then (λ r. if same_range r.range range then Some r.state else None)) at
+    ∙ ap (λ b. if b then Some region.state else None) (subst (λ r. same_range region.range r ≡ true) block (same_range-refl region.range))
 
 -- ---- where the rack is coherent
 
@@ -99,7 +88,7 @@ named_in w blade page writable safe is =
     let held = is-held (w.frames blade page) writable is in
     let frame = safe.frames blade page held.found held.at in
     by (w.regions page) refl frame.held (λ t. frame.writer (held.is ∙ t)) where
-      by : (o : Option Region) → w.regions page ≡ o → may o blade ≡ true → (writable ≡ true → may_write o blade ≡ true) → IsNamed (entries_in w) blade page writable
+      by : (o : Option Region) → w.regions page ≡ o → may o blade ≡ true → (writable ≡ true → may_hold_writable o blade ≡ true) → IsNamed (entries_in w) blade page writable
       by None at h writer = absurd (false≢true h)
       by (Some region) at h writer = let block = safe.blocks page region at in record {
         range = region.range;

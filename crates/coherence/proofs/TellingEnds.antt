@@ -3,16 +3,17 @@ use Rattle.std.proofs.Common.{◌≡◌, ◌⊎◌, inl, inr, refl, sym, ◌∙�
 use Rattle.std.specs.Prelude.{if◌then◌else◌, is_some, option_map}
 use Rattle.std.specs.List.{AllByRecursion}
 use Rattle.mind_base.specs.Page.{PageView}
-use Rattle.mind_base.specs.Range.{RangeView}
+use Rattle.mind_base.specs.Range.{RangeView, same_range}
 use Rattle.mind_base.specs.declared.notes.Note.{Note}
 use Rattle.mind_base.specs.declared.notes.Note.TheVariants as note
 use Rattle.mind_base.specs.declared.notes.State.{State}
 use Rattle.mind_base.specs.declared.plans.RackPlan.{RackPlan}
+use Rattle.mind_base.proofs.SameRange.{same_range-refl, same_range-true}
 use Rattle.coherence.specs.Facts.{IsCoherent}
-use Rattle.coherence.specs.Held.{Holdings, Entries, held_after, entries_after, same_block, put_entry}
+use Rattle.coherence.specs.Held.{Holdings, Entries, held_after, entries_after, put_entry}
 use Rattle.coherence.specs.Lawful.{IsNamed, IsLawful, AreLawful, IsWithin, Tells}
 use Rattle.coherence.specs.World.{World}
-use Rattle.coherence.proofs.Telling.{held_in, entries_in, same_block-refl, same_block-true, lawful_in, tells-from}
+use Rattle.coherence.proofs.Telling.{held_in, entries_in, lawful_in, tells-from}
 
 -- ---- between two lawful points
 
@@ -78,9 +79,9 @@ IsAmongSet range (n ∷ notes) = IsOf range n ⊎ IsAmongSet range notes
 -- such a note leaves an entry as it is, or sets it to what it is at the end
 set-cases : (last now : Entries) (range : RangeView) (state : State) → last range ≡ Some state → (other : RangeView)
     → (put_entry range (Some state) now other ≡ now other) ⊎ (put_entry range (Some state) now other ≡ last other)
-set-cases last now range state sets other = by (same_block range other) refl where
-  by : (t : Bool) → same_block range other ≡ t → ((if t then Some state else now other) ≡ now other) ⊎ ((if t then Some state else now other) ≡ last other)
-  by true e = inr (sym sets ∙ ap last (same_block-true range other e))
+set-cases last now range state sets other = by (same_range range other) refl where
+  by : (t : Bool) → same_range range other ≡ t → ((if t then Some state else now other) ≡ now other) ⊎ ((if t then Some state else now other) ≡ last other)
+  by true e = inr (sym sets ∙ ap last (same_range-true range other e))
   by false e = inl refl
 
 set-between : (first last now : Entries) (range : RangeView) (state : State) → last range ≡ Some state → IsBetween first last now → IsBetween first last (put_entry range (Some state) now)
@@ -115,7 +116,7 @@ sets_reach last (note.Region other state ∷ notes) all now range is = sets_reac
       → (put_entry other (Some state) now range ≡ last range) ⊎ IsAmongSet range notes
   by (inr e) f = inl e
   by (inl e) (inl f) = inl (e ∙ f)
-  by (inl e) (inr (inl same)) = inl (ap (λ t. if t then Some state else now range) (subst (λ r. same_block other r ≡ true) same (same_block-refl other)) ∙ sym all.0 ∙ ap last same)
+  by (inl e) (inr (inl same)) = inl (ap (λ t. if t then Some state else now range) (subst (λ r. same_range other r ≡ true) same (same_range-refl other)) ∙ sym all.0 ∙ ap last same)
   by (inl e) (inr (inr later)) = inr later
 sets_reach last (n ∷ notes) all now range is = absurd all.0
 

@@ -2,20 +2,21 @@
 use Rattle.std.proofs.Common.{◌≡◌, refl, sym, ◌∙◌, ap, subst, ℕ, ◌==◌, Bool, true, false, ◌&&◌, [], ◌∷◌, Option, Some, None}
 use Rattle.std.specs.Prelude.{if◌then◌else◌, is_some, IfSome, option_map, option_and_then}
 use Rattle.mind_base.specs.Page.{PageView}
-use Rattle.mind_base.specs.Range.{RangeView, in_range}
+use Rattle.mind_base.specs.Range.{RangeView, in_range, same_range}
 use Rattle.mind_base.specs.declared.notes.Note.{Note}
 use Rattle.mind_base.specs.declared.notes.Note.TheVariants as note
 use Rattle.mind_base.specs.declared.notes.State.{State}
 use Rattle.mind_base.specs.declared.plans.RackPlan.{RackPlan}
+use Rattle.mind_base.proofs.SameRange.{same_range-refl, same_range-true}
 use Rattle.page_cache.specs.PageCache.{same_page}
 use Rattle.page_cache.specs.declared.frames.Frame.{Frame}
 use Rattle.coherence.specs.Facts.{IsCoherent}
-use Rattle.coherence.specs.Held.{held_after, entries_after, same_block, put_entry}
+use Rattle.coherence.specs.Held.{held_after, entries_after, put_entry}
 use Rattle.coherence.specs.Lawful.{MayBeNoted, Matches, IsWithin, Tells, first_page, state_in}
 use Rattle.coherence.specs.World.{Region, World, put_both, put_range}
 use Rattle.coherence.proofs.Changes.{by-test}
 use Rattle.coherence.proofs.Keys.{AtBoth, Here, Away, at_both, put_both-here, put_both-away}
-use Rattle.coherence.proofs.Telling.{IsAlike, held_in, entries_in, first_page-in, same_block-refl, same_block-true, lawful_when_coherent, tells-from}
+use Rattle.coherence.proofs.Telling.{IsAlike, held_in, entries_in, first_page-in, lawful_when_coherent, tells-from}
 
 -- ---- any note
 
@@ -96,25 +97,25 @@ abbrev pub AreOfBlock : (PageView → Option Region) → RangeView → Type 0
 AreOfBlock regions range = (page : PageView) → in_range range page ≡ true → IfSome (regions page) (λ was. was.range ≡ range)
 
 -- the state that another block has from an entry of this one
-not_of_it : (o : Option Region) (range other : RangeView) → IfSome o (λ r. r.range ≡ range) → same_block range other ≡ false
-    → option_and_then (λ r. if same_block r.range other then Some r.state else None) o ≡ None
+not_of_it : (o : Option Region) (range other : RangeView) → IfSome o (λ r. r.range ≡ range) → same_range range other ≡ false
+    → option_and_then (λ r. if same_range r.range other then Some r.state else None) o ≡ None
 not_of_it None range other is away = refl
-not_of_it (Some r) range other is away = ap (λ b. if b then Some r.state else None) (ap (λ x. same_block x other) is ∙ away)
+not_of_it (Some r) range other is away = ap (λ b. if b then Some r.state else None) (ap (λ x. same_range x other) is ∙ away)
 
 of_it : (o : Option Region) (range : RangeView) → IfSome o (λ r. r.range ≡ range)
-    → option_and_then (λ r. if same_block r.range range then Some r.state else None) o ≡ option_map (λ r. r.state) o
+    → option_and_then (λ r. if same_range r.range range then Some r.state else None) o ≡ option_map (λ r. r.state) o
 of_it None range is = refl
-of_it (Some r) range is = ap (λ b. if b then Some r.state else None) (ap (λ x. same_block x range) is ∙ same_block-refl range)
+of_it (Some r) range is = ap (λ b. if b then Some r.state else None) (ap (λ x. same_range x range) is ∙ same_range-refl range)
 
 -- one block's entry becomes this one, or none
 pub entries-put : (regions : PageView → Option Region) (range : RangeView) (entry : Option Region) → IfSome entry (λ r. r.range ≡ range) → AreOfBlock regions range
     → (other : RangeView) → state_in (put_range range entry regions) other ≡ put_entry range (option_map (λ r. r.state) entry) (state_in regions) other
 entries-put regions range entry is was other =
-    by-test (λ t. same_block range other ≡ t → state_in (put_range range entry regions) other ≡ (if t then option_map (λ r. r.state) entry else state_in regions other)) (same_block range other)
-    (λ _ t. subst (λ x. state_in (put_range range entry regions) x ≡ option_map (λ r. r.state) entry) (same_block-true range other t)
-    (ap (λ b. option_and_then (λ r. if same_block r.range range then Some r.state else None) (if b then entry else regions (first_page range))) (first_page-in range) ∙ of_it entry range is))
+    by-test (λ t. same_range range other ≡ t → state_in (put_range range entry regions) other ≡ (if t then option_map (λ r. r.state) entry else state_in regions other)) (same_range range other)
+    (λ _ t. subst (λ x. state_in (put_range range entry regions) x ≡ option_map (λ r. r.state) entry) (same_range-true range other t)
+    (ap (λ b. option_and_then (λ r. if same_range r.range range then Some r.state else None) (if b then entry else regions (first_page range))) (first_page-in range) ∙ of_it entry range is))
     (λ _ away. by-test (λ t. in_range range (first_page other) ≡ t
-    → option_and_then (λ r. if same_block r.range other then Some r.state else None) (if t then entry else regions (first_page other)) ≡ state_in regions other) (in_range range (first_page other))
+    → option_and_then (λ r. if same_range r.range other then Some r.state else None) (if t then entry else regions (first_page other)) ≡ state_in regions other) (in_range range (first_page other))
     (λ _ within. not_of_it entry range other is away ∙ sym (not_of_it (regions (first_page other)) range other (was (first_page other) within) away))
     (λ _ _. refl) refl)
     refl

@@ -1,15 +1,17 @@
 -- What is true at every moment. Two ideas carry it: an image that goes back counts as a writer, and an
 -- acknowledgement carries its blade's promise.
-use Rattle.std.specs.Prelude.{◌≡◌, ◌≢◌, ◌≤◌, ◌⊎◌, ℕ, ◌+◌, ◌==◌, Bool, true, false, ◌&&◌, ◌||◌, not, List, [], ◌∷◌, Option, Some, None, is_some, IfSome, if◌then◌else◌}
+use Rattle.std.specs.Prelude.{◌≡◌, ◌≢◌, ◌≤◌, ◌⊎◌, ℕ, ◌+◌, ◌==◌, Bool, true, false, ◌&&◌, ◌||◌, List, [], ◌∷◌, Option, Some, None, is_some, IfSome, if◌then◌else◌}
 use Rattle.mind_base.specs.Page.{PageView}
 use Rattle.mind_base.specs.declared.commands.Perm.{Perm}
-use Rattle.mind_base.specs.declared.commands.Perm.TheVariants.{No, R, Rw}
+use Rattle.mind_base.specs.declared.commands.Perm.TheVariants.{No}
 use Rattle.mind_base.specs.declared.notes.State.{State}
 use Rattle.mind_base.specs.declared.notes.State.TheVariants.{I, S, M}
 use Rattle.invalidate_multicast.specs.Blades.{has_blade}
 use Rattle.page_cache.specs.declared.frames.Frame.{Frame}
 use Rattle.page_image.specs.PageImage.{PageImageView}
 use Rattle.mind_base.specs.Range.{in_range}
+use Rattle.mind_base.specs.Permission.{allows}
+use Rattle.page_cache.specs.PageCache.{is_writable}
 use Rattle.region_directory.specs.declared.entries.Busy.{Busy}
 use Rattle.wire_msg.specs.declared.msgs.Msg.{Msg}
 use Rattle.wire_msg.specs.declared.msgs.Msg.TheVariants.{Get, Fill, Deny, Back, Inv, Lower, Ack, Read, Image, Write}
@@ -43,9 +45,9 @@ may None blade = false
 may (Some region) blade = names region.state blade && stays region.busy blade
 
 -- the blade may hold the page to write, or send it back
-abbrev pub may_write : Option Region → ℕ → Bool
-may_write None blade = false
-may_write (Some region) blade = owns region.state blade && has_not_answered region.busy blade
+abbrev pub may_hold_writable : Option Region → ℕ → Bool
+may_hold_writable None blade = false
+may_hold_writable (Some region) blade = owns region.state blade && has_not_answered region.busy blade
 
 -- the transition with this number, where it is under way at the page
 abbrev pub numbered : ℕ → Option Busy → Option Busy
@@ -56,17 +58,7 @@ abbrev pub transition : ℕ → Option Region → Option Busy
 transition number None = None
 transition number (Some region) = numbered number region.busy
 
--- the permission lets the page be read, or written
-abbrev pub allows : Bool → Perm → Bool
-allows write No = false
-allows write R = not write
-allows write Rw = true
-
 -- ---- frames
-
-abbrev pub is_writable : Option Frame → Bool
-is_writable None = false
-is_writable (Some frame) = frame.writable
 
 abbrev pub is_dirty : Option Frame → Bool
 is_dirty None = false
@@ -76,7 +68,7 @@ is_dirty (Some frame) = frame.dirty
 -- request for it is out; only such a frame is dirty; its content is the newest
 pub record IsFrame (region : Option Region) (asked : Option Bool) (flat : PageImageView) (given : Perm) (blade : ℕ) (frame : Frame) : Type 0 where
   pub held : may region blade ≡ true
-  pub writer : frame.writable ≡ true → may_write region blade ≡ true
+  pub writer : frame.writable ≡ true → may_hold_writable region blade ≡ true
   pub alone : frame.writable ≡ true → asked ≡ None
   pub dirty : frame.dirty ≡ true → frame.writable ≡ true
   pub newest : frame.image ≡ flat
@@ -91,18 +83,18 @@ AreFrames w = (blade : ℕ) (page : PageView) (frame : Frame) → w.frames blade
 
 -- an acknowledgement: at each page of its transition nothing of the blade's is behind it or comes down, and
 -- the blade holds the page no longer, or only to read, as the target lets it
-pub record Keeps (held : Option Frame) (downs behind : List Msg) (page : PageView) (blade : ℕ) (busy : Busy) : Type 0 where
+pub record KeepsAtMost (held : Option Frame) (downs behind : List Msg) (page : PageView) (blade : ℕ) (busy : Busy) : Type 0 where
   pub back : none_is (is_back page) behind ≡ true
   pub fill : none_is (is_fill page) downs ≡ true
   pub left : (held ≡ None) ⊎ ((is_writable held ≡ false) × (names busy.target blade ≡ true))
 
 -- somewhere the transition with this number waits for the blade
-abbrev pub WaitsFor : (PageView → Option Region) → ℕ → ℕ → Type 0
-WaitsFor regions number blade =
+abbrev pub WaitsSomewhere : (PageView → Option Region) → ℕ → ℕ → Type 0
+WaitsSomewhere regions number blade =
     (page : PageView) × (busy : Busy) × (transition number (regions page) ≡ Some busy) × (has_blade busy.waiting blade ≡ true)
 
 pub record IsBack (region : Option Region) (frame : Option Frame) (wanted : Option Wanted) (downs : List Msg) (flat : PageImageView) (place : Option (ℕ × ℕ)) (blade : ℕ) (page : PageView) (image : PageImageView) : Type 0 where
-  pub writer : may_write region blade ≡ true
+  pub writer : may_hold_writable region blade ≡ true
   pub newest : image ≡ flat
   pub placed : is_some place ≡ true
   pub lowered : is_writable frame ≡ false
@@ -113,9 +105,9 @@ abbrev pub IsUp : World → ℕ → Msg → List Msg → Type 0
 IsUp w blade (Get page write) behind = (none_is (is_back page) behind ≡ true) × (w.asks blade page ≡ Some write)
 IsUp w blade (Back page image) behind =
     IsBack (w.regions page) (w.frames blade page) (w.wants blade page) (w.downs blade) (w.flat page) (w.places page) blade page image
-IsUp w blade (Ack number count) behind = WaitsFor w.regions number blade
+IsUp w blade (Ack number count) behind = WaitsSomewhere w.regions number blade
     × ((page : PageView) (busy : Busy) → transition number (w.regions page) ≡ Some busy
-    → Keeps (w.frames blade page) (w.downs blade) behind page blade busy)
+    → KeepsAtMost (w.frames blade page) (w.downs blade) behind page blade busy)
 IsUp w blade message behind = ⊥
 
 abbrev pub AreUps : World → ℕ → List Msg → Type 0
@@ -127,7 +119,7 @@ AreUps w blade (message ∷ behind) = IsUp w blade message behind × AreUps w bl
 -- a page that comes: its entry lets the blade hold it, and write it where the message says so
 pub record IsFill (region : Option Region) (flat : PageImageView) (allowed : Perm) (request : Option Bool) (blade : ℕ) (given : Perm) (writable : Bool) (image : PageImageView) : Type 0 where
   pub held : may region blade ≡ true
-  pub writer : writable ≡ true → may_write region blade ≡ true
+  pub writer : writable ≡ true → may_hold_writable region blade ≡ true
   pub newest : image ≡ flat
   pub perm : given ≡ allowed
   pub readable : allows writable allowed ≡ true
@@ -142,10 +134,10 @@ abbrev pub IsDown : World → ℕ → Msg → List Msg → Type 0
 IsDown w blade (Fill page perm writable image) behind =
     IsFill (w.regions page) (w.flat page) (w.perms page) (w.asks blade page) blade perm writable image
 IsDown w blade (Deny page) behind = IfSome (w.asks blade page) (λ write. allows write (w.perms page) ≡ false)
-IsDown w blade (Inv number range asked) behind = WaitsFor w.regions number blade
+IsDown w blade (Inv number range asked) behind = WaitsSomewhere w.regions number blade
     × ((page : PageView) (busy : Busy) → transition number (w.regions page) ≡ Some busy
     → IsCall (w.regions page) page (in_range range page) behind)
-IsDown w blade (Lower number range asked) behind = WaitsFor w.regions number blade
+IsDown w blade (Lower number range asked) behind = WaitsSomewhere w.regions number blade
     × ((page : PageView) (busy : Busy) → transition number (w.regions page) ≡ Some busy
     → IsCall (w.regions page) page (in_range range page) behind × (names busy.target blade ≡ true))
 IsDown w blade message behind = ⊥
@@ -185,7 +177,7 @@ AreCalled w = (blade number : ℕ) (page : PageView) (busy : Busy) → transitio
 -- a request that fetches its page: its entry has no transition, and names the blade, as owner if it is for writing
 pub record IsFetch (region : Option Region) (perm : Perm) (write : Bool) (blade : ℕ) : Type 0 where
   pub held : may region blade ≡ true
-  pub writer : write ≡ true → may_write region blade ≡ true
+  pub writer : write ≡ true → may_hold_writable region blade ≡ true
   pub idle : IfSome region (λ r. r.busy ≡ None)
   pub allowed : allows write perm ≡ true
 
@@ -223,16 +215,16 @@ AreTos w memory images (Write phys image ∷ behind) = AreTos w memory (put phys
 AreTos w memory images (message ∷ behind) = ⊥
 
 -- the images once all writes have come
-abbrev pub written : List Msg → (ℕ → PageImageView) → ℕ → PageImageView
-written [] images = images
-written (Write phys image ∷ behind) images = written behind (put phys image images)
-written (message ∷ behind) images = written behind images
+abbrev pub images_written : List Msg → (ℕ → PageImageView) → ℕ → PageImageView
+images_written [] images = images
+images_written (Write phys image ∷ behind) images = images_written behind (put phys image images)
+images_written (message ∷ behind) images = images_written behind images
 
 -- a page that no blade holds dirty, and that no blade sends back, is then the newest where it lies
 abbrev pub AreWritten : World → Type 0
 AreWritten w = (page : PageView) (place : ℕ × ℕ) → w.places page ≡ Some place
     → ((blade : ℕ) → (is_dirty (w.frames blade page) ≡ false) × (none_is (is_back page) (w.ups blade) ≡ true))
-    → written (w.tos place.0) (w.images place.0) place.1 ≡ w.flat page
+    → images_written (w.tos place.0) (w.images place.0) place.1 ≡ w.flat page
 
 abbrev pub IsFrom : World → ℕ → Msg → Type 0
 IsFrom w memory (Image (Some blade) page image) =

@@ -1,7 +1,7 @@
 -- What a log tells of caches and directory: which blade holds which page, and which entries are in force.
-use Rattle.std.specs.Prelude.{ℕ, ◌==◌, Bool, false, ◌&&◌, List, fold, Option, Some, None, option_map, option_and_then, if◌then◌else◌}
+use Rattle.std.specs.Prelude.{ℕ, Bool, false, List, fold, Option, Some, None, option_map, option_and_then, if◌then◌else◌}
 use Rattle.mind_base.specs.Page.{PageView}
-use Rattle.mind_base.specs.Range.{RangeView, halves_of}
+use Rattle.mind_base.specs.Range.{RangeView, halves_of, same_range}
 use Rattle.mind_base.specs.declared.notes.Note.{Note}
 use Rattle.mind_base.specs.declared.notes.Note.TheVariants as note
 use Rattle.mind_base.specs.declared.notes.State.{State}
@@ -45,12 +45,9 @@ Entries = RangeView → Option State
 abbrev pub no_entries : Entries
 no_entries = λ range. None
 
-abbrev pub same_block : RangeView → RangeView → Bool
-same_block a b = a.domain == b.domain && a.base == b.base && a.log == b.log
-
 -- one block's entry becomes this one, or none
 abbrev pub put_entry : RangeView → Option State → Entries → Entries
-put_entry range state entries other = if same_block range other then state else entries other
+put_entry range state entries other = if same_range range other then state else entries other
 
 -- a block's two halves come in its place, in its state; where it is not in force, nothing changes
 abbrev pub split_in : Entries → Option State → RangeView → Option (RangeView × RangeView) → Entries

@@ -2,14 +2,14 @@
 use Rattle.std.specs.Prelude.{◌≡◌, ℕ, ◌≤◌, Bool, true, List, [], ◌∷◌, length, fold, slice_get, Option, Some, None, is_some, option_map, option_and_then, unwrap_or, if◌then◌else◌}
 use Rattle.std.specs.List.{AllByRecursion, IsDistinct}
 use Rattle.mind_base.specs.Page.{PageView}
-use Rattle.mind_base.specs.Range.{RangeView, in_range, halves_of}
+use Rattle.mind_base.specs.Range.{RangeView, in_range, halves_of, same_range}
 use Rattle.mind_base.specs.declared.notes.Note.{Note}
 use Rattle.mind_base.specs.declared.notes.Note.TheVariants as note
 use Rattle.mind_base.specs.declared.notes.State.{State}
 use Rattle.mind_base.specs.declared.plans.RackPlan.{RackPlan}
 use Rattle.page_cache.specs.PageCache.{same_page}
 use Rattle.coherence.specs.Facts.{names, owns}
-use Rattle.coherence.specs.Held.{Holdings, Entries, held_after, entries_after, same_block, joint_state}
+use Rattle.coherence.specs.Held.{Holdings, Entries, held_after, entries_after, joint_state}
 use Rattle.coherence.specs.World.{Region, World}
 
 -- ---- at one point
@@ -35,7 +35,7 @@ pub record IsLawful (plan : RackPlan) (held : Holdings) (entries : Entries) : Ty
   pub named : (blade : ℕ) (page : PageView) (writable : Bool) → held blade page ≡ Some writable → IsNamed entries blade page writable
   pub disjoint : (a b : RangeView) (page : PageView) → is_some (entries a) ≡ true → is_some (entries b) ≡ true
       → in_range a page ≡ true → in_range b page ≡ true → a ≡ b
-  pub slots : (ranges : List RangeView) → IsDistinct same_block ranges → AllByRecursion (λ range. is_some (entries range) ≡ true) ranges → length ranges ≤ plan.slots
+  pub slots : (ranges : List RangeView) → IsDistinct same_range ranges → AllByRecursion (λ range. is_some (entries range) ≡ true) ranges → length ranges ≤ plan.slots
   pub frames : (blade : ℕ) (pages : List PageView) → IsDistinct same_page pages → AllByRecursion (λ page. is_some (held blade page) ≡ true) pages → length pages ≤ frames_of plan blade
 
 -- ---- a note
@@ -65,7 +65,7 @@ first_page range = record { domain = range.domain; number = range.base }
 -- the state of the entry of this block
 abbrev pub state_in : (PageView → Option Region) → RangeView → Option State
 state_in regions range =
-    option_and_then (λ region. if same_block region.range range then Some region.state else None) (regions (first_page range))
+    option_and_then (λ region. if same_range region.range range then Some region.state else None) (regions (first_page range))
 
 -- The pages that are held are those in the frames, and the entries in force those of the directory.
 pub record Matches (held : Holdings) (entries : Entries) (w : World) : Type 0 where
@@ -74,7 +74,7 @@ pub record Matches (held : Holdings) (entries : Entries) (w : World) : Type 0 wh
 
 -- no blade holds more pages than it has frames, and no more entries are there than slots
 pub record IsWithin (plan : RackPlan) (w : World) : Type 0 where
-  pub slots : (ranges : List RangeView) → IsDistinct same_block ranges → AllByRecursion (λ range. is_some (state_in w.regions range) ≡ true) ranges → length ranges ≤ plan.slots
+  pub slots : (ranges : List RangeView) → IsDistinct same_range ranges → AllByRecursion (λ range. is_some (state_in w.regions range) ≡ true) ranges → length ranges ≤ plan.slots
   pub frames : (blade : ℕ) (pages : List PageView) → IsDistinct same_page pages → AllByRecursion (λ page. is_some (w.frames blade page) ≡ true) pages → length pages ≤ frames_of plan blade
 
 -- the notes tell, lawfully, how one world came from the other

@@ -5,15 +5,16 @@ use Rattle.mind_base.specs.Range.{RangeView, in_range}
 use Rattle.mind_base.specs.declared.commands.Perm.{Perm}
 use Rattle.mind_base.specs.declared.notes.State.{State}
 use Rattle.mind_base.specs.declared.notes.State.TheVariants.{I, M}
+use Rattle.mind_base.specs.Permission.{allows}
 use Rattle.invalidate_multicast.specs.Blades.{has_blade}
 use Rattle.invalidate_multicast.specs.Transition.{after_answer, is_answered}
-use Rattle.page_cache.specs.PageCache.{lowered_frame}
+use Rattle.page_cache.specs.PageCache.{lowered_frame, is_writable}
 use Rattle.page_cache.specs.declared.frames.Frame.{Frame}
 use Rattle.page_image.specs.PageImage.{PageImageView}
 use Rattle.region_directory.specs.declared.entries.Busy.{Busy}
 use Rattle.wire_msg.specs.declared.msgs.Msg.{Msg}
 use Rattle.wire_msg.specs.declared.msgs.Msg.TheVariants.{Get, Fill, Deny, Back, Inv, Lower, Ack, Read, Image, Write}
-use Rattle.coherence.specs.Facts.{AreBlocksOf, names, owns, is_writable, allows, is_fetching}
+use Rattle.coherence.specs.Facts.{AreBlocksOf, names, owns, is_fetching}
 use Rattle.coherence.specs.World.{Region, Wanted, World, put, put_page, put_both, put_range}
 
 -- ---- a blade
@@ -88,13 +89,13 @@ ended region = if is_answered region.busy then record { range = region.range; st
     after_busy None state = state
     after_busy (Some busy) state = busy.target
 
-abbrev pub answered_by : ℕ → ℕ → Option Region → Option Region
-answered_by number blade None = None
-answered_by number blade (Some region) = Some (ended (record region { busy = after_answer number blade region.busy }))
+abbrev pub region_answered : ℕ → ℕ → Option Region → Option Region
+region_answered number blade None = None
+region_answered number blade (Some region) = Some (ended (record region { busy = after_answer number blade region.busy }))
 
 abbrev pub acknowledged : ℕ → ℕ → List Msg → World → World
 acknowledged blade number behind w =
-    heard blade behind (record w { regions = λ page. answered_by number blade (w.regions page) })
+    heard blade behind (record w { regions = λ page. region_answered number blade (w.regions page) })
 
 -- an image for a request goes on to the blade, and the request ends
 abbrev pub passed_on : ℕ → ℕ → PageView → Wanted → PageImageView → List Msg → World → World
@@ -270,8 +271,8 @@ abbrev pub HoldsNoneWritable : World → ℕ → RangeView → Type 0
 HoldsNoneWritable w blade range = (page : PageView) → in_range range page ≡ true → is_writable (w.frames blade page) ≡ false
 
 -- the entry of the block names nobody and has no transition
-abbrev pub is_droppable : RangeView → Region
-is_droppable range = record { range = range; state = I; busy = None }
+abbrev pub droppable_region : RangeView → Region
+droppable_region range = record { range = range; state = I; busy = None }
 
 -- when a move can be made
 abbrev pub May : World → Move → Type 0
@@ -291,7 +292,7 @@ May w (HearsImage memory blade page wanted image behind) =
 May w (Refuses blade page write) =
     (w.wants blade page ≡ Some (record { write = write; fetching = false })) × (allows write (w.perms page) ≡ false)
 May w (Enters range) = (page : PageView) → in_range range page ≡ true → w.regions page ≡ None
-May w (Drops range) = (page : PageView) → in_range range page ≡ true → w.regions page ≡ Some (is_droppable range)
+May w (Drops range) = (page : PageView) → in_range range page ≡ true → w.regions page ≡ Some (droppable_region range)
 May w (GrantsIt blade page write place region state) = MayGrant w blade page write place region state
 May w (Begins region busy message) = MayBegin w region busy message
 May w (ReshapesTo regions) = Reshapes w.regions regions

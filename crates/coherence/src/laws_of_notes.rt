@@ -1,3 +1,5 @@
+//! Laws of what notes tell: functions that do nothing, with the laws as clauses.
+
 ghost use Rattle.std.specs.Prelude.{◌≡◌, ◌⊎◌, ℕ, Bool, false, true, List, [], ◌∷◌, ◌++◌, fold, Option, Some, None, IfSome, is_some, option_map};
 ghost use Rattle.mind_base.specs.Page.{PageView};
 ghost use Rattle.mind_base.specs.Range.{RangeView, in_range};

@@ -1,5 +1,6 @@
 pub mod Acting
 pub mod Chains
+pub mod Coming
 pub mod Keeping
 pub mod Moving
 pub mod Placing

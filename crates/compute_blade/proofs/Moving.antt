@@ -7,7 +7,7 @@ use Rattle.mind_base.specs.declared.plans.ThreadPlan.{ThreadPlan}
 use Rattle.hart_effect.specs.Deed.{Deed, carried_out}
 use Rattle.hart_effect.specs.declared.finds.Found.{Found}
 use Rattle.page_cache.specs.PageCache.{CacheView}
-use Rattle.compute_blade.specs.Blade.{HartView, BladeView, Notes, hart_of, with_hart, HasSpent, last_store}
+use Rattle.compute_blade.specs.Blade.{HartView, BladeView, OnlyNotes, hart_of, with_hart, HasSpent, last_store}
 use Rattle.compute_blade.specs.Frames.{around_held, thread_of}
 use Rattle.compute_blade.specs.Harts.{DoesSome, TakesEffect}
 use Rattle.compute_blade.specs.Steps.{performed_by, performed, drained}
@@ -45,7 +45,7 @@ moved_hart blade h hart hart' cache' is =
 
 pub performed_at : (o : Option Deed) (h : ℕ) (plan : ThreadPlan) (found : Found) (blade new : BladeView) (hart hart' : HartView) (cache' : CacheView) (notes notes' : List Note)
     → DoesSome h plan.domain found hart blade.cache hart' cache' o → new ≡ moved blade h hart' cache' → notes' ≡ notes ++ note.Exec h ∷ []
-    → Notes (performed_by o h plan found blade hart) new notes notes'
+    → OnlyNotes (performed_by o h plan found blade hart) new notes notes'
 performed_at None h plan found blade new hart hart' cache' notes notes' does is noted = absurd does
 performed_at (Some deed) h plan found blade new hart hart' cache' notes notes' does is noted =
     (is ∙ (λ i. moved blade h (does.0 i) (does.1 i)), refl, noted)
@@ -79,6 +79,10 @@ pub record IsRead (blade now : BladeView) (i h : ℕ) (place : Option HartView) 
   pub value : place ≡ get_or blade.harts i place
   pub is : place ≡ Some hart
 
+pub read_here : {blade now : BladeView} {i h : ℕ} {place : Option HartView} {hart : HartView} → blade ≡ now → IsSome (hart_of now h) → i ≡ h → place ≡ get_or blade.harts i place → place ≡ Some hart
+    → IsRead blade now i h place hart
+read_here view own index value is = record { view = view; own = own; index = index; value = value; is = is }
+
 pub own_read : (blade now : BladeView) (i h : ℕ) (place : Option HartView) (hart : HartView) → IsRead blade now i h place hart → hart_of blade h ≡ Some hart
 own_read blade now i h place hart r =
     own_at blade h place hart (subst (λ b. IsSome (hart_of b h)) (sym r.view) r.own) (r.value ∙ ap (λ j. get_or blade.harts j place) r.index) r.is
@@ -106,10 +110,10 @@ pub performed_own : (h : ℕ) (plan : ThreadPlan) (found : Found) (pc : ℕ) (bl
     → IsRead blade now i h place hart
     → DoesSome h plan.domain found hart blade.cache hart' cache' (carried_out found (around_held blade.cache.entries h plan.domain) pc (thread_of blade.cache.entries hart))
     → notes' ≡ notes ++ note.Exec h ∷ []
-    → IfSome (hart_of now h) (λ hart. Notes (performed h plan found pc now hart) (moved blade i hart' cache') notes notes')
+    → IfSome (hart_of now h) (λ hart. OnlyNotes (performed h plan found pc now hart) (moved blade i hart' cache') notes notes')
 performed_own h plan found pc blade now i place hart hart' cache' notes notes' r does noted =
-    subst (λ b. IfSome (hart_of b h) (λ hart. Notes (performed h plan found pc b hart) (moved blade i hart' cache') notes notes')) r.view
-    (of_hart (λ hart. Notes (performed h plan found pc blade hart) (moved blade i hart' cache') notes notes') (hart_of blade h) hart (own_read blade now i h place hart r)
+    subst (λ b. IfSome (hart_of b h) (λ hart. OnlyNotes (performed h plan found pc b hart) (moved blade i hart' cache') notes notes')) r.view
+    (of_hart (λ hart. OnlyNotes (performed h plan found pc blade hart) (moved blade i hart' cache') notes notes') (hart_of blade h) hart (own_read blade now i h place hart r)
     (performed_at (carried_out found (around_held blade.cache.entries h plan.domain) pc (thread_of blade.cache.entries hart)) h plan found blade (moved blade i hart' cache') hart hart' cache' notes notes' does
     (ap (λ j. moved blade j hart' cache') r.index) noted))
 
@@ -117,7 +121,7 @@ performed_own h plan found pc blade now i place hart hart' cache' notes notes' r
 drained_at : (oldest : Option PendingView) (h : ℕ) (plan : ThreadPlan) (blade new : BladeView) (hart hart' : HartView) (cache' : CacheView) (notes notes' : List Note)
     → IfSome oldest (λ store. TakesEffect h plan.domain store (record hart { queue = record hart.queue { stores = drop 1 hart.queue.stores } }) blade.cache hart' cache')
     → new ≡ moved blade h hart' cache' → notes' ≡ notes ++ note.Drain h ∷ []
-    → IfSome oldest (λ store. Notes (drained h plan store (drop 1 hart.queue.stores) blade hart) new notes notes')
+    → IfSome oldest (λ store. OnlyNotes (drained h plan store (drop 1 hart.queue.stores) blade hart) new notes notes')
 drained_at None h plan blade new hart hart' cache' notes notes' does is noted = tt
 drained_at (Some store) h plan blade new hart hart' cache' notes notes' does is noted =
     (is ∙ (λ i. moved blade h (does.0 i) (does.1 i)), refl, noted)
@@ -126,8 +130,8 @@ pub drained_own : (h : ℕ) (plan : ThreadPlan) (blade now : BladeView) (i : ℕ
     → IsRead blade now i h place hart
     → IfSome (slice_get hart.queue.stores 0) (λ store. TakesEffect h plan.domain store (record hart { queue = record hart.queue { stores = drop 1 hart.queue.stores } }) blade.cache hart' cache')
     → notes' ≡ notes ++ note.Drain h ∷ []
-    → IfSome (hart_of now h) (λ hart. IfSome (slice_get hart.queue.stores 0) (λ store. Notes (drained h plan store (drop 1 hart.queue.stores) now hart) (moved blade i hart' cache') notes notes'))
+    → IfSome (hart_of now h) (λ hart. IfSome (slice_get hart.queue.stores 0) (λ store. OnlyNotes (drained h plan store (drop 1 hart.queue.stores) now hart) (moved blade i hart' cache') notes notes'))
 drained_own h plan blade now i place hart hart' cache' notes notes' r does noted =
-    subst (λ b. IfSome (hart_of b h) (λ hart. IfSome (slice_get hart.queue.stores 0) (λ store. Notes (drained h plan store (drop 1 hart.queue.stores) b hart) (moved blade i hart' cache') notes notes'))) r.view
-    (of_hart (λ hart. IfSome (slice_get hart.queue.stores 0) (λ store. Notes (drained h plan store (drop 1 hart.queue.stores) blade hart) (moved blade i hart' cache') notes notes')) (hart_of blade h) hart (own_read blade now i h place hart r)
+    subst (λ b. IfSome (hart_of b h) (λ hart. IfSome (slice_get hart.queue.stores 0) (λ store. OnlyNotes (drained h plan store (drop 1 hart.queue.stores) b hart) (moved blade i hart' cache') notes notes'))) r.view
+    (of_hart (λ hart. IfSome (slice_get hart.queue.stores 0) (λ store. OnlyNotes (drained h plan store (drop 1 hart.queue.stores) blade hart) (moved blade i hart' cache') notes notes')) (hart_of blade h) hart (own_read blade now i h place hart r)
     (drained_at (slice_get hart.queue.stores 0) h plan blade (moved blade i hart' cache') hart hart' cache' notes notes' does (ap (λ j. moved blade j hart' cache') r.index) noted))

@@ -5,10 +5,11 @@ use Rattle.std.proofs.lemmas.List.{length-map, length-set}
 use Rattle.mind_base.specs.Fit.{IsFit}
 use Rattle.mind_base.specs.declared.plans.RackPlan.{RackPlan}
 use Rattle.mind_base.specs.declared.plans.ThreadPlan.{ThreadPlan}
+use Rattle.mind_base.specs.Plan.{image_place}
 use Rattle.page_cache.specs.PageCache.{CacheView}
-use Rattle.compute_blade.specs.Blade.{HartView, BladeView, IsBlade, IsHartOf, IsLike, Keeps, hart_of}
+use Rattle.compute_blade.specs.Blade.{HartView, BladeView, IsBlade, IsHartOf, IsLike, StaysBlade, hart_of}
 use Rattle.compute_blade.specs.Harts.{first_hart}
-use Rattle.compute_blade.specs.Start.{first_blade, hart_for, image_place}
+use Rattle.compute_blade.specs.Start.{first_blade, hart_for}
 use Rattle.compute_blade.proofs.Moving.{IsRead, moved, own_read, inner}
 
 abbrev at : List (Option HartView) → ℕ → Option HartView
@@ -50,11 +51,14 @@ still_blade blade h hart hart' cache' is own same frames =
       harts = λ k thread other planned. set_hart thread blade.harts h k hart hart' other place same (λ x. is.harts k thread x planned);
     }
 
--- the same of a hart that was read at its place
-pub still_read : (blade now : BladeView) (i h : ℕ) (place : Option HartView) (hart hart' : HartView) (cache' : CacheView) → IsRead blade now i h place hart → IsBlade blade → IsLike hart hart'
-    → cache'.frames ≡ blade.cache.frames → IsBlade (moved blade i hart' cache')
-still_read blade now i h place hart hart' cache' r is same frames =
-    subst (λ j. IsBlade (moved blade j hart' cache')) (sym r.index) (still_blade blade h hart hart' cache' is (own_read blade now i h place hart r) same frames)
+-- and stays the blade that it was, where the hart was read at its place
+pub stays_read : {blade now : BladeView} {i h : ℕ} {place : Option HartView} {hart : HartView} (hart' : HartView) (cache' : CacheView) → IsRead blade now i h place hart → IsBlade blade → IsLike hart hart'
+    → cache'.frames ≡ blade.cache.frames → StaysBlade now (moved blade i hart' cache')
+stays_read {blade} {now} {i} {h} {place} {hart} hart' cache' r is same frames = record {
+  plan = ap (λ b. b.plan) r.view;
+  number = ap (λ b. b.number) r.view;
+  shape = subst (λ j. IsBlade (moved blade j hart' cache')) (sym r.index) (still_blade blade h hart hart' cache' is (own_read blade now i h place hart r) same frames);
+}
 
 -- ---- a blade that starts
 
@@ -110,7 +114,7 @@ no_hart harts h e = by (slice_get harts h) e where
   by (Some o) e = let never : ⊥ = cc in absurd never
 
 -- which harts are the blade's
-pub own_kept : (old new : BladeView) → IsBlade old → Keeps old new → (h : ℕ) → is_some (hart_of new h) ≡ is_some (hart_of old h)
+pub own_kept : (old new : BladeView) → IsBlade old → StaysBlade old new → (h : ℕ) → is_some (hart_of new h) ≡ is_some (hart_of old h)
 own_kept old new is kept h = by (slice_get old.plan.threads h) refl where
   by : (o : Option ThreadPlan) → slice_get old.plan.threads h ≡ o → is_some (hart_of new h) ≡ is_some (hart_of old h)
   by None e =

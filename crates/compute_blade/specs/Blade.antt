@@ -1,5 +1,5 @@
 -- What is seen of a compute blade, and what one call on it does.
-use Rattle.std.specs.Prelude.{◌≡◌, ℕ, ◌==◌, ◌<◌, ◌≤◌, Bool, List, [], ◌∷◌, ◌++◌, length, filter, not, slice_get, slice_set, slice_index, Option, Some, None, option_and_then, is_some, IsSomeAnd}
+use Rattle.std.specs.Prelude.{◌≡◌, ℕ, ◌-◌, ◌^◌, ◌==◌, ◌<◌, ◌≤◌, Bool, List, [], ◌∷◌, ◌++◌, length, filter, not, slice_get, slice_set, slice_index, Option, Some, None, option_and_then, is_some, IsSomeAnd}
 use Rattle.std.specs.List.{find, list_any}
 use Rattle.mind_base.specs.Fit.{IsFit}
 use Rattle.mind_base.specs.Page.{PageView}
@@ -36,7 +36,7 @@ pub record BladeView : Type 0 where
 
 -- the number of a hart's last store that has a tag: tags are 64 times a store's number and the hart's
 abbrev pub last_store : ℕ
-last_store = 288230376151711743
+last_store = 2 ^ 58 - 1
 
 -- hart h, if it is the blade's
 abbrev pub hart_of : BladeView → ℕ → Option HartView
@@ -66,8 +66,8 @@ pub record IsBlade (blade : BladeView) : Type 0 where
 abbrev pub with_hart : ℕ → HartView → BladeView → BladeView
 with_hart h hart blade = record blade { harts = slice_set blade.harts h (Some hart) }
 
-abbrev pub with_entries : BladeView → List (PageView × Rattle.page_cache.specs.declared.frames.Frame.Frame) → BladeView
-with_entries blade entries = record blade { cache = record blade.cache { entries = entries } }
+abbrev pub with_frames : BladeView → List (PageView × Rattle.page_cache.specs.declared.frames.Frame.Frame) → BladeView
+with_frames blade entries = record blade { cache = record blade.cache { entries = entries } }
 
 -- ---- requests
 
@@ -83,27 +83,27 @@ abbrev pub request_for : PageView → List Asked → Option Asked
 request_for page requests = find (is_for page) requests
 
 -- the requests without that for the page
-abbrev pub answered : PageView → List Asked → List Asked
-answered page requests = filter (λ asked. not (is_for page asked)) requests
+abbrev pub requests_without : PageView → List Asked → List Asked
+requests_without page requests = filter (λ asked. not (is_for page asked)) requests
 
 -- ---- what a call does
 
 -- the blade after a call, the messages that it sent, and the notes that it made
-pub record Effect : Type 0 where
+pub record BladeEffect : Type 0 where
   pub blade : BladeView
   pub sent : List Msg
   pub noted : List Note
 
 -- nothing is sent, and nothing noted
-abbrev pub only : BladeView → Effect
+abbrev pub only : BladeView → BladeEffect
 only blade = record { blade = blade; sent = []; noted = [] }
 
 -- this note alone
-abbrev pub noting : Note → BladeView → Effect
+abbrev pub noting : Note → BladeView → BladeEffect
 noting note blade = record { blade = blade; sent = []; noted = note ∷ [] }
 
 -- one thing after another
-abbrev pub and_then : Effect → (BladeView → Effect) → Effect
+abbrev pub and_then : BladeEffect → (BladeView → BladeEffect) → BladeEffect
 and_then first next = record {
   blade = (next first.blade).blade;
   sent = first.sent ++ (next first.blade).sent;
@@ -111,20 +111,20 @@ and_then first next = record {
 }
 
 -- a call did this: the blade is as the effect says, and what it sent and noted stands behind what was there
-abbrev pub Did : Effect → BladeView → List Msg → List Msg → List Note → List Note → Type 0
+abbrev pub Did : BladeEffect → BladeView → List Msg → List Msg → List Note → List Note → Type 0
 Did effect new out out' notes notes' = (new ≡ effect.blade) × (out' ≡ out ++ effect.sent) × (notes' ≡ notes ++ effect.noted)
 
 -- the same, of what a call does where it does something
-abbrev pub DidSome : Option Effect → BladeView → List Msg → List Msg → List Note → List Note → Type 0
+abbrev pub DidSome : Option BladeEffect → BladeView → List Msg → List Msg → List Note → List Note → Type 0
 DidSome None new out out' notes notes' = ⊥
 DidSome (Some effect) new out out' notes notes' = Did effect new out out' notes notes'
 
 -- the same, of a call that sends nothing, and of one that notes nothing
-abbrev pub Notes : Effect → BladeView → List Note → List Note → Type 0
-Notes effect new notes notes' = (new ≡ effect.blade) × (effect.sent ≡ []) × (notes' ≡ notes ++ effect.noted)
+abbrev pub OnlyNotes : BladeEffect → BladeView → List Note → List Note → Type 0
+OnlyNotes effect new notes notes' = (new ≡ effect.blade) × (effect.sent ≡ []) × (notes' ≡ notes ++ effect.noted)
 
-abbrev pub Sends : Effect → BladeView → List Msg → List Msg → Type 0
-Sends effect new out out' = (new ≡ effect.blade) × (out' ≡ out ++ effect.sent) × (effect.noted ≡ [])
+abbrev pub OnlySends : BladeEffect → BladeView → List Msg → List Msg → Type 0
+OnlySends effect new out out' = (new ≡ effect.blade) × (out' ≡ out ++ effect.sent) × (effect.noted ≡ [])
 
 -- a list begins with another one
 pub record BeginsWith {X : Type 0} (front all : List X) : Type 0 where
@@ -136,7 +136,7 @@ abbrev pub HasSpent : ℕ → BladeView → Type 0
 HasSpent h blade = IsSomeAnd (hart_of blade h) (λ hart. hart.stores ≡ last_store)
 
 -- what holds after each call: the blade is one still, with the plan and the number that it had
-pub record Keeps (old new : BladeView) : Type 0 where
+pub record StaysBlade (old new : BladeView) : Type 0 where
   pub plan : new.plan ≡ old.plan
   pub number : new.number ≡ old.number
   pub shape : IsBlade new

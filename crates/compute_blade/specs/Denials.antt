@@ -10,7 +10,7 @@ use Rattle.mind_base.specs.declared.ends.End.TheVariants.{Fault}
 use Rattle.mind_base.specs.declared.ends.FaultKind.{FaultKind}
 use Rattle.mind_base.specs.declared.ends.FaultKind.TheVariants as fault
 use Rattle.mind_base.specs.declared.notes.Note.TheVariants as note
-use Rattle.compute_blade.specs.Blade.{HartView, BladeView, Effect, with_hart, only, noting}
+use Rattle.compute_blade.specs.Blade.{HartView, BladeView, BladeEffect, with_hart, only, noting}
 use Rattle.compute_blade.specs.declared.kept.Denial.{Denial}
 
 -- LR only reads; SC and AMO store
@@ -21,14 +21,10 @@ locked_fault (locked.Amo kind) = fault.Store
 
 -- the fault of an access that is denied, with the address of the access
 abbrev pub denial_of : Act → Option Denial
-denial_of (act.Next rd value pc) = None
 denial_of (act.Load kind rd address) = Some (record { kind = fault.Load; address = address })
 denial_of (act.Store size address value) = Some (record { kind = fault.Store; address = address })
 denial_of (act.Locked kind rd address operand) = Some (record { kind = locked_fault kind; address = address })
-denial_of (act.Fence drains) = None
-denial_of act.Call = None
-denial_of (act.Jumped target) = None
-denial_of act.Broke = None
+denial_of asked = None
 
 abbrev pub denial_in : Found → Option Denial
 denial_in Outside = None
@@ -40,6 +36,6 @@ abbrev pub faulting : FaultKind → ℕ → ℕ → HartView → HartView
 faulting kind value pc hart = record hart { end = Fault kind value pc }
 
 -- that is the instruction's step; nothing is done where it makes no access
-abbrev pub refused_by : Option Denial → ℕ → ℕ → BladeView → HartView → Effect
+abbrev pub refused_by : Option Denial → ℕ → ℕ → BladeView → HartView → BladeEffect
 refused_by None h pc blade hart = only blade
 refused_by (Some denial) h pc blade hart = noting (note.Exec h) (with_hart h (faulting denial.kind denial.address pc hart) blade)

@@ -13,17 +13,17 @@ use Rattle.compute_blade.specs.Blade.{HartView}
 use Rattle.compute_blade.specs.declared.kept.Reservation.{Reservation}
 
 -- the byte at an offset of a page that is held
-abbrev pub byte_in : Option Frame → ℕ → ℕ
-byte_in None offset = 0
-byte_in (Some frame) offset = slice_index frame.image.bytes offset
+abbrev pub frame_byte : Option Frame → ℕ → ℕ
+frame_byte None offset = 0
+frame_byte (Some frame) offset = slice_index frame.image.bytes offset
 
 -- the byte of a place, from the frame of its page
-abbrev pub byte_at : List (PageView × Frame) → Place → ℕ
-byte_at entries place = byte_in (frame_of (page_at place) entries) (offset_at place)
+abbrev pub byte_held : List (PageView × Frame) → Place → ℕ
+byte_held entries place = frame_byte (frame_of (page_at place) entries) (offset_at place)
 
 -- the same of the place at an address of a domain
 abbrev pub held_byte : List (PageView × Frame) → ℕ → ℕ → ℕ
-held_byte entries domain address = byte_at entries (record { domain = domain; address = address })
+held_byte entries domain address = byte_held entries (record { domain = domain; address = address })
 
 -- what the domain of a page may do with it, which came with the page
 abbrev pub perm_in : Option Frame → Perm

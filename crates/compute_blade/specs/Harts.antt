@@ -1,7 +1,7 @@
 -- What a hart's code does with the hart and with the cache, said of the two alone.
-use Rattle.std.specs.Prelude.{◌≡◌, ℕ, false, List, [], Option, Some, None}
+use Rattle.std.specs.Prelude.{◌≡◌, ℕ, ◌<◌, false, List, [], Option, Some, None}
 use Rattle.hart_core.specs.Registers.{zero_registers}
-use Rattle.hart_effect.specs.Deed.{Deed}
+use Rattle.hart_effect.specs.Deed.{Deed, AsksWellFormed}
 use Rattle.hart_effect.specs.declared.finds.Found.{Found}
 use Rattle.mind_base.specs.Page.{PageView}
 use Rattle.mind_base.specs.Pending.{PendingView}
@@ -9,7 +9,21 @@ use Rattle.mind_base.specs.declared.ends.End.TheVariants.{Running}
 use Rattle.page_cache.specs.PageCache.{CacheView}
 use Rattle.page_cache.specs.declared.frames.Frame.{Frame}
 use Rattle.compute_blade.specs.Blade.{HartView}
-use Rattle.compute_blade.specs.Steps.{hart_after, entries_after, frames_with, next_tag, one_more}
+use Rattle.compute_blade.specs.Denials.{faulting}
+use Rattle.compute_blade.specs.Messages.{awake}
+use Rattle.compute_blade.specs.Steps.{hart_after, frames_after_deed, frames_with, next_tag, one_more_store, waiting}
+use Rattle.compute_blade.specs.declared.kept.HartChange.{HartChange}
+use Rattle.compute_blade.specs.declared.kept.HartChange.TheVariants.{Waits, Wakes, Faults}
+use Rattle.compute_blade.specs.declared.kept.Doing.{Doing}
+use Rattle.compute_blade.specs.declared.kept.Mover.{Mover}
+
+-- there are at most 64 harts in a rack, and 16 domains
+abbrev pub IsMover : Mover → Type 0
+IsMover mover = (mover.hart < 64) × (mover.plan.domain < 16)
+
+-- and what it found has its fields in their ranges
+abbrev pub IsDoing : Doing → Type 0
+IsDoing doing = IsMover doing.mover × AsksWellFormed doing.found
 
 -- a hart that starts at a pc, with a queue of so many places, and nothing in it but zeros
 abbrev pub first_hart : ℕ → ℕ → HartView
@@ -24,6 +38,12 @@ first_hart pc places = record {
   draining = false;
 }
 
+-- a hart whose step or drain waits, or waits no longer, or that ends by a fault
+abbrev pub hart_changed : HartChange → HartView → HartView
+hart_changed (Waits waits) = waiting waits
+hart_changed (Wakes waits) = awake waits
+hart_changed (Faults denial pc) = faulting denial.kind denial.address pc
+
 -- the cache with these entries
 abbrev pub holding : CacheView → List (PageView × Frame) → CacheView
 holding cache entries = record cache { entries = entries }
@@ -32,7 +52,7 @@ holding cache entries = record cache { entries = entries }
 abbrev pub Does : ℕ → ℕ → Found → HartView → CacheView → HartView → CacheView → Deed → Type 0
 Does h domain found hart cache hart' cache' deed =
     (hart' ≡ hart_after domain found cache.entries hart deed)
-    × (cache' ≡ holding cache (entries_after h domain found cache.entries hart deed))
+    × (cache' ≡ holding cache (frames_after_deed h domain found cache.entries hart deed))
 
 -- there is a deed, and they are as it leaves them
 abbrev pub DoesSome : ℕ → ℕ → Found → HartView → CacheView → HartView → CacheView → Option Deed → Type 0
@@ -42,5 +62,5 @@ DoesSome h domain found hart cache hart' cache' (Some deed) = Does h domain foun
 -- a store of hart h took effect in a frame, and is counted
 abbrev pub TakesEffect : ℕ → ℕ → PendingView → HartView → CacheView → HartView → CacheView → Type 0
 TakesEffect h domain store hart cache hart' cache' =
-    (hart' ≡ one_more hart)
+    (hart' ≡ one_more_store hart)
     × (cache' ≡ holding cache (frames_with domain store (next_tag h hart.stores) cache.entries))

@@ -1,14 +1,10 @@
 -- A blade that starts.
-use Rattle.std.specs.Prelude.{ℕ, ◌==◌, List, [], map, slice_get, slice_index, Option, Some, None, option_map, unwrap_or, if◌then◌else◌}
-use Rattle.mind_base.specs.declared.plans.ImagePlan.{ImagePlan}
+use Rattle.std.specs.Prelude.{ℕ, ◌==◌, [], map, slice_index, Option, Some, None, if◌then◌else◌}
 use Rattle.mind_base.specs.declared.plans.RackPlan.{RackPlan}
 use Rattle.mind_base.specs.declared.plans.ThreadPlan.{ThreadPlan}
+use Rattle.mind_base.specs.Plan.{image_place}
 use Rattle.compute_blade.specs.Blade.{HartView, BladeView}
 use Rattle.compute_blade.specs.Harts.{first_hart}
-
--- where image number i of a plan stands; 0 for one that the plan does not have
-abbrev pub image_place : List ImagePlan → ℕ → ℕ
-image_place images i = unwrap_or (option_map (λ image. image.at) (slice_get images i)) 0
 
 -- the hart of a thread, where the thread is the blade's
 abbrev pub hart_for : RackPlan → ℕ → ThreadPlan → Option HartView

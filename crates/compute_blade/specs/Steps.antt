@@ -12,16 +12,17 @@ use Rattle.hart_core.specs.declared.outcome.Act.{Act}
 use Rattle.hart_core.specs.declared.outcome.Act.TheVariants as act
 use Rattle.hart_core.specs.declared.outcome.LockedKind.{LockedKind}
 use Rattle.hart_core.specs.declared.outcome.LockedKind.TheVariants as locked
-use Rattle.hart_effect.specs.Access.{Around, may_write}
+use Rattle.hart_effect.specs.Access.{Around}
 use Rattle.hart_effect.specs.Deed.{Deed, Alone, Storing, found, carried_out, drains_first}
 use Rattle.mind_base.specs.Place.{place_of, page_at, offset_at, granule_at}
+use Rattle.mind_base.specs.Permission.{may_write}
 use Rattle.hart_effect.specs.Thread.{Thread}
 use Rattle.hart_effect.specs.declared.finds.Found.{Found}
 use Rattle.hart_effect.specs.declared.finds.Found.TheVariants.{Outside, Unknown, Asks}
-use Rattle.page_cache.specs.PageCache.{frame_of, with_first, written_frame}
+use Rattle.page_cache.specs.PageCache.{frame_of, with_first, written_frame, is_writable}
 use Rattle.page_cache.specs.declared.frames.Frame.{Frame}
 use Rattle.wire_msg.specs.declared.msgs.Msg.TheVariants.{Get}
-use Rattle.compute_blade.specs.Blade.{HartView, BladeView, Effect, hart_of, with_hart, with_entries, is_asked, only, noting}
+use Rattle.compute_blade.specs.Blade.{HartView, BladeView, BladeEffect, hart_of, with_hart, with_frames, is_asked, only, noting}
 use Rattle.compute_blade.specs.Frames.{around_held, held_tag, thread_of}
 use Rattle.compute_blade.specs.declared.kept.Reservation.{Reservation}
 use Rattle.compute_blade.specs.declared.kept.Need.{Need}
@@ -36,20 +37,16 @@ need_at write domain address size =
     if address % size == 0 then Some (record { page = page_at (place_of domain address); write = write }) else None
 
 -- LR reads; SC and AMO write
-abbrev pub writes : LockedKind → Bool
-writes locked.Lr = false
-writes locked.Sc = true
-writes (locked.Amo kind) = true
+abbrev pub locked_writes : LockedKind → Bool
+locked_writes locked.Lr = false
+locked_writes locked.Sc = true
+locked_writes (locked.Amo kind) = true
 
 abbrev pub need_of : Act → ℕ → Option Need
-need_of (act.Next rd value pc) domain = None
 need_of (act.Load kind rd address) domain = need_at false domain address (load_size kind)
 need_of (act.Store size address value) domain = need_at true domain address size
-need_of (act.Locked kind rd address operand) domain = need_at (writes kind) domain address 4
-need_of (act.Fence drains) domain = None
-need_of act.Call domain = None
-need_of (act.Jumped target) domain = None
-need_of act.Broke domain = None
+need_of (act.Locked kind rd address operand) domain = need_at (locked_writes kind) domain address 4
+need_of asked domain = None
 
 abbrev pub need_in : Found → ℕ → Option Need
 need_in Outside domain = None
@@ -58,16 +55,8 @@ need_in (Asks asked) domain = need_of asked domain
 
 -- SC and AMO write the frame at once
 abbrev pub writes_at_once : Found → Bool
-writes_at_once Outside = false
-writes_at_once (Unknown word) = false
-writes_at_once (Asks (act.Next rd value pc)) = false
-writes_at_once (Asks (act.Load kind rd address)) = false
-writes_at_once (Asks (act.Store size address value)) = false
-writes_at_once (Asks (act.Locked kind rd address operand)) = writes kind
-writes_at_once (Asks (act.Fence drains)) = false
-writes_at_once (Asks act.Call) = false
-writes_at_once (Asks (act.Jumped target)) = false
-writes_at_once (Asks act.Broke) = false
+writes_at_once (Asks (act.Locked kind rd address operand)) = locked_writes kind
+writes_at_once found = false
 
 -- A page that is held serves a load, an LR and a store, which waits in the queue. It serves SC and AMO
 -- where its frame may be written, and where the page is only to be read, since then they fault.
@@ -108,17 +97,9 @@ kept_by (locked.Amo kind) tag domain address kept = kept
 
 -- the reservation after what was found, where it was not denied
 abbrev pub kept_now : Found → ℕ → List (PageView × Frame) → Option Reservation → Option Reservation
-kept_now Outside domain entries kept = kept
-kept_now (Unknown word) domain entries kept = kept
-kept_now (Asks (act.Next rd value pc)) domain entries kept = kept
-kept_now (Asks (act.Load kind rd address)) domain entries kept = kept
-kept_now (Asks (act.Store size address value)) domain entries kept = kept
 kept_now (Asks (act.Locked kind rd address operand)) domain entries kept =
     kept_by kind (held_tag entries (granule_at (place_of domain address))) domain address kept
-kept_now (Asks (act.Fence drains)) domain entries kept = kept
-kept_now (Asks act.Call) domain entries kept = kept
-kept_now (Asks (act.Jumped target)) domain entries kept = kept
-kept_now (Asks act.Broke) domain entries kept = kept
+kept_now found domain entries kept = kept
 
 -- the reservation after an end: a denied operation leaves it
 abbrev pub kept_unless_denied : End → Option Reservation → Option Reservation → Option Reservation
@@ -127,17 +108,9 @@ kept_unless_denied (Exit value) after before = before
 kept_unless_denied (Fault kind value pc) after before = before
 
 abbrev pub kept_after : Found → ℕ → List (PageView × Frame) → End → Option Reservation → Option Reservation
-kept_after Outside domain entries end kept = kept
-kept_after (Unknown word) domain entries end kept = kept
-kept_after (Asks (act.Next rd value pc)) domain entries end kept = kept
-kept_after (Asks (act.Load kind rd address)) domain entries end kept = kept
-kept_after (Asks (act.Store size address value)) domain entries end kept = kept
 kept_after (Asks (act.Locked kind rd address operand)) domain entries end kept =
     kept_unless_denied end (kept_by kind (held_tag entries (granule_at (place_of domain address))) domain address kept) kept
-kept_after (Asks (act.Fence drains)) domain entries end kept = kept
-kept_after (Asks act.Call) domain entries end kept = kept
-kept_after (Asks (act.Jumped target)) domain entries end kept = kept
-kept_after (Asks act.Broke) domain entries end kept = kept
+kept_after found domain entries end kept = kept
 
 -- the hart when its thread is this one
 abbrev pub hart_with : Thread → Option Reservation → HartView → HartView
@@ -150,36 +123,36 @@ hart_with thread kept hart = record hart {
 }
 
 -- one more store of the hart took effect
-abbrev pub one_more : HartView → HartView
-one_more hart = record hart { stores = hart.stores + 1 }
+abbrev pub one_more_store : HartView → HartView
+one_more_store hart = record hart { stores = hart.stores + 1 }
 
 -- the hart and the frames when hart h did its deed: the frames are used or written, and a store that
 -- takes effect is counted
 abbrev pub hart_after : ℕ → Found → List (PageView × Frame) → HartView → Deed → HartView
 hart_after domain found entries hart (Alone thread) = hart_with thread (kept_after found domain entries thread.end hart.reserved) hart
 hart_after domain found entries hart (Storing thread store) =
-    one_more (hart_with thread (kept_after found domain entries thread.end hart.reserved) hart)
+    one_more_store (hart_with thread (kept_after found domain entries thread.end hart.reserved) hart)
 
-abbrev pub entries_after : ℕ → ℕ → Found → List (PageView × Frame) → HartView → Deed → List (PageView × Frame)
-entries_after h domain found entries hart (Alone thread) = frames_after (need_in found domain) thread.end entries
-entries_after h domain found entries hart (Storing thread store) = frames_with domain store (next_tag h hart.stores) entries
+abbrev pub frames_after_deed : ℕ → ℕ → Found → List (PageView × Frame) → HartView → Deed → List (PageView × Frame)
+frames_after_deed h domain found entries hart (Alone thread) = frames_after (need_in found domain) thread.end entries
+frames_after_deed h domain found entries hart (Storing thread store) = frames_with domain store (next_tag h hart.stores) entries
 
-abbrev pub done_by : ℕ → ThreadPlan → Found → BladeView → HartView → Deed → BladeView
-done_by h plan found blade hart deed = with_hart h
+abbrev pub blade_done_by : ℕ → ThreadPlan → Found → BladeView → HartView → Deed → BladeView
+blade_done_by h plan found blade hart deed = with_hart h
     (hart_after plan.domain found blade.cache.entries hart deed)
-    (with_entries blade (entries_after h plan.domain found blade.cache.entries hart deed))
+    (with_frames blade (frames_after_deed h plan.domain found blade.cache.entries hart deed))
 
 -- nothing, where there is no deed
-abbrev pub performed_by : Option Deed → ℕ → ThreadPlan → Found → BladeView → HartView → Effect
+abbrev pub performed_by : Option Deed → ℕ → ThreadPlan → Found → BladeView → HartView → BladeEffect
 performed_by None h plan found blade hart = only blade
-performed_by (Some deed) h plan found blade hart = noting (note.Exec h) (done_by h plan found blade hart deed)
+performed_by (Some deed) h plan found blade hart = noting (note.Exec h) (blade_done_by h plan found blade hart deed)
 
 -- an instruction is performed, with what the hart finds around it
-abbrev pub performed_in : Around → ℕ → ThreadPlan → Found → ℕ → BladeView → HartView → Effect
+abbrev pub performed_in : Around → ℕ → ThreadPlan → Found → ℕ → BladeView → HartView → BladeEffect
 performed_in around h plan found pc blade hart =
     performed_by (carried_out found around pc (thread_of blade.cache.entries hart)) h plan found blade hart
 
-abbrev pub performed : ℕ → ThreadPlan → Found → ℕ → BladeView → HartView → Effect
+abbrev pub performed : ℕ → ThreadPlan → Found → ℕ → BladeView → HartView → BladeEffect
 performed h plan found pc blade hart =
     performed_in (around_held blade.cache.entries h plan.domain) h plan found pc blade hart
 
@@ -190,7 +163,7 @@ waiting Step hart = record hart { stepping = true }
 waiting Drain hart = record hart { draining = true }
 
 -- the switch is asked for a page, unless a request for it is out
-abbrev pub asking : ℕ → Waits → Need → BladeView → HartView → Effect
+abbrev pub asking : ℕ → Waits → Need → BladeView → HartView → BladeEffect
 asking h waits need blade hart =
     if is_asked need.page blade.requests then only blade else record {
       blade = with_hart h (waiting waits hart) (record blade {
@@ -203,29 +176,25 @@ asking h waits need blade hart =
 -- ---- a drain
 
 -- the oldest store leaves the queue and takes effect
-abbrev pub drained : ℕ → ThreadPlan → PendingView → List PendingView → BladeView → HartView → Effect
+abbrev pub drained : ℕ → ThreadPlan → PendingView → List PendingView → BladeView → HartView → BladeEffect
 drained h plan oldest newer blade hart = noting (note.Drain h)
-    (with_hart h (one_more (record hart { queue = record hart.queue { stores = newer } }))
-    (with_entries blade (frames_with plan.domain oldest (next_tag h hart.stores) blade.cache.entries)))
-
-abbrev pub is_writable : Option Frame → Bool
-is_writable None = false
-is_writable (Some frame) = frame.writable
+    (with_hart h (one_more_store (record hart { queue = record hart.queue { stores = newer } }))
+    (with_frames blade (frames_with plan.domain oldest (next_tag h hart.stores) blade.cache.entries)))
 
 -- it takes effect where its page is held and may be written; else the page is asked for
-abbrev pub draining_by : ℕ → ThreadPlan → List PendingView → BladeView → HartView → Effect
+abbrev pub draining_by : ℕ → ThreadPlan → List PendingView → BladeView → HartView → BladeEffect
 draining_by h plan [] blade hart = only blade
 draining_by h plan (oldest ∷ newer) blade hart =
     if is_writable (frame_of (page_at (place_of plan.domain oldest.address)) blade.cache.entries)
     then drained h plan oldest newer blade hart
     else asking h Drain (record { page = page_at (place_of plan.domain oldest.address); write = true }) blade hart
 
-abbrev pub drain_of : ℕ → ThreadPlan → BladeView → HartView → Effect
+abbrev pub drain_of : ℕ → ThreadPlan → BladeView → HartView → BladeEffect
 drain_of h plan blade hart = if hart.draining then only blade else draining_by h plan hart.queue.stores blade hart
 
 -- ---- a step
 
-abbrev pub stepping_at : Option Need → ℕ → ThreadPlan → Found → ℕ → BladeView → HartView → Effect
+abbrev pub stepping_at : Option Need → ℕ → ThreadPlan → Found → ℕ → BladeView → HartView → BladeEffect
 stepping_at None h plan found pc blade hart = performed h plan found pc blade hart
 stepping_at (Some need) h plan found pc blade hart =
     if serves found (frame_of need.page blade.cache.entries)
@@ -233,13 +202,13 @@ stepping_at (Some need) h plan found pc blade hart =
     else asking h Step need blade hart
 
 -- the oldest store must drain first, or the instruction is performed, or it waits for its page
-abbrev pub stepping_by : ℕ → ThreadPlan → Found → ℕ → BladeView → HartView → Effect
+abbrev pub stepping_by : ℕ → ThreadPlan → Found → ℕ → BladeView → HartView → BladeEffect
 stepping_by h plan found pc blade hart =
     if drains_first found hart.queue.stores hart.queue.capacity
     then drain_of h plan blade hart
     else stepping_at (need_in found plan.domain) h plan found pc blade hart
 
-abbrev pub step_at : End → ℕ → ThreadPlan → Image → BladeView → HartView → Effect
+abbrev pub step_at : End → ℕ → ThreadPlan → Image → BladeView → HartView → BladeEffect
 step_at (Running pc) h plan image blade hart =
     if hart.stepping then only blade else stepping_by h plan (found image hart.regs pc) pc blade hart
 step_at (Exit value) h plan image blade hart = only blade
@@ -248,13 +217,13 @@ step_at (Fault kind value pc) h plan image blade hart = only blade
 -- ---- the calls
 
 -- something is done by the blade's hart h, with its plan
-abbrev pub for_hart : BladeView → ℕ → (ThreadPlan → HartView → Option Effect) → Option Effect
+abbrev pub for_hart : BladeView → ℕ → (ThreadPlan → HartView → Option BladeEffect) → Option BladeEffect
 for_hart blade h act = option_and_then (λ plan. option_and_then (λ hart. act plan hart) (hart_of blade h)) (slice_get blade.plan.threads h)
 
 -- what `step` of hart h does; None where the hart is not the blade's or its image is missing
-abbrev pub after_step : List Image → ℕ → BladeView → Option Effect
+abbrev pub after_step : List Image → ℕ → BladeView → Option BladeEffect
 after_step images h blade = for_hart blade h (λ plan hart. option_map (λ image. step_at hart.end h plan image blade hart) (slice_get images plan.image))
 
 -- what `drain` of hart h does
-abbrev pub after_drain : ℕ → BladeView → Option Effect
-after_drain h blade = for_hart blade h (λ plan hart. Some (drain_of h plan blade hart))
+abbrev pub blade_after_drain : ℕ → BladeView → Option BladeEffect
+blade_after_drain h blade = for_hart blade h (λ plan hart. Some (drain_of h plan blade hart))

@@ -1,8 +1,11 @@
-ghost use Rattle.std.specs.Prelude.{◌≡◌, ◌<◌, ◌≤◌, [], ◌↔◌, map, length, slice_get, Some, None, IfOk, IfSome, IsSome, IsTrue};
+//! A compute blade: its harts, its page cache and its requests, as it starts.
+
+ghost use Rattle.std.specs.Prelude.{◌≡◌, ◌<◌, ◌≤◌, [], ◌↔◌, map, length, slice_get, Some, None, option_map, IfOk, IfSome, IsSome, IsTrue};
 ghost use Rattle.std.specs.Option.{option_copied};
 ghost use Rattle.mind_base.specs.Fit.{IsFit, IsFitThread};
 ghost use Rattle.compute_blade.specs.Blade.{IsBlade, hart_of};
-ghost use Rattle.compute_blade.specs.Start.{first_blade, hart_for, image_place};
+ghost use Rattle.compute_blade.specs.Harts.{IsMover};
+ghost use Rattle.compute_blade.specs.Start.{first_blade, hart_for};
 
 mod answers;
 mod messages;
@@ -11,7 +14,8 @@ mod steps;
 
 use crate::Asked;
 use crate::harts::Hart;
-use mind_base::{Image, ImagePlan, NoMemory, RackPlan, ThreadPlan};
+use crate::kept::Mover;
+use mind_base::{Image, NoMemory, RackPlan, ThreadPlan, image_place};
 use page_cache::PageCache;
 use std::alloc::Global;
 use std::marker::Model;
@@ -67,16 +71,18 @@ impl ComputeBlade {
         self.requests.is_empty()
     }
 
-    /// The plan of thread `hart`.
-    fn thread(&self, hart: u8) -> Option<ThreadPlan>
-        ensures plan { result ≡ slice_get self.now.plan.threads hart }
+    /// Hart `hart` of the plan, as one that is to move.
+    fn mover(&self, hart: u8) -> Option<Mover>
+        ensures hart { IfSome result (λ mover. mover.hart ≡ hart) }
+        ensures mover { IfSome result IsMover }
+        ensures plan { option_map (λ mover. mover.plan) result ≡ slice_get self.now.plan.threads hart }
         ensures own { IsSome (hart_of self.now hart) → IsSome result }
         ensures shape { IsBlade self.now }
-        ensures fit { IfSome result (λ thread. (hart < 64) × IsFitThread (length self.now.plan.frames) (length self.now.plan.images) thread) }
+        ensures fit { IfSome result (λ mover. IsFitThread (length self.now.plan.frames) (length self.now.plan.images) mover.plan) }
     {
         let threads = self.plan.threads.as_slice();
-        let thread = threads.get(usize::from(hart))?;
-        Some(*thread)
+        let plan = *threads.get(usize::from(hart))?;
+        Some(Mover { hart, plan })
     }
 
     fn hart(&self, hart: u8) -> Option<&Hart>
@@ -97,16 +103,6 @@ fn image_for(images: &[Image], i: u8) -> Option<&Image>
     images.get(usize::from(i))
 }
 
-/// Where image number `i` of the plan stands; 0 for one that the plan does not have.
-fn place_of_image(images: &[ImagePlan], i: u8) -> u32
-    ensures { result ≡ image_place images.now i }
-{
-    match images.get(usize::from(i)) {
-        Some(image) => image.at,
-        None => 0,
-    }
-}
-
 fn start_hart(
     alloc: Global,
     plan: &RackPlan,
@@ -120,7 +116,7 @@ fn start_hart(
     if thread.blade != number {
         return Ok(None);
     }
-    let pc = place_of_image(plan.images.as_slice(), thread.image);
+    let pc = image_place(plan.images.as_slice(), thread.image);
     let hart = Hart::new(alloc, pc, thread.queue)?;
     Ok(Some(hart))
 }

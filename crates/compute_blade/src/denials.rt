@@ -1,3 +1,5 @@
+//! The fault of an access whose page is denied.
+
 ghost use Rattle.std.specs.Prelude.{◌≡◌};
 ghost use Rattle.compute_blade.specs.Denials.{locked_fault, denial_of as denial_of_act, denial_in as denial_in_found};
 

@@ -1,9 +1,8 @@
 //! What a hart finds in the pages that its blade holds.
 
 ghost use Rattle.std.specs.Prelude.{◌≡◌};
-ghost use Rattle.page_cache.specs.PageCache.{frame_of};
-ghost use Rattle.compute_blade.specs.Frames.{byte_at, held_byte, held_perm, held_tag as held_tag_of, if_same_tag as if_same_tag_of, still_reserved as still_reserved_of};
-ghost use Rattle.compute_blade.specs.Steps.{is_writable as is_writable_of};
+ghost use Rattle.page_cache.specs.PageCache.{frame_of, is_writable as is_writable_of};
+ghost use Rattle.compute_blade.specs.Frames.{byte_held, held_byte, held_perm, held_tag as held_tag_of, if_same_tag as if_same_tag_of, still_reserved as still_reserved_of};
 
 use crate::Reservation;
 use hart_effect::Surroundings;
@@ -54,7 +53,7 @@ impl<'a> Surroundings for Sight<'a> {
 
 /// The byte of a place; 0 where its page is not held.
 fn byte_in(cache: &PageCache, place: Place) -> u8
-    ensures { result ≡ byte_at cache.now.entries place }
+    ensures { result ≡ byte_held cache.now.entries place }
 {
     match cache.find(place.page()) {
         None => 0,

@@ -1,31 +1,31 @@
+//! A hart of a blade: its core, its store queue, its reservation and what it waits for.
+
 ghost use Rattle.std.specs.Prelude.{◌≡◌, ◌≢◌, ◌<◌, ◌≤◌, ◌∷◌, ◌++◌, [], false, length, slice_get, drop, IfOk, OnOk, OnErr, Err, IfSome, option_map};
-ghost use Rattle.hart_effect.specs.Deed.{Alone, Storing, AsksWellFormed, carried_out, drains_first as drains_first_of};
+ghost use Rattle.hart_effect.specs.Deed.{Alone, Storing, carried_out, drains_first as drains_first_of};
 ghost use Rattle.hart_effect.specs.Core.{core_continued};
 ghost use Rattle.hart_effect.specs.Thread.{with_core};
 ghost use Rattle.hart_effect.specs.Work.{core_changed, deed_of, deed_with, WorkFitsFound};
 ghost use Rattle.hart_effect.specs.declared.finds.Found.TheVariants as found_of;
 ghost use Rattle.mind_base.specs.declared.failures.Stop.TheVariants.{Spent};
 ghost use Rattle.compute_blade.specs.Blade.{IsLike, last_store};
-ghost use Rattle.compute_blade.specs.Denials.{faulting};
 ghost use Rattle.compute_blade.specs.Frames.{around_held, thread_of};
-ghost use Rattle.compute_blade.specs.Harts.{first_hart, holding, Does, DoesSome, TakesEffect};
-ghost use Rattle.compute_blade.specs.Messages.{awake as awake_of};
-ghost use Rattle.compute_blade.specs.Steps.{frames_after, used_by, kept_now as kept_now_of, kept_by as kept_by_of, kept_unless_denied, need_in as need_in_found, waiting as waiting_of};
+ghost use Rattle.compute_blade.specs.Harts.{first_hart, hart_changed, holding, IsDoing, IsMover, Does, DoesSome, TakesEffect};
+ghost use Rattle.compute_blade.specs.Steps.{frames_after, used_by, kept_now as kept_now_of, kept_by as kept_by_of, kept_unless_denied, need_in as need_in_found};
 
 use crate::frames::{Sight, tag_of};
-use crate::kept::Need;
+use crate::kept::{Denial, Doing, HartChange, Mover, Need};
 use crate::needs::need_in;
 use crate::{Reservation, Waits};
 use hart_core::{Act, LockedKind, Regs};
 use hart_effect::{AccessEffect, Change, Continued, Core, Found, Here, Work, drains_first};
-use mind_base::{End, FaultKind, NoMemory, Pending, Place, Stop};
+use mind_base::{End, NoMemory, Pending, Place, Stop};
 use page_cache::PageCache;
 use std::alloc::Global;
 use std::marker::Model;
 use store_queue::StoreQueue;
 
 /// The number of a hart's last store that has a tag, of 64 bits.
-const LAST_STORE: u64 = 288230376151711743;
+const LAST_STORE: u64 = (1 << 58) - 1;
 
 /// A hart of the blade: its registers, where it stands and the bytes that it put out; its store queue, its
 /// reservation, how many of its stores took effect, and whether its step and its drain wait for a page.
@@ -99,36 +99,30 @@ impl Hart {
         self.queue.front()
     }
 
-    /// The step, or the drain, waits for a page.
-    pub fn wait(&mut self, waits: Waits)
-        ensures done { self.new ≡ waiting_of waits self.old }
+    /// Something befalls the hart.
+    pub fn change_by(&mut self, change: HartChange)
+        ensures done { self.new ≡ hart_changed change self.old }
         ensures like { IsLike self.old self.new }
     {
-        match waits {
-            Waits::Step => self.stepping = true,
-            Waits::Drain => self.draining = true,
+        match change {
+            HartChange::Waits { waits } => match waits {
+                Waits::Step => self.stepping = true,
+                Waits::Drain => self.draining = true,
+            },
+            HartChange::Wakes { waits } => match waits {
+                Waits::Step => self.stepping = false,
+                Waits::Drain => self.draining = false,
+            },
+            HartChange::Faults { denial, pc } => {
+                let Denial {
+                    kind,
+                    address: value,
+                } = denial;
+                let Ok(()) = self.core.apply(Change::Faults { kind, value, pc }) else {
+                    unreachable!();
+                };
+            }
         }
-    }
-
-    /// The step, or the drain, waits no longer.
-    pub fn wake(&mut self, waits: Waits)
-        ensures done { self.new ≡ awake_of waits self.old }
-        ensures like { IsLike self.old self.new }
-    {
-        match waits {
-            Waits::Step => self.stepping = false,
-            Waits::Drain => self.draining = false,
-        }
-    }
-
-    /// The hart ends by a fault at `pc`.
-    pub fn fault(&mut self, kind: FaultKind, value: u32, pc: u32)
-        ensures done { self.new ≡ faulting kind value pc self.old }
-        ensures like { IsLike self.old self.new }
-    {
-        let Ok(()) = self.core.apply(Change::Faults { kind, value, pc }) else {
-            unreachable!();
-        };
     }
 
     /// Whether the oldest store must drain before the hart does what it found.
@@ -139,41 +133,44 @@ impl Hart {
         drains_first(found, waiting, self.queue.capacity() as usize)
     }
 
-    /// The hart, as number `hart` and of a domain, does what it found at its pc.
-    pub fn perform(&mut self, found: Found, here: Here, cache: &mut PageCache) -> Result<(), Stop>
-        requires hart { here.hart < 64 }
-        requires domain { here.domain < 16 }
-        requires well_formed { AsksWellFormed found }
-        requires ready { drains_first_of found self.old.queue.stores self.old.queue.capacity ≡ false }
-        ensures ok { OnOk result (DoesSome here.hart here.domain found self.old cache.old self.new cache.new
-            (carried_out found (around_held cache.old.entries here.hart here.domain) here.pc (thread_of cache.old.entries self.old))) }
+    /// The hart does what it found at its pc.
+    pub fn perform(&mut self, doing: Doing, cache: &mut PageCache) -> Result<(), Stop>
+        requires doing { IsDoing doing }
+        requires ready { drains_first_of doing.found self.old.queue.stores self.old.queue.capacity ≡ false }
+        ensures ok { OnOk result (DoesSome doing.mover.hart doing.mover.plan.domain doing.found self.old cache.old self.new cache.new
+            (carried_out doing.found (around_held cache.old.entries doing.mover.hart doing.mover.plan.domain) doing.pc (thread_of cache.old.entries self.old))) }
         ensures spent { result ≡ Err Spent → self.old.stores ≡ last_store }
         ensures err { OnErr result ((self.new ≡ self.old) × (cache.new ≡ cache.old)) }
         ensures like { IsLike self.old self.new }
         ensures frames { cache.new.frames ≡ cache.old.frames }
     {
-        let Some(work) = self.work(found, here, cache) else {
+        let Some(work) = self.work(doing, cache) else {
             unreachable!();
         };
         match work {
-            Work::Alone { change } => self.change(change, found, here, cache)?,
-            Work::Accesses { effect, next } => self.access(effect, next, found, here, cache)?,
+            Work::Alone { change } => self.change(change, doing, cache)?,
+            Work::Accesses { effect, next } => self.access(effect, next, doing, cache)?,
         }
         Ok(())
     }
 
     /// What the hart is to do.
-    fn work(&self, found: Found, here: Here, cache: &PageCache) -> Option<Work>
-        requires domain { here.domain < 16 }
-        requires well_formed { AsksWellFormed found }
+    fn work(&self, doing: Doing, cache: &PageCache) -> Option<Work>
+        requires doing { IsDoing doing }
         ensures deed { option_map (λ work. deed_of work (thread_of cache.now.entries self.now)) result
-            ≡ carried_out found (around_held cache.now.entries here.hart here.domain) here.pc (thread_of cache.now.entries self.now) }
-        ensures fits { IfSome result (WorkFitsFound found here.domain) }
+            ≡ carried_out doing.found (around_held cache.now.entries doing.mover.hart doing.mover.plan.domain) doing.pc (thread_of cache.now.entries self.now) }
+        ensures fits { IfSome result (WorkFitsFound doing.found doing.mover.plan.domain) }
     {
         let sight = Sight {
             queue: &self.queue,
             cache,
             reserved: self.reserved,
+        };
+        let Doing { mover, found, pc } = doing;
+        let here = Here {
+            hart: mover.hart,
+            domain: mover.plan.domain,
+            pc,
         };
         Work::of(found, here, &self.core, &sight)
     }
@@ -182,20 +179,18 @@ impl Hart {
     fn change(
         &mut self,
         change: Change,
-        found: Found,
-        here: Here,
+        doing: Doing,
         cache: &mut PageCache,
     ) -> Result<(), NoMemory>
-        requires domain { here.domain < 16 }
-        requires well_formed { AsksWellFormed found }
-        ensures ok { OnOk result (Does here.hart here.domain found self.old cache.old self.new cache.new
+        requires doing { IsDoing doing }
+        ensures ok { OnOk result (Does doing.mover.hart doing.mover.plan.domain doing.found self.old cache.old self.new cache.new
             (Alone (with_core (core_changed change) (thread_of cache.old.entries self.old)))) }
         ensures err { OnErr result ((self.new ≡ self.old) × (cache.new ≡ cache.old)) }
         ensures like { IsLike self.old self.new }
     {
-        let kept = kept_now(found, here.domain, cache, self.reserved);
+        let kept = kept_now(doing.found, doing.mover.plan.domain, cache, self.reserved);
         self.core.apply(change)?;
-        self.settle(kept, found, here.domain, cache);
+        self.settle(kept, doing, cache);
         Ok(())
     }
 
@@ -204,16 +199,13 @@ impl Hart {
         &mut self,
         effect: AccessEffect,
         next: Continued,
-        found: Found,
-        here: Here,
+        doing: Doing,
         cache: &mut PageCache,
     ) -> Result<(), Stop>
-        requires hart { here.hart < 64 }
-        requires domain { here.domain < 16 }
-        requires well_formed { AsksWellFormed found }
-        requires ready { drains_first_of found self.old.queue.stores self.old.queue.capacity ≡ false }
-        requires fits { WorkFitsFound found here.domain (Work.Accesses effect next) }
-        ensures ok { OnOk result (Does here.hart here.domain found self.old cache.old self.new cache.new
+        requires doing { IsDoing doing }
+        requires ready { drains_first_of doing.found self.old.queue.stores self.old.queue.capacity ≡ false }
+        requires fits { WorkFitsFound doing.found doing.mover.plan.domain (Work.Accesses effect next) }
+        ensures ok { OnOk result (Does doing.mover.hart doing.mover.plan.domain doing.found self.old cache.old self.new cache.new
             (deed_with effect (with_core (core_continued next)) (thread_of cache.old.entries self.old))) }
         ensures spent { OnErr result (self.old.stores ≡ last_store) }
         ensures err { OnErr result ((self.new ≡ self.old) × (cache.new ≡ cache.old)) }
@@ -222,18 +214,18 @@ impl Hart {
         match effect {
             AccessEffect::Buffers { store } => {
                 self.buffer(store);
-                self.go_on(next, found, here, cache);
+                self.go_on(next, doing, cache);
                 Ok(())
             }
             AccessEffect::Reserves { .. } => {
-                self.go_on(next, found, here, cache);
+                self.go_on(next, doing, cache);
                 Ok(())
             }
             AccessEffect::GivesUp => {
-                self.go_on(next, found, here, cache);
+                self.go_on(next, doing, cache);
                 Ok(())
             }
-            AccessEffect::Stores { store } => self.exchange(store, next, found, here, cache),
+            AccessEffect::Stores { store } => self.exchange(store, next, doing, cache),
         }
     }
 
@@ -248,30 +240,28 @@ impl Hart {
     }
 
     /// The core goes on, and the page that was needed is used.
-    fn go_on(&mut self, next: Continued, found: Found, here: Here, cache: &mut PageCache)
-        requires domain { here.domain < 16 }
-        requires well_formed { AsksWellFormed found }
-        ensures done { Does here.hart here.domain found self.old cache.old self.new cache.new
+    fn go_on(&mut self, next: Continued, doing: Doing, cache: &mut PageCache)
+        requires doing { IsDoing doing }
+        ensures done { Does doing.mover.hart doing.mover.plan.domain doing.found self.old cache.old self.new cache.new
             (Alone (with_core (core_continued next) (thread_of cache.old.entries self.old))) }
         ensures like { IsLike self.old self.new }
     {
-        let kept = kept_now(found, here.domain, cache, self.reserved);
+        let kept = kept_now(doing.found, doing.mover.plan.domain, cache, self.reserved);
         self.core.go_on(next);
-        self.settle(kept, found, here.domain, cache);
+        self.settle(kept, doing, cache);
     }
 
     /// Where the hart runs on, it keeps this reservation, and the page that was needed is used.
-    fn settle(&mut self, kept: Option<Reservation>, found: Found, domain: u8, cache: &mut PageCache)
-        requires domain { domain < 16 }
-        requires well_formed { AsksWellFormed found }
+    fn settle(&mut self, kept: Option<Reservation>, doing: Doing, cache: &mut PageCache)
+        requires doing { IsDoing doing }
         ensures hart { self.new ≡ record self.old { reserved = kept_unless_denied self.old.end kept self.old.reserved } }
-        ensures cache { cache.new ≡ holding cache.old (frames_after (need_in_found found domain) self.old.end cache.old.entries) }
+        ensures cache { cache.new ≡ holding cache.old (frames_after (need_in_found doing.found doing.mover.plan.domain) self.old.end cache.old.entries) }
         ensures like { IsLike self.old self.new }
     {
         match self.core.end() {
             End::Running { .. } => {
                 self.reserved = kept;
-                touch(need_in(found, domain), cache);
+                touch(need_in(doing.found, doing.mover.plan.domain), cache);
             }
             End::Exit { .. } | End::Fault { .. } => {}
         }
@@ -282,36 +272,32 @@ impl Hart {
         &mut self,
         store: Pending,
         next: Continued,
-        found: Found,
-        here: Here,
+        doing: Doing,
         cache: &mut PageCache,
     ) -> Result<(), Stop>
-        requires hart { here.hart < 64 }
-        requires domain { here.domain < 16 }
-        ensures ok { OnOk result (Does here.hart here.domain found self.old cache.old self.new cache.new
+        requires doing { IsDoing doing }
+        ensures ok { OnOk result (Does doing.mover.hart doing.mover.plan.domain doing.found self.old cache.old self.new cache.new
             (Storing (with_core (core_continued next) (thread_of cache.old.entries self.old)) store)) }
         ensures spent { OnErr result (self.old.stores ≡ last_store) }
         ensures err { OnErr result ((self.new ≡ self.old) × (cache.new ≡ cache.old)) }
         ensures like { IsLike self.old self.new }
     {
-        let kept = kept_now(found, here.domain, cache, self.reserved);
-        self.take_effect(store, here.hart, here.domain, cache)?;
+        let kept = kept_now(doing.found, doing.mover.plan.domain, cache, self.reserved);
+        self.take_effect(store, doing.mover, cache)?;
         self.core.go_on(next);
         self.reserved = kept;
         Ok(())
     }
 
-    /// A store of the hart, as number `hart` and of a domain, takes effect in the frame of its page.
+    /// A store of the hart takes effect in the frame of its page.
     fn take_effect(
         &mut self,
         store: Pending,
-        hart: u8,
-        domain: u8,
+        mover: Mover,
         cache: &mut PageCache,
     ) -> Result<(), Stop>
-        requires hart { hart < 64 }
-        requires domain { domain < 16 }
-        ensures ok { OnOk result (TakesEffect hart domain store self.old cache.old self.new cache.new) }
+        requires mover { IsMover mover }
+        ensures ok { OnOk result (TakesEffect mover.hart mover.plan.domain store self.old cache.old self.new cache.new) }
         ensures spent { OnErr result (self.old.stores ≡ last_store) }
         ensures err { OnErr result ((self.new ≡ self.old) × (cache.new ≡ cache.old)) }
         ensures like { IsLike self.old self.new }
@@ -319,19 +305,18 @@ impl Hart {
         if self.stores >= LAST_STORE {
             return Err(Stop::Spent);
         }
-        let tag = (self.stores + 1) * 64 + u64::from(hart);
-        let place = Place::of(domain, store.address);
+        let tag = (self.stores + 1) * 64 + u64::from(mover.hart);
+        let place = Place::of(mover.plan.domain, store.address);
         cache.write(place.page(), place.offset(), store.size, store.value, tag);
         self.stores += 1;
         Ok(())
     }
 
     /// The oldest store leaves the queue, if there is one, and takes effect.
-    pub fn drain(&mut self, hart: u8, domain: u8, cache: &mut PageCache) -> Result<(), Stop>
-        requires hart { hart < 64 }
-        requires domain { domain < 16 }
+    pub fn drain(&mut self, mover: Mover, cache: &mut PageCache) -> Result<(), Stop>
+        requires mover { IsMover mover }
         ensures ok { OnOk result (IfSome (slice_get self.old.queue.stores 0) (λ oldest.
-            TakesEffect hart domain oldest (record self.old { queue = record self.old.queue { stores = drop 1 self.old.queue.stores } }) cache.old self.new cache.new)) }
+            TakesEffect mover.hart mover.plan.domain oldest (record self.old { queue = record self.old.queue { stores = drop 1 self.old.queue.stores } }) cache.old self.new cache.new)) }
         ensures frames { cache.new.frames ≡ cache.old.frames }
         ensures spent { OnErr result (self.old.stores ≡ last_store) }
         ensures err { OnErr result ((self.new ≡ self.old) × (cache.new ≡ cache.old)) }
@@ -340,7 +325,7 @@ impl Hart {
         let Some(oldest) = self.queue.front() else {
             return Ok(());
         };
-        self.take_effect(oldest, hart, domain, cache)?;
+        self.take_effect(oldest, mover, cache)?;
         self.queue.pop();
         Ok(())
     }

@@ -1,4 +1,7 @@
-use mind_base::{FaultKind, Granule, Page};
+//! What a blade keeps beside its pages: reservations, requests, needs and denials.
+
+use hart_effect::Found;
+use mind_base::{FaultKind, Granule, Page, ThreadPlan};
 
 /// A reservation as the blade keeps it: the granule, and the tag that it had when LR read it.
 #[derive(Clone, Copy, Debug, PartialEq, Eq)]
@@ -43,4 +46,35 @@ pub struct Denial {
 pub enum Answer {
     Filled,
     Denied,
+}
+
+/// One of the rack's harts that is to move: its number, below 64, and its thread, of a domain below 16.
+#[derive(Clone, Copy, Debug, PartialEq, Eq)]
+pub struct Mover {
+    pub hart: u8,
+    pub plan: ThreadPlan,
+}
+
+/// A hart that is to take a step, and what it found at its pc.
+#[derive(Clone, Copy, Debug, PartialEq, Eq)]
+pub struct Doing {
+    pub mover: Mover,
+    pub found: Found,
+    pub pc: u32,
+}
+
+/// What befalls a hart beside its steps and its drains: one of them waits for a page, or waits no longer, or
+/// the hart ends at `pc` by the fault of an access that was denied.
+#[derive(Clone, Copy, Debug, PartialEq, Eq)]
+pub enum HartChange {
+    Waits { waits: Waits },
+    Wakes { waits: Waits },
+    Faults { denial: Denial, pc: u32 },
+}
+
+/// What the switch takes from the blade: pages, or the leave to write them.
+#[derive(Clone, Copy, Debug, PartialEq, Eq)]
+pub enum Withdrawal {
+    Pages,
+    Writing,
 }

@@ -1,15 +1,17 @@
+//! The page that an instruction needs, and whether a frame serves it.
+
 ghost use Rattle.std.specs.Prelude.{◌≡◌, ◌<◌, ◌%◌};
 ghost use Rattle.hart_core.specs.Memory.{IsAccessSize};
-ghost use Rattle.hart_core.specs.Act.{IsWellFormed};
+ghost use Rattle.hart_core.specs.Act.{IsWellFormedAct};
 ghost use Rattle.hart_effect.specs.Deed.{AsksWellFormed};
 ghost use Rattle.hart_effect.specs.declared.finds.Found.TheVariants as found_of;
 ghost use Rattle.page_cache.specs.PageCache.{frame_of};
 ghost use Rattle.compute_blade.specs.Messages.{same_need as same_need_of, needs_just as needs_just_of};
-ghost use Rattle.compute_blade.specs.Steps.{need_at as need_at_of, need_of as need_of_act, need_in as need_in_found, writes as writes_of, writes_at_once as writes_at_once_of, serves as serves_of};
+ghost use Rattle.compute_blade.specs.Steps.{need_at as need_at_of, need_of as need_of_act, need_in as need_in_found, locked_writes as writes_of, writes_at_once as writes_at_once_of, serves as serves_of};
 
 use crate::kept::Need;
 use hart_core::{Act, LockedKind, load_size};
-use hart_effect::{Found, may_write};
+use hart_effect::Found;
 use mind_base::{Page, Place};
 use page_cache::PageCache;
 
@@ -37,7 +39,7 @@ fn writes(kind: LockedKind) -> bool
 
 fn need_of(asked: Act, domain: u8) -> Option<Need>
     requires domain { domain < 16 }
-    requires well_formed { IsWellFormed asked }
+    requires well_formed { IsWellFormedAct asked }
     ensures { result ≡ need_of_act asked domain }
 {
     match asked {
@@ -107,6 +109,6 @@ pub fn serves(found: Found, cache: &PageCache, page: Page) -> bool
 {
     match cache.find(page) {
         None => false,
-        Some(frame) => !writes_at_once(found) || frame.writable || !may_write(frame.perm),
+        Some(frame) => !writes_at_once(found) || frame.writable || !frame.perm.may_write(),
     }
 }

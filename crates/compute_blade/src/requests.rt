@@ -1,5 +1,7 @@
+//! The requests of a blade that are out.
+
 ghost use Rattle.std.specs.Prelude.{◌≡◌};
-ghost use Rattle.compute_blade.specs.Blade.{is_for as is_for_of, is_asked as is_asked_of, request_for as request_for_of, answered};
+ghost use Rattle.compute_blade.specs.Blade.{is_for as is_for_of, is_asked as is_asked_of, request_for as request_for_of, requests_without};
 
 use crate::Asked;
 use mind_base::Page;
@@ -31,7 +33,7 @@ pub fn request_for(requests: &[Asked], page: Page) -> Option<Asked>
 
 /// The request for the page is out no more.
 pub fn answer(requests: &mut Vec<Asked>, page: Page)
-    ensures { requests.new.items ≡ answered page requests.old.items }
+    ensures { requests.new.items ≡ requests_without page requests.old.items }
 {
     requests.retain(|asked| !is_for(page, asked));
 }

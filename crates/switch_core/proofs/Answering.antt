@@ -16,6 +16,7 @@ use Rattle.mind_base.specs.declared.links.LinkName.{LinkName}
 use Rattle.mind_base.specs.declared.notes.Note.{Note}
 use Rattle.mind_base.specs.declared.notes.State.{State}
 use Rattle.mind_base.specs.declared.plans.RackPlan.{RackPlan}
+use Rattle.mind_base.specs.Permission.{allows}
 use Rattle.invalidate_multicast.specs.First.{first_changed}
 use Rattle.invalidate_multicast.specs.Transition.{is_number, after_answer, without_waiting, acknowledged, is_answered, target_of, finished, first_ended, with_first_ended}
 use Rattle.page_image.specs.PageImage.{PageImageView}
@@ -24,17 +25,17 @@ use Rattle.region_directory.specs.Directory.{DirectoryView}
 use Rattle.region_directory.specs.Entry.{with_busy, plus_hits}
 use Rattle.region_directory.specs.declared.entries.Busy.{Busy}
 use Rattle.region_directory.specs.declared.entries.Entry.{Entry}
-use Rattle.request_list.specs.Requests.{is_of, AreApart}
+use Rattle.request_list.specs.Requests.{is_of, AskOncePerPage}
 use Rattle.request_list.specs.declared.requests.Request.{Request}
 use Rattle.wire_msg.specs.WellFormed.{CanFill}
 use Rattle.wire_msg.specs.declared.msgs.Msg.{Msg}
 use Rattle.wire_msg.specs.declared.msgs.Msg.TheVariants.{Fill}
-use Rattle.switch_core.specs.Handling.{all_ended, answered, asked, ended, noted_end, filled, filling, handled_from, went_back, writing, Received}
+use Rattle.switch_core.specs.Handling.{all_ended, answered, request_noted, ended, noted_end, filled, filling, handled_from, went_back, writing, Received}
 use Rattle.switch_core.specs.Invariant.{IsFitState, IsFitTarget, IsFitEntry, IsFitRequest, IsSpent, IsSwitch}
 use Rattle.switch_core.specs.Sending.{AreFetchesAllowed, IsSendable, Start, Comes, Begins, Stays, start_at}
 use Rattle.switch_core.specs.Serving.{Serves}
-use Rattle.switch_core.specs.Switch.{SwitchView, Effect, with_requests, place_in, to_blade}
-use Rattle.switch_core.specs.Treating.{allows, without_request}
+use Rattle.switch_core.specs.Switch.{SwitchView, SwitchEffect, with_requests, place_in, to_blade}
+use Rattle.switch_core.specs.Treating.{without_request}
 use Rattle.switch_core.proofs.EachEnding.{answered-is}
 use Rattle.switch_core.proofs.Lists.{all-append, all-filter, under-le-length}
 use Rattle.switch_core.proofs.Safety.{IsAllowed, place-in-rack}
@@ -54,6 +55,17 @@ first-changed-here e es t = ap (λ (b : Bool). cond b (finished e ∷ es) (e ∷
 
 first-changed-later : (e : Entry) (es : List Entry) → is_answered e.busy ≡ false → with_first_ended (e ∷ es) ≡ e ∷ with_first_ended es
 first-changed-later e es f = ap (λ (b : Bool). cond b (finished e ∷ es) (e ∷ with_first_ended es)) f
+
+first-here : (e : Entry) (es : List Entry) → is_answered e.busy ≡ true → first_ended (e ∷ es) ≡ Some (e.range, target_of e e.busy)
+first-here e es t = ap (λ (b : Bool). option_map {T = Entry} {U = RangeView × State} (λ y. (y.range, target_of y y.busy)) (cond b (Some e) (find (λ y. is_answered y.busy) es))) t
+
+first-later : (e : Entry) (es : List Entry) → is_answered e.busy ≡ false → first_ended (e ∷ es) ≡ first_ended es
+first-later e es f = ap (λ (b : Bool). option_map {T = Entry} {U = RangeView × State} (λ y. (y.range, target_of y y.busy)) (cond b (Some e) (find (λ y. is_answered y.busy) es))) f
+
+some-first : {A : Type 0} (e : Entry) (es : List Entry) → is_answered e.busy ≡ true → first_ended (e ∷ es) ≡ None → A
+some-first e es t h =
+    let clash : (let first : Option (RangeView × State) = Some (e.range, target_of e e.busy) in first) ≡ None = sym (first-here e es t) ∙ h in
+    absurd (cc)
 
 step-here : (e : Entry) (es : List Entry) → is_answered e.busy ≡ true → EndsFirst (e ∷ es)
 step-here e es t =
@@ -83,9 +95,7 @@ ends-first (e ∷ es) x h =
     elim (cases_Bool (is_answered e.busy)) [
       | inl t ↦ step-here e es t
       | inr f ↦
-          let found : first_ended (e ∷ es) ≡ first_ended es =
-          ap (λ (b : Bool). option_map {T = Entry} {U = RangeView × State} (λ y. (y.range, target_of y y.busy)) (cond b (Some e) (find (λ y. is_answered y.busy) es))) f in
-          step-later e es f (ends-first es x (sym found ∙ h))
+          step-later e es f (ends-first es x (sym (first-later e es f) ∙ h))
     ]
 
 -- none waits for nobody
@@ -93,15 +103,9 @@ pub none-answered : (es : List Entry) → first_ended es ≡ None → AllByRecur
 none-answered [] h = tt
 none-answered (e ∷ es) h =
     elim (cases_Bool (is_answered e.busy)) [
-      | inl t ↦
-          let found : first_ended (e ∷ es) ≡ Some (e.range, target_of e e.busy) =
-          ap (λ (b : Bool). option_map {T = Entry} {U = RangeView × State} (λ y. (y.range, target_of y y.busy)) (cond b (Some e) (find (λ y. is_answered y.busy) es))) t in
-          let clash : Some (e.range, target_of e e.busy) ≡ None = sym found ∙ h in
-          absurd (cc)
+      | inl t ↦ some-first e es t h
       | inr f ↦
-          let found : first_ended (e ∷ es) ≡ first_ended es =
-          ap (λ (b : Bool). option_map {T = Entry} {U = RangeView × State} (λ y. (y.range, target_of y y.busy)) (cond b (Some e) (find (λ y. is_answered y.busy) es))) f in
-          (f, none-answered es (sym found ∙ h))
+          (f, none-answered es (sym (first-later e es f) ∙ h))
     ]
 
 record EndsNone (es : List Entry) : Type 0 where
@@ -112,15 +116,9 @@ ends-none : (es : List Entry) → first_ended es ≡ None → EndsNone es
 ends-none [] h = record { same = refl; left = refl }
 ends-none (e ∷ es) h =
     elim (cases_Bool (is_answered e.busy)) [
-      | inl t ↦
-          let found : first_ended (e ∷ es) ≡ Some (e.range, target_of e e.busy) =
-          ap (λ (b : Bool). option_map {T = Entry} {U = RangeView × State} (λ y. (y.range, target_of y y.busy)) (cond b (Some e) (find (λ y. is_answered y.busy) es))) t in
-          let clash : Some (e.range, target_of e e.busy) ≡ None = sym found ∙ h in
-          absurd (cc)
+      | inl t ↦ some-first e es t h
       | inr f ↦
-          let found : first_ended (e ∷ es) ≡ first_ended es =
-          ap (λ (b : Bool). option_map {T = Entry} {U = RangeView × State} (λ y. (y.range, target_of y y.busy)) (cond b (Some e) (find (λ y. is_answered y.busy) es))) f in
-          let rest = ends-none es (sym found ∙ h) in
+          let rest = ends-none es (sym (first-later e es f) ∙ h) in
           record {
             same = ap (λ (b : Bool). cond b (finished e) e ∷ map ended es) f ∙ ap (λ (ys : List Entry). e ∷ ys) rest.same;
             left = first-changed-later e es f ∙ ap (λ (ys : List Entry). e ∷ ys) rest.left;
@@ -168,6 +166,15 @@ pub fit-acknowledged : (n number blade count : ℕ) (es : List Entry) → AllByR
 fit-acknowledged n number blade count es h =
     all-first (IsFitEntry n) (λ e. is_number number e.busy) (plus_hits count) (fit-hits n count) (map (λ e. with_busy (after_answer number blade e.busy) e) es)
     (all-mapped (IsFitEntry n) (λ e. with_busy (after_answer number blade e.busy) e) (fit-answer n number blade) es h)
+
+-- the switch when an acknowledgement was heard and the transitions that wait for nobody have ended
+pub switch-answered : (s : SwitchView) (number blade count : ℕ) (d d' : DirectoryView) → IsSwitch s → d ≡ record s.directory { entries = acknowledged number blade count s.directory.entries } → length d.entries ≡ length s.directory.entries
+    → length d'.entries ≡ length d.entries → d'.slots ≡ d.slots → ((n : ℕ) → AllByRecursion (IsFitEntry n) d.entries → AllByRecursion (IsFitEntry n) d'.entries) → AllByRecursion (λ entry. is_answered entry.busy ≡ false) d'.entries → IsSwitch (record s { directory = d' })
+switch-answered s number blade count d d' h heard same-count same-length slots fit waits =
+    let n = length s.plan.frames in
+    let middle : AllByRecursion (IsFitEntry n) d.entries = subst (λ (x : DirectoryView). AllByRecursion (IsFitEntry n) x.entries) (sym heard) (fit-acknowledged n number blade count s.directory.entries h.entries) in
+    let fits : length d'.entries ≤ d'.slots = omega (arith, same-length, same-count, slots, ap (λ (x : DirectoryView). x.slots) heard, h.fits) in
+    record { plan = h.plan; homes = h.homes; outliers = h.outliers; slots = h.slots; fits = fits; entries = fit n middle; waits = waits; requests = h.requests }
 
 -- ---- the loop over the endings
 
@@ -253,7 +260,7 @@ all-at-place P [] k x h lt = absurd (omega arith)
 all-at-place P (r ∷ rs) zero x h lt = h.0
 all-at-place P (r ∷ rs) (suc k) x h lt = all-at-place P rs k x h.1 (omega arith)
 
-pub found-fetched : (blade : ℕ) (page : PageView) (rs : List Request) (r : Request) → AreApart rs → Any (IsFetched blade page) rs → find (is_of blade page) rs ≡ Some r → r.fetching ≡ true
+pub found-fetched : (blade : ℕ) (page : PageView) (rs : List Request) (r : Request) → AskOncePerPage rs → Any (IsFetched blade page) rs → find (is_of blade page) rs ≡ Some r → r.fetching ≡ true
 found-fetched blade page [] r a (k, x, lt, at, p) e = absurd (omega arith)
 found-fetched blade page (q ∷ rs) r a (k, x, lt, at, p) e =
     elim (cases_Bool (is_of blade page q)) [
@@ -266,7 +273,7 @@ found-fetched blade page (q ∷ rs) r a (k, x, lt, at, p) e =
           found-fetched blade page rs r a.1 (later-fetched blade page q rs f k x lt at p) (sym later ∙ e)
     ]
   where
-    first-fetched : (blade : ℕ) (page : PageView) (q : Request) (rs : List Request) → AreApart (q ∷ rs) → is_of blade page q ≡ true → (k : ℕ) (x : Request) → k < length (q ∷ rs) → slice_index_or (q ∷ rs) k x ≡ x → IsFetched blade page x → q.fetching ≡ true
+    first-fetched : (blade : ℕ) (page : PageView) (q : Request) (rs : List Request) → AskOncePerPage (q ∷ rs) → is_of blade page q ≡ true → (k : ℕ) (x : Request) → k < length (q ∷ rs) → slice_index_or (q ∷ rs) k x ≡ x → IsFetched blade page x → q.fetching ≡ true
     first-fetched blade page q rs a t zero x lt at p = ap (λ (y : Request). y.fetching) at ∙ p.1
     first-fetched blade page q rs a t (suc k) x lt at p =
         let apart : is_of q.blade q.page x ≡ false = subst (λ (y : Request). is_of q.blade q.page y ≡ false) at (all-at-place (λ y. is_of q.blade q.page y ≡ false) rs k x a.0 (omega arith)) in
@@ -323,7 +330,7 @@ can-fill false R e = (λ q. absurd (cc), λ w. absurd (false≢true w))
 can-fill true R e = absurd (false≢true e)
 can-fill write Rw e = (λ q. absurd (cc), λ w. refl)
 
-pub fill-comes : (s s' : SwitchView) (o o' : List (LinkName × Msg)) (blade : ℕ) (page : PageView) (image : PageImageView) (r : Request) (rs : List Request) → IsSwitch s → AreApart s.requests → Any (IsFetched blade page) s.requests → find (is_of blade page) s.requests ≡ Some r → rs ≡ filter (λ q. not (is_of blade page q)) s.requests → s' ≡ with_requests s rs → o' ≡ o ++ to_blade r.blade (Fill r.page (permission_at s.protect r.page) r.write image) ∷ [] → Comes (start_at s o []) (filled (Some blade) page image s) s' o' []
+pub fill-comes : (s s' : SwitchView) (o o' : List (LinkName × Msg)) (blade : ℕ) (page : PageView) (image : PageImageView) (r : Request) (rs : List Request) → IsSwitch s → AskOncePerPage s.requests → Any (IsFetched blade page) s.requests → find (is_of blade page) s.requests ≡ Some r → rs ≡ filter (λ q. not (is_of blade page q)) s.requests → s' ≡ with_requests s rs → o' ≡ o ++ to_blade r.blade (Fill r.page (permission_at s.protect r.page) r.write image) ∷ [] → Comes (start_at s o []) (filled (Some blade) page image s) s' o' []
 fill-comes s s' o o' blade page image r rs h apart fetched found left e f =
     let n = length s.plan.frames in
     let fit : IsFitRequest n r = found-all (IsFitRequest n) blade page s.requests r h.requests found in
@@ -361,7 +368,7 @@ pub back-comes : (result : Result (Unit {0}) Stop) (s : SwitchView) (o o' : List
 back-comes (Ok u) s o o' n page image h e = record { after = refl; sent = e; noted = sym (append-nil n); plan = refl; sendable = λ all. written-sendable s page image h; allowed = λ all. all }
 back-comes (Err x) s o o' n page image h e = h
 
-pub asked-comes : (result : Result (Unit {0}) Stop) (s s' : SwitchView) (o : List (LinkName × Msg)) (n : List Note) (blade : ℕ) (page : PageView) (write : Bool) → OnOk result (s' ≡ (asked blade page write s).switch) → OnOk result (Comes (start_at s o n) (asked blade page write s) s' o n)
+pub asked-comes : (result : Result (Unit {0}) Stop) (s s' : SwitchView) (o : List (LinkName × Msg)) (n : List Note) (blade : ℕ) (page : PageView) (write : Bool) → OnOk result (s' ≡ (request_noted blade page write s).switch) → OnOk result (Comes (start_at s o n) (request_noted blade page write s) s' o n)
 asked-comes (Ok u) s s' o n blade page write e = record {
   after = e;
   sent = sym (append-nil o);
@@ -376,7 +383,7 @@ asked-comes (Err x) s s' o n blade page write e = e
 pub answered-comes : (result : Result (Unit {0}) Stop) (s s' : SwitchView) (o : List (LinkName × Msg)) (n n' : List Note) (number blade count : ℕ) → OnOk result (s' ≡ (all_ended (acknowledged number blade count s.directory.entries) s).switch)
     → OnOk result (n' ≡ n ++ (all_ended (acknowledged number blade count s.directory.entries) s).noted) → OnOk result (Comes (start_at s o n) (answered number blade count s) s' o n')
 answered-comes (Ok u) s s' o n n' number blade count e f =
-    subst (λ (x : Effect). Comes (start_at s o n) x s' o n') (sym (answered-is number blade count s)) (record {
+    subst (λ (x : SwitchEffect). Comes (start_at s o n) x s' o n') (sym (answered-is number blade count s)) (record {
       after = e;
       sent = sym (append-nil o);
       noted = f;
@@ -386,7 +393,7 @@ answered-comes (Ok u) s s' o n n' number blade count e f =
     })
 answered-comes (Err x) s s' o n n' number blade count e f = e
 
-pub received-then : (result : Result (Unit {0}) Stop) (link : LinkName) (message : Msg) (start : Start) (s s' : SwitchView) (o o' : List (LinkName × Msg)) (n n' : List Note) → Comes start (handled_from link.kind link.number message start.switch) s o n → OnOk result ((begin : Start) → (first : Effect) → Comes begin first s o n → (last : Effect) × Serves first last × Comes begin last s' o' n') → Begins start.out o' → Begins start.notes n' → Received result link message start s' o' n'
+pub received-then : (result : Result (Unit {0}) Stop) (link : LinkName) (message : Msg) (start : Start) (s s' : SwitchView) (o o' : List (LinkName × Msg)) (n n' : List Note) → Comes start (handled_from link.kind link.number message start.switch) s o n → OnOk result ((begin : Start) → (first : SwitchEffect) → Comes begin first s o n → (last : SwitchEffect) × Serves first last × Comes begin last s' o' n') → Begins start.out o' → Begins start.notes n' → Received result link message start s' o' n'
 received-then (Ok u) link message start s s' o o' n n' h serves b c =
     let done = serves start (handled_from link.kind link.number message start.switch) h in
     (done.0, done.1, done.2)

@@ -4,7 +4,7 @@ use Rattle.std.specs.Prelude.{All, Any, IsTrue, is_some}
 use Rattle.std.specs.List.{find}
 use Rattle.std.proofs.lemmas.Bool.{cases_Bool, false≢true}
 use Rattle.mind_base.specs.Page.{PageView}
-use Rattle.request_list.specs.Requests.{is_of, AreApart}
+use Rattle.request_list.specs.Requests.{is_of, AskOncePerPage}
 use Rattle.request_list.specs.declared.requests.Request.{Request}
 use Rattle.switch_core.proofs.Answering.{IsFetched, fetched-found, found-fetched, some-is}
 
@@ -46,7 +46,7 @@ fetched-any blade page (q ∷ rs) r e f =
           (suc rest.0, rest.1, omega (arith, rest.2), rest.3, rest.4))
     ]
 
-pub fetching-some : (blade : ℕ) (page : PageView) (rs : List Request) (r : Request) → find (is_of blade page) rs ≡ Some r → AreApart rs → IsTrue r.fetching ↔ Any (IsFetched blade page) rs
+pub fetching-some : (blade : ℕ) (page : PageView) (rs : List Request) (r : Request) → find (is_of blade page) rs ≡ Some r → AskOncePerPage rs → IsTrue r.fetching ↔ Any (IsFetched blade page) rs
 fetching-some blade page rs r e apart = (λ t. fetched-any blade page rs r e t, λ any. found-fetched blade page rs r apart any e)
 
 pub fetching-none : (blade : ℕ) (page : PageView) (rs : List Request) → find (is_of blade page) rs ≡ None → IsTrue false ↔ Any (IsFetched blade page) rs

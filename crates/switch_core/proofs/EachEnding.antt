@@ -9,7 +9,7 @@ use Rattle.region_directory.specs.Entry.{changed_at}
 use Rattle.region_directory.specs.declared.entries.Entry.{Entry}
 use Rattle.wire_msg.specs.declared.msgs.Msg.{Msg}
 use Rattle.switch_core.specs.Handling.{ended, noted_end, noted_at, ended_at, ended_over, ack_heard, all_ended, answered}
-use Rattle.switch_core.specs.Switch.{SwitchView, Effect, with_entries, and_then}
+use Rattle.switch_core.specs.Switch.{SwitchView, SwitchEffect, with_entries, and_then}
 
 changed-there : (change : Entry → Entry) (xs : List Entry) (y : Entry) (ys : List Entry) → changed_at (length xs) change (xs ++ y ∷ ys) ≡ xs ++ change y ∷ ys
 changed-there change [] y ys = refl
@@ -20,16 +20,16 @@ found-there [] y ys = refl
 found-there (x ∷ xs) y ys = found-there xs y ys
 
 -- the switch with these entries, these messages and these notes
-abbrev with_these : SwitchView → List Entry → List (LinkName × Msg) → List Note → Effect
+abbrev with_these : SwitchView → List Entry → List (LinkName × Msg) → List Note → SwitchEffect
 with_these switch es sent notes = record { switch = with_entries switch es; sent = sent; noted = notes }
 
-over-is : (ys xs : List Entry) (done : Effect) → done.switch.directory.entries ≡ xs ++ ys
+over-is : (ys xs : List Entry) (done : SwitchEffect) → done.switch.directory.entries ≡ xs ++ ys
     → ended_over (length ys) (length xs) done ≡ with_these done.switch (xs ++ map ended ys) done.sent (done.noted ++ flat_map noted_end ys)
 over-is [] xs done h =
     ap (λ (es : List Entry). with_these done.switch es done.sent done.noted) h
     ∙ ap (λ (notes : List Note). with_these done.switch (xs ++ []) done.sent notes) (sym (append-nil done.noted))
 over-is (y ∷ ys) xs done h =
-    let next : Effect = and_then done (ended_at (length xs)) in
+    let next : SwitchEffect = and_then done (ended_at (length xs)) in
     let front : List Entry = xs ++ ended y ∷ [] in
     let here : Option Entry = slice_get done.switch.directory.entries (length xs) in
     let entries : next.switch.directory.entries ≡ front ++ ys =

@@ -1,16 +1,18 @@
 -- How a pass goes on, for each thing that it may do with a request.
 use Rattle.std.proofs.Common.{◌≡◌, ℕ, ◌+◌, ◌<◌, ◌≤◌, Bool, true, false, cond, not, ◌≢◌, ◌==◌, Option, Some, None, List, ◌++◌, length, refl, ap, sym, subst, ◌∙◌, arith}
-use Rattle.std.specs.List.{insert, slice_get}
+use Rattle.std.specs.List.{AllByRecursion, insert, slice_get}
 use Rattle.std.specs.Option.{is_none, option_map, unwrap_or}
 use Rattle.std.proofs.lemmas.List.{append-nil}
 use Rattle.std.proofs.lemmas.List.Sums.{count_by-le-length}
 use Rattle.region_directory.specs.Block.{is_before}
+use Rattle.mind_base.specs.Page.{PageView}
 use Rattle.mind_base.specs.Range.{RangeView, InRange}
 use Rattle.mind_base.specs.declared.links.LinkName.{LinkName}
 use Rattle.mind_base.specs.declared.notes.Note.{Note}
 use Rattle.mind_base.specs.declared.notes.State.TheVariants.{I}
+use Rattle.mind_base.specs.Permission.{allows}
 use Rattle.protect_table.specs.Protect.{permission_at}
-use Rattle.region_directory.specs.Entry.{fresh_entry, place_of}
+use Rattle.region_directory.specs.Entry.{fresh_entry, entry_place}
 use Rattle.region_directory.specs.Room.{room_of}
 use Rattle.region_directory.specs.declared.entries.Busy.{Busy}
 use Rattle.region_directory.specs.declared.entries.Entry.{Entry}
@@ -19,15 +21,15 @@ use Rattle.region_directory.specs.declared.rooms.Room.TheVariants.{Drop, Evict, 
 use Rattle.request_list.specs.Requests.{fetched_pages}
 use Rattle.request_list.specs.declared.requests.Request.{Request}
 use Rattle.wire_msg.specs.declared.msgs.Msg.{Msg}
-use Rattle.switch_core.specs.Invariant.{IsSwitch}
+use Rattle.switch_core.specs.Invariant.{IsFitEntry, IsSwitch}
 use Rattle.switch_core.specs.Sending.{Start}
 use Rattle.switch_core.specs.Standing.{left_to_do, InPass}
 use Rattle.switch_core.specs.Switch.{SwitchView, and_then}
-use Rattle.switch_core.specs.Treating.{Pass, waits, blocks, does, grants, allows, holders, is_denied, denied, granted, changed_for, cleared, is_fetched, with_idle, with_entry, at_entry, entered, new_range, enters, dropped, with_room, without_entry, entry_for, for_entry, treated}
+use Rattle.switch_core.specs.Treating.{Pass, waits, blocks, does, grants, holders, is_denied, denied_request, granted, changed_for, cleared, is_fetched, with_idle, with_entry, at_entry, entered, new_range, enters, dropped, with_room, without_entry, entry_for, for_entry, treated}
 use Rattle.switch_core.specs.declared.stands.Stand.{Stand}
-use Rattle.switch_core.proofs.Lists.{insert-at}
-use Rattle.switch_core.proofs.Passing.{comes-then, less-on, in-does, in-waits, in-blocks, safe-changed, less-changed}
-use Rattle.switch_core.proofs.Safety.{Safe, safe-denied, less-denied, safe-granted, less-granted, safe-cleared, less-cleared, safe-entered, more-entered, safe-dropped, less-dropped}
+use Rattle.switch_core.proofs.Lists.{all-at, insert-at}
+use Rattle.switch_core.proofs.Passing.{dropped-idle, evicted-idle, evicted-held, comes-then, less-on, in-does, in-waits, in-blocks, safe-changed, less-changed}
+use Rattle.switch_core.proofs.Safety.{Safe, holders-some, safe-denied, less-denied, safe-granted, less-granted, safe-cleared, less-cleared, safe-entered, more-entered, safe-dropped, less-dropped}
 
 -- a state that nobody holds grants everything
 grants-I : (write : Bool) (blade : ℕ) → grants write blade I ≡ true
@@ -35,18 +37,18 @@ grants-I false blade = refl
 grants-I true blade = refl
 
 -- a new entry is granted at once
-enters-is : (r : Request) (pass : Pass) → enters r pass ≡ waits (does (granted r pass.at (place_of pass.done.switch.directory.entries (new_range r.page pass.done.switch)) (fresh_entry (new_range r.page pass.done.switch))) (does (entered (new_range r.page pass.done.switch)) pass))
+enters-is : (r : Request) (pass : Pass) → enters r pass ≡ waits (does (granted r pass.at (entry_place pass.done.switch.directory.entries (new_range r.page pass.done.switch)) (fresh_entry (new_range r.page pass.done.switch))) (does (entered (new_range r.page pass.done.switch)) pass))
 enters-is r pass =
     let es : List Entry = pass.done.switch.directory.entries in
     let range : RangeView = new_range r.page pass.done.switch in
-    let place : ℕ = place_of es range in
+    let place : ℕ = entry_place es range in
     let inside : Pass = does (entered range) pass in
     let le : place ≤ length es = count_by-le-length (λ entry. is_before entry.range range) es in
     ap (λ (x : Option Entry). with_entry r place x inside) (insert-at es place (fresh_entry range) le)
     ∙ ap (λ (b : Bool). cond b (waits (does (granted r inside.at place (fresh_entry range)) inside)) (cond (is_fetched range inside.done.switch.requests) (waits inside) (waits (does (changed_for r I place (fresh_entry range)) inside)))) (grants-I r.write r.blade)
 
 -- the new entry stands in its place
-pub entered-found : (s s1 : SwitchView) (range : RangeView) (place : ℕ) → s1 ≡ (entered range s).switch → place ≡ place_of s.directory.entries range → place ≤ length s.directory.entries → slice_get s1.directory.entries place ≡ Some (fresh_entry range)
+pub entered-found : (s s1 : SwitchView) (range : RangeView) (place : ℕ) → s1 ≡ (entered range s).switch → place ≡ entry_place s.directory.entries range → place ≤ length s.directory.entries → slice_get s1.directory.entries place ≡ Some (fresh_entry range)
 entered-found s s1 range place e p within =
     ap (λ (v : SwitchView). slice_get v.directory.entries place) e ∙ ap (λ (k : ℕ). slice_get (insert s.directory.entries k (fresh_entry range)) place) (sym p) ∙ insert-at s.directory.entries place (fresh_entry range) within
 
@@ -56,8 +58,37 @@ is_full s = length s.directory.entries == s.directory.slots
 abbrev pub room_in : SwitchView → Room
 room_in s = room_of s.directory (fetched_pages s.requests)
 
+-- the entry that is dropped to make room
+pub record IsDropped (s : SwitchView) (i : ℕ) (entry : Entry) : Type 0 where
+  pub found : slice_get s.directory.entries i ≡ Some entry
+  pub room : room_in s ≡ Drop i
+  pub idle : entry.busy ≡ None
+
+pub is-dropped : {v s : SwitchView} {i : ℕ} {entry : Entry} {pages : List PageView} → v ≡ s → slice_get v.directory.entries i ≡ Some entry → Drop i ≡ room_of v.directory pages → pages ≡ fetched_pages v.requests → IsDropped s i entry
+is-dropped {v} {s} {i} {entry} {pages} same found by fetched =
+    let room : room_in v ≡ Drop i = sym (by ∙ ap (room_of v.directory) fetched) in
+    subst (λ (x : SwitchView). IsDropped x i entry) same (record { found = found; room = room; idle = dropped-idle v.directory (fetched_pages v.requests) i entry room found })
+
+-- the entry that is taken from its holders to make room
+pub record IsEvicted (s : SwitchView) (i : ℕ) (entry : Entry) : Type 0 where
+  pub found : slice_get s.directory.entries i ≡ Some entry
+  pub room : room_in s ≡ Evict i
+  pub idle : entry.busy ≡ None
+  pub held : holders entry.state ≢ 0
+
+pub is-evicted : {v s : SwitchView} {i : ℕ} {entry : Entry} {pages : List PageView} → v ≡ s → AllByRecursion (IsFitEntry (length v.plan.frames)) v.directory.entries → slice_get v.directory.entries i ≡ Some entry → Evict i ≡ room_of v.directory pages → pages ≡ fetched_pages v.requests → IsEvicted s i entry
+is-evicted {v} {s} {i} {entry} {pages} same fit found by fetched =
+    let room : room_in v ≡ Evict i = sym (by ∙ ap (room_of v.directory) fetched) in
+    let n = length v.plan.frames in
+    subst (λ (x : SwitchView). IsEvicted x i entry) same (record {
+      found = found;
+      room = room;
+      idle = evicted-idle v.directory (fetched_pages v.requests) i entry room found;
+      held = holders-some n entry.state (all-at (IsFitEntry n) v.directory.entries i entry fit found).state (evicted-held v.directory (fetched_pages v.requests) i entry room found);
+    })
+
 abbrev pub unless-denied : Request → Bool → Pass → Pass
-unless-denied r b pass = cond b (does (denied r) pass) (for_entry r (entry_for r.page pass.done.switch.directory.entries) pass)
+unless-denied r b pass = cond b (does (denied_request r) pass) (for_entry r (entry_for r.page pass.done.switch.directory.entries) pass)
 
 -- where a pass stands, for all that follows
 module _ (start : Start) (pass : Pass) (s : SwitchView) (stand : Stand) (o : List (LinkName × Msg)) (n : List Note) (h : InPass start pass s stand o n) where
@@ -119,7 +150,7 @@ module _ (start : Start) (pass : Pass) (s : SwitchView) (stand : Stand) (o : Lis
 
   -- ---- a new entry
 
-  pub goes-new : (s1 s2 : SwitchView) (o2 : List (LinkName × Msg)) (n1 n2 : List Note) (r : Request) (range : RangeView) (place : ℕ) → IsSwitch s → length s.directory.entries < s.directory.slots → slice_get s.requests stand.at ≡ Some r → r.fetching ≡ false → allows r.write (permission_at s.protect r.page) ≡ true → range ≡ new_range r.page s → place ≡ place_of s.directory.entries range → place ≤ length s.directory.entries → IsSwitch s1 → s1 ≡ (entered range s).switch → n1 ≡ n ++ (entered range s).noted → s2 ≡ (granted r stand.at place (fresh_entry range) s1).switch → o2 ≡ o ++ (granted r stand.at place (fresh_entry range) s1).sent → n2 ≡ n1 ++ (granted r stand.at place (fresh_entry range) s1).noted → InPass start (enters r pass) s2 (record stand { at = stand.at + 1; changed = true }) o2 n2
+  pub goes-new : (s1 s2 : SwitchView) (o2 : List (LinkName × Msg)) (n1 n2 : List Note) (r : Request) (range : RangeView) (place : ℕ) → IsSwitch s → length s.directory.entries < s.directory.slots → slice_get s.requests stand.at ≡ Some r → r.fetching ≡ false → allows r.write (permission_at s.protect r.page) ≡ true → range ≡ new_range r.page s → place ≡ entry_place s.directory.entries range → place ≤ length s.directory.entries → IsSwitch s1 → s1 ≡ (entered range s).switch → n1 ≡ n ++ (entered range s).noted → s2 ≡ (granted r stand.at place (fresh_entry range) s1).switch → o2 ≡ o ++ (granted r stand.at place (fresh_entry range) s1).sent → n2 ≡ n1 ++ (granted r stand.at place (fresh_entry range) s1).noted → InPass start (enters r pass) s2 (record stand { at = stand.at + 1; changed = true }) o2 n2
   goes-new s1 s2 o2 n1 n2 r range place was space asked waiting allowed e-range e-place within was1 e1 f1 e2 f2 g2 =
       let fresh : Entry = fresh_entry range in
       let stand' : Stand = record stand { at = stand.at + 1; changed = true } in
@@ -139,12 +170,12 @@ module _ (start : Start) (pass : Pass) (s : SwitchView) (stand : Stand) (o : Lis
       in-waits start (does (granted r stand.at place fresh) (does (entered range) pass)) s2 (record stand { changed = true }) o2 n2 done in
       let at-pass : InPass start (waits (does (granted r pass.at place fresh) (does (entered range) pass))) s2 stand' o2 n2 =
       subst (λ (a : ℕ). InPass start (waits (does (granted r a place fresh) (does (entered range) pass))) s2 stand' o2 n2) h.at waited in
-      let place-there : place ≡ place_of pass.done.switch.directory.entries range = e-place ∙ ap (λ (v : SwitchView). place_of v.directory.entries range) h.comes.after in
-      let at-place : InPass start (waits (does (granted r pass.at (place_of pass.done.switch.directory.entries range) fresh) (does (entered range) pass))) s2 stand' o2 n2 =
+      let place-there : place ≡ entry_place pass.done.switch.directory.entries range = e-place ∙ ap (λ (v : SwitchView). entry_place v.directory.entries range) h.comes.after in
+      let at-place : InPass start (waits (does (granted r pass.at (entry_place pass.done.switch.directory.entries range) fresh) (does (entered range) pass))) s2 stand' o2 n2 =
       subst (λ (k : ℕ). InPass start (waits (does (granted r pass.at k fresh) (does (entered range) pass))) s2 stand' o2 n2) place-there at-pass in
       let range-there : range ≡ new_range r.page pass.done.switch = e-range ∙ ap (new_range r.page) h.comes.after in
-      let at-range : InPass start (waits (does (granted r pass.at (place_of pass.done.switch.directory.entries (new_range r.page pass.done.switch)) (fresh_entry (new_range r.page pass.done.switch))) (does (entered (new_range r.page pass.done.switch)) pass))) s2 stand' o2 n2 =
-      subst (λ (g : RangeView). InPass start (waits (does (granted r pass.at (place_of pass.done.switch.directory.entries g) (fresh_entry g)) (does (entered g) pass))) s2 stand' o2 n2) range-there at-place in
+      let at-range : InPass start (waits (does (granted r pass.at (entry_place pass.done.switch.directory.entries (new_range r.page pass.done.switch)) (fresh_entry (new_range r.page pass.done.switch))) (does (entered (new_range r.page pass.done.switch)) pass))) s2 stand' o2 n2 =
+      subst (λ (g : RangeView). InPass start (waits (does (granted r pass.at (entry_place pass.done.switch.directory.entries g) (fresh_entry g)) (does (entered g) pass))) s2 stand' o2 n2) range-there at-place in
       subst (λ (p : Pass). InPass start p s2 stand' o2 n2) (sym (enters-is r pass)) at-range
 
   -- ---- room
@@ -216,10 +247,10 @@ module _ (start : Start) (pass : Pass) (s : SwitchView) (stand : Stand) (o : Lis
       subst (λ (x : Bool). InPass start (unless-denied r x pass) s' stand' o' n') (sym there) k in
       subst (λ (x : Bool). InPass start (cond x (waits pass) (unless-denied r (is_denied pass.done.switch r) pass)) s' stand' o' n') (sym f) later
 
-  pub goes-denied : (s' : SwitchView) (o' : List (LinkName × Msg)) (n' : List Note) (r : Request) → r.fetching ≡ false → allows r.write (permission_at s.protect r.page) ≡ false → IsSwitch s → slice_get s.requests stand.at ≡ Some r → s' ≡ (denied r s).switch → o' ≡ o ++ (denied r s).sent → n' ≡ n ++ (denied r s).noted → InPass start (treated r pass) s' (record stand { changed = true }) o' n'
+  pub goes-denied : (s' : SwitchView) (o' : List (LinkName × Msg)) (n' : List Note) (r : Request) → r.fetching ≡ false → allows r.write (permission_at s.protect r.page) ≡ false → IsSwitch s → slice_get s.requests stand.at ≡ Some r → s' ≡ (denied_request r s).switch → o' ≡ o ++ (denied_request r s).sent → n' ≡ n ++ (denied_request r s).noted → InPass start (treated r pass) s' (record stand { changed = true }) o' n'
   goes-denied s' o' n' r f g was place p q w =
       goes-unfetched s' (record stand { changed = true }) o' n' r true f (ap not g)
-      (in-does start pass (denied r) s s' stand o o' n n' h (safe-denied s r stand.at was place) (less-denied s r stand.at place f) p q w)
+      (in-does start pass (denied_request r) s s' stand o o' n n' h (safe-denied s r stand.at was place) (less-denied s r stand.at place f) p q w)
 
   entry-there : (r : Request) (x : Option ℕ) → entry_for r.page s.directory.entries ≡ x → entry_for r.page pass.done.switch.directory.entries ≡ x
   entry-there r x e = ap (λ (v : SwitchView). entry_for r.page v.directory.entries) (sym h.comes.after) ∙ e

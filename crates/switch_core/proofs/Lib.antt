@@ -7,4 +7,3 @@ pub mod Passing
 pub mod Places
 pub mod Rounds
 pub mod Safety
-pub mod Sets

@@ -13,6 +13,8 @@ use Rattle.mind_base.specs.declared.notes.Note.{Note}
 use Rattle.mind_base.specs.declared.notes.State.{State}
 use Rattle.mind_base.specs.declared.notes.State.TheVariants.{I, S, M}
 use Rattle.mind_base.specs.declared.plans.RackPlan.{RackPlan}
+use Rattle.mind_base.specs.Permission.{allows}
+use Rattle.protect_table.specs.Protect.{permission_at}
 use Rattle.invalidate_multicast.specs.Blades.{without_blade}
 use Rattle.region_directory.specs.Directory.{DirectoryView}
 use Rattle.region_directory.specs.Room.{room_of, first_rule, is_unheld, is_droppable, is_evictable}
@@ -22,19 +24,19 @@ use Rattle.region_directory.specs.declared.rooms.Room.TheVariants.{Drop, Evict}
 use Rattle.region_directory.proofs.RoomLemmas.{all-fail}
 use Rattle.request_list.specs.declared.requests.Request.{Request}
 use Rattle.wire_msg.specs.declared.msgs.Msg.{Msg}
-use Rattle.switch_core.specs.Invariant.{IsFitState, IsFitEntry, IsSwitch}
-use Rattle.switch_core.specs.Sending.{AreFetchesAllowed, IsSendable, Start, Comes, Begins, Stays, Keeps, start_at}
-use Rattle.switch_core.specs.Standing.{left_to_do, Tells, InPass}
-use Rattle.switch_core.specs.Switch.{SwitchView, Effect, and_then}
+use Rattle.switch_core.specs.Invariant.{IsFitState, IsFitEntry, IsFitRequest, IsSwitch}
+use Rattle.switch_core.specs.Sending.{AreFetchesAllowed, IsSendable, Start, Comes, Begins, Stays, KeepsStart, start_at}
+use Rattle.switch_core.specs.Standing.{left_to_do, PassTells, InPass, IsTreatable}
+use Rattle.switch_core.specs.Switch.{SwitchView, SwitchEffect, and_then}
 use Rattle.switch_core.specs.Treating.{Pass, waits, blocks, does, grants, holders, changed_for, invalidated, lowered}
 use Rattle.switch_core.specs.declared.stands.Stand.{Stand}
 use Rattle.switch_core.proofs.Lists.{all-at, all-append}
 use Rattle.switch_core.proofs.Safety.{Safe, safe-invalidated, safe-lowered, less-invalidated, less-lowered}
-use Rattle.switch_core.proofs.Sets.{without-other_power}
+use Rattle.invalidate_multicast.proofs.Sets.{without-other_power}
 
 -- ---- one thing after another
 
-pub comes-then : (start : Start) (done : Effect) (change : SwitchView → Effect) (s s' : SwitchView) (o o' : List (LinkName × Msg)) (n n' : List Note) → Comes start done s o n → Safe s (change s) → s' ≡ (change s).switch → o' ≡ o ++ (change s).sent → n' ≡ n ++ (change s).noted → Comes start (and_then done change) s' o' n'
+pub comes-then : (start : Start) (done : SwitchEffect) (change : SwitchView → SwitchEffect) (s s' : SwitchView) (o o' : List (LinkName × Msg)) (n n' : List Note) → Comes start done s o n → Safe s (change s) → s' ≡ (change s).switch → o' ≡ o ++ (change s).sent → n' ≡ n ++ (change s).noted → Comes start (and_then done change) s' o' n'
 comes-then start done change s s' o o' n n' h safe e f g = record {
   after = e ∙ ap (λ (x : SwitchView). (change x).switch) h.after;
   sent = f ∙ ap (λ (x : SwitchView). o ++ (change x).sent) h.after ∙ ap (λ (x : List (LinkName × Msg)). x ++ (change done.switch).sent) h.sent ∙ append_assoc start.out done.sent (change done.switch).sent;
@@ -47,8 +49,8 @@ comes-then start done change s s' o o' n n' h safe e f g = record {
 }
 
 -- a pass that did nothing has as much left to do, and one that did something less
-pub tells-most : (changed : Bool) (first : SwitchView) (done : Effect) → Tells changed first done → left_to_do done.switch ≤ left_to_do first
-tells-most false first done e = let same : left_to_do done.switch ≡ left_to_do first = ap (λ (x : Effect). left_to_do x.switch) e in omega (arith, same)
+pub tells-most : (changed : Bool) (first : SwitchView) (done : SwitchEffect) → PassTells changed first done → left_to_do done.switch ≤ left_to_do first
+tells-most false first done e = let same : left_to_do done.switch ≡ left_to_do first = ap (λ (x : SwitchEffect). left_to_do x.switch) e in omega (arith, same)
 tells-most true first done lt = omega (arith, lt)
 
 pub less-on : (start : Start) (pass : Pass) (s : SwitchView) (stand : Stand) (o : List (LinkName × Msg)) (n : List Note) (x : ℕ) → InPass start pass s stand o n → x < left_to_do s → x < left_to_do start.switch
@@ -58,7 +60,7 @@ less-on start pass s stand o n x h lt =
     omega (arith, most, same, lt)
 
 -- something is done in a pass
-pub in-does : (start : Start) (pass : Pass) (change : SwitchView → Effect) (s s' : SwitchView) (stand : Stand) (o o' : List (LinkName × Msg)) (n n' : List Note) → InPass start pass s stand o n → Safe s (change s) → left_to_do (change s).switch < left_to_do s → s' ≡ (change s).switch → o' ≡ o ++ (change s).sent → n' ≡ n ++ (change s).noted → InPass start (does change pass) s' (record stand { changed = true }) o' n'
+pub in-does : (start : Start) (pass : Pass) (change : SwitchView → SwitchEffect) (s s' : SwitchView) (stand : Stand) (o o' : List (LinkName × Msg)) (n n' : List Note) → InPass start pass s stand o n → Safe s (change s) → left_to_do (change s).switch < left_to_do s → s' ≡ (change s).switch → o' ≡ o ++ (change s).sent → n' ≡ n ++ (change s).noted → InPass start (does change pass) s' (record stand { changed = true }) o' n'
 in-does start pass change s s' stand o o' n n' h safe less e f g = record {
   comes = comes-then start pass.done change s s' o o' n n' h.comes safe e f g;
   at = h.at;
@@ -74,7 +76,7 @@ in-blocks start pass s stand o n h = record { comes = h.comes; at = ap (λ k. k 
 
 -- ---- what stays
 
-pub keeps-done : (s s' : SwitchView) (e : Effect) (o o' : List (LinkName × Msg)) (n n' : List Note) → Safe s e → s' ≡ e.switch → o' ≡ o ++ e.sent → n' ≡ n ++ e.noted → Keeps (start_at s o n) s' o' n'
+pub keeps-done : (s s' : SwitchView) (e : SwitchEffect) (o o' : List (LinkName × Msg)) (n n' : List Note) → Safe s e → s' ≡ e.switch → o' ≡ o ++ e.sent → n' ≡ n ++ e.noted → KeepsStart (start_at s o n) s' o' n'
 keeps-done s s' e o o' n n' safe p q r = record {
   stays = subst (λ (x : SwitchView). Stays s x) (sym p) safe.stays;
   sent = (e.sent, q);
@@ -84,7 +86,7 @@ keeps-done s s' e o o' n n' safe p q r = record {
 pub begins-then : {A : Type 0} (a b c : List A) → Begins a b → Begins b c → Begins a c
 begins-then a b c h k = (h.0 ++ k.0, k.1 ∙ ap (λ x. x ++ k.0) h.1 ∙ append_assoc a h.0 k.0)
 
-pub keeps-then : (s s1 s2 : SwitchView) (o o1 o2 : List (LinkName × Msg)) (n n1 n2 : List Note) → Keeps (start_at s o n) s1 o1 n1 → Keeps (start_at s1 o1 n1) s2 o2 n2 → Keeps (start_at s o n) s2 o2 n2
+pub keeps-then : (s s1 s2 : SwitchView) (o o1 o2 : List (LinkName × Msg)) (n n1 n2 : List Note) → KeepsStart (start_at s o n) s1 o1 n1 → KeepsStart (start_at s1 o1 n1) s2 o2 n2 → KeepsStart (start_at s o n) s2 o2 n2
 keeps-then s s1 s2 o o1 o2 n n1 n2 h k = record {
   stays = record {
     plan = k.stays.plan ∙ h.stays.plan;
@@ -210,6 +212,19 @@ all-left P (e ∷ es) zero h k d lt = h (suc k) d (omega arith)
 all-left P (e ∷ es) (suc i) h zero d lt = h 0 d (omega arith)
 all-left P (e ∷ es) (suc i) h (suc k) d lt = all-left P es i (λ j x l. h (suc j) x (omega arith)) k d (omega arith)
 
+-- a request that waits, and that the permissions allow, may be treated
+pub treatable : {v s : SwitchView} (stand : Stand) (r : Request) → v ≡ s → AllByRecursion (IsFitRequest (length v.plan.frames)) v.requests → stand.at < 4294967295 → slice_get s.requests stand.at ≡ Some r → r.fetching ≡ false
+    → allows r.write (permission_at v.protect r.page) ≡ true → IsTreatable s stand r
+treatable {v} {s} stand r same fit at place waits allowed =
+    let there : slice_get v.requests stand.at ≡ Some r = subst (λ (x : SwitchView). slice_get x.requests stand.at ≡ Some r) (sym same) place in
+    subst (λ (x : SwitchView). IsTreatable x stand r) same (record {
+      at = at;
+      place = there;
+      blade = (all-at (IsFitRequest (length v.plan.frames)) v.requests stand.at r fit there).blade;
+      waits = waits;
+      allowed = allowed;
+    })
+
 -- a transition that begins makes no note
 pub no-note : (s : SwitchView) (r : Request) (i : ℕ) (entry : Entry) (state : State) (n : List Note) → n ≡ n ++ (changed_for r state i entry s).noted
 no-note s r i entry I n = sym (append-nil n)
@@ -221,7 +236,7 @@ no-note s r i entry (M owner) n =
       | inr f ↦ subst chosen (sym f) (sym (append-nil n))
     ]
 
-pub keeps-same : (s s' : SwitchView) (o o' : List (LinkName × Msg)) (n n' : List Note) → s' ≡ s → Begins o o' → Begins n n' → Keeps (start_at s o n) s' o' n'
+pub keeps-same : (s s' : SwitchView) (o o' : List (LinkName × Msg)) (n n' : List Note) → s' ≡ s → Begins o o' → Begins n n' → KeepsStart (start_at s o n) s' o' n'
 keeps-same s s' o o' n n' e f g = record {
   stays = subst (λ (x : SwitchView). Stays s x) (sym e) (record { plan = refl; slots = refl; numbers = refl });
   sent = f;

@@ -5,10 +5,10 @@ use Rattle.std.specs.List.{AllByRecursion}
 use Rattle.std.specs.Option.{option_map, is_some, IfSome}
 use Rattle.std.proofs.lemmas.Bool.{cases_Bool}
 use Rattle.mind_base.specs.Page.{PageView}
-use Rattle.mind_base.specs.Home.{home_of, home_from, place_in}
+use Rattle.mind_base.specs.Home.{home_of, home_from, number_in_homes}
 use Rattle.mind_base.specs.declared.plans.MemoryPlan.{MemoryPlan}
 use Rattle.mind_base.specs.Range.{in_range}
-use Rattle.range_translate.specs.Place.{smaller_of, smallest_of, place_or_home, place_of}
+use Rattle.range_translate.specs.Place.{smaller_of, smallest_of, place_or_home, physical_place}
 use Rattle.range_translate.specs.declared.outliers.Outlier.{Outlier}
 
 -- a home is in one of the memory blades
@@ -19,9 +19,9 @@ numbered blade limit (Some n) lt = lt
 home-within : (blade limit : ℕ) (memories : List MemoryPlan) (page : PageView) → limit ≡ blade + length memories → IfSome (home_from blade memories page) (λ place. place.0 < limit)
 home-within blade limit [] page e = tt
 home-within blade limit (m ∷ memories) page e =
-    let chosen = λ (b : Bool). IfSome (cond b (option_map (λ n. (blade, n)) (place_in m.homes page)) (home_from (blade + 1) memories page)) (λ place. place.0 < limit) in
-    elim (cases_Bool (is_some (place_in m.homes page))) [
-      | inl t ↦ subst chosen (sym t) (numbered blade limit (place_in m.homes page) (omega arith))
+    let chosen = λ (b : Bool). IfSome (cond b (option_map (λ n. (blade, n)) (number_in_homes m.homes page)) (home_from (blade + 1) memories page)) (λ place. place.0 < limit) in
+    elim (cases_Bool (is_some (number_in_homes m.homes page))) [
+      | inl t ↦ subst chosen (sym t) (numbered blade limit (number_in_homes m.homes page) (omega arith))
       | inr f ↦ subst chosen (sym f) (home-within (blade + 1) limit memories page (omega arith))
     ]
 
@@ -49,7 +49,7 @@ placed limit o page None h k = tt
 placed limit None page (Some home) h k = k
 placed limit (Some o) page (Some home) h k = h
 
-pub place-within : (memories : List MemoryPlan) (outliers : List Outlier) (page : PageView) → AllByRecursion (λ o. o.memory < length memories) outliers → IfSome (place_of memories outliers page) (λ place. place.0 < length memories)
+pub place-within : (memories : List MemoryPlan) (outliers : List Outlier) (page : PageView) → AllByRecursion (λ o. o.memory < length memories) outliers → IfSome (physical_place memories outliers page) (λ place. place.0 < length memories)
 place-within memories outliers page h =
     placed (length memories) (smallest_of outliers page) page (home_of memories page)
     (smallest-keeps (λ o. o.memory < length memories) outliers page h)

@@ -10,8 +10,8 @@ use Rattle.wire_msg.specs.declared.msgs.Msg.{Msg}
 use Rattle.switch_core.specs.Invariant.{IsSwitch}
 use Rattle.switch_core.specs.Sending.{IsSendable, Start, Comes, start_at}
 use Rattle.switch_core.specs.Serving.{treated_if, treated_next, over, first_pass, one_pass, passes, IsServed, Serves}
-use Rattle.switch_core.specs.Standing.{left_to_do, Tells, InPass}
-use Rattle.switch_core.specs.Switch.{SwitchView, Effect, only, and_then}
+use Rattle.switch_core.specs.Standing.{left_to_do, PassTells, InPass}
+use Rattle.switch_core.specs.Switch.{SwitchView, SwitchEffect, only, and_then}
 use Rattle.switch_core.specs.Treating.{Pass}
 use Rattle.switch_core.specs.declared.stands.Stand.{Stand}
 use Rattle.switch_core.proofs.Lists.{all-append}
@@ -53,14 +53,14 @@ pub come-more : (start : Start) (left : ℕ) (s s' : SwitchView) (stand stand' :
 come-more start left s s' stand stand' o o' n n' lt h goes =
     record { pass = treated_next h.pass; inside = goes start h.pass h.inside; rest = sym (over-next left h.pass lt) ∙ h.rest }
 
-pub come-end : (start : Start) (left : ℕ) (s : SwitchView) (stand : Stand) (o : List (LinkName × Msg)) (n : List Note) → left ≡ 0 → HasCome start left s stand o n → Comes start (one_pass start.switch) s o n × Tells stand.changed start.switch (one_pass start.switch)
+pub come-end : (start : Start) (left : ℕ) (s : SwitchView) (stand : Stand) (o : List (LinkName × Msg)) (n : List Note) → left ≡ 0 → HasCome start left s stand o n → Comes start (one_pass start.switch) s o n × PassTells stand.changed start.switch (one_pass start.switch)
 come-end start left s stand o n z h =
     let end : h.pass.done ≡ one_pass start.switch = ap (λ (k : ℕ). (over k h.pass).done) (sym z) ∙ ap (λ (p : Pass). p.done) h.rest in
-    (subst (λ (e : Effect). Comes start e s o n) end h.inside.comes, subst (λ (e : Effect). Tells stand.changed start.switch e) end h.inside.tells)
+    (subst (λ (e : SwitchEffect). Comes start e s o n) end h.inside.comes, subst (λ (e : SwitchEffect). PassTells stand.changed start.switch e) end h.inside.tells)
 
 -- ---- passes
 
-pub comes-on : (start : Start) (done : Effect) (change : SwitchView → Effect) (s s' : SwitchView) (o o' : List (LinkName × Msg)) (n n' : List Note) → Comes start done s o n → Comes (start_at s o n) (change s) s' o' n' → Comes start (and_then done change) s' o' n'
+pub comes-on : (start : Start) (done : SwitchEffect) (change : SwitchView → SwitchEffect) (s s' : SwitchView) (o o' : List (LinkName × Msg)) (n n' : List Note) → Comes start done s o n → Comes (start_at s o n) (change s) s' o' n' → Comes start (and_then done change) s' o' n'
 comes-on start done change s s' o o' n n' h k = record {
   after = k.after ∙ ap (λ (x : SwitchView). (change x).switch) h.after;
   sent = k.sent ∙ ap (λ (x : SwitchView). o ++ (change x).sent) h.after ∙ ap (λ (x : List (LinkName × Msg)). x ++ (change done.switch).sent) h.sent ∙ append_assoc start.out done.sent (change done.switch).sent;
@@ -72,7 +72,7 @@ comes-on start done change s s' o o' n n' h k = record {
   allowed = λ all. k.allowed (h.allowed all);
 }
 
-passes-more : (n : ℕ) (first : Effect) → passes (suc n) first ≡ and_then (passes n first) one_pass
+passes-more : (n : ℕ) (first : SwitchEffect) → passes (suc n) first ≡ and_then (passes n first) one_pass
 passes-more zero first = refl
 passes-more (suc n) first = passes-more n (and_then first one_pass)
 
@@ -81,40 +81,40 @@ abbrev pub Ends : Bool → SwitchView → Type 0
 Ends true s = Unit {0}
 Ends false s = IsServed s
 
-pub record HasServed (start : Start) (first : Effect) (changed : Bool) (s : SwitchView) (o : List (LinkName × Msg)) (n : List Note) : Type 0 where
+pub record HasServed (start : Start) (first : SwitchEffect) (changed : Bool) (s : SwitchView) (o : List (LinkName × Msg)) (n : List Note) : Type 0 where
   pub count : ℕ
   pub comes : Comes start (passes count first) s o n
   pub ends : Ends changed s
 
-pub served-first : (start : Start) (first : Effect) (s : SwitchView) (o : List (LinkName × Msg)) (n : List Note) → Comes start first s o n → HasServed start first true s o n
+pub served-first : (start : Start) (first : SwitchEffect) (s : SwitchView) (o : List (LinkName × Msg)) (n : List Note) → Comes start first s o n → HasServed start first true s o n
 served-first start first s o n h = record { count = 0; comes = h; ends = tt }
 
 -- a pass that changed nothing left the switch as it was
 pub unchanged-is : (s s' : SwitchView) (o o' : List (LinkName × Msg)) (n n' : List Note) → Comes (start_at s o n) (one_pass s) s' o' n' → one_pass s ≡ only s → s' ≡ s
-unchanged-is s s' o o' n n' h e = h.after ∙ ap (λ (x : Effect). x.switch) e
+unchanged-is s s' o o' n n' h e = h.after ∙ ap (λ (x : SwitchEffect). x.switch) e
 
-ends-after : (changed : Bool) (s s' : SwitchView) (o o' : List (LinkName × Msg)) (n n' : List Note) → Comes (start_at s o n) (one_pass s) s' o' n' → Tells changed s (one_pass s) → Ends changed s'
+ends-after : (changed : Bool) (s s' : SwitchView) (o o' : List (LinkName × Msg)) (n n' : List Note) → Comes (start_at s o n) (one_pass s) s' o' n' → PassTells changed s (one_pass s) → Ends changed s'
 ends-after true s s' o o' n n' h t = tt
 ends-after false s s' o o' n n' h t = subst (λ (x : SwitchView). IsServed x) (sym (unchanged-is s s' o o' n n' h t)) t
 
 -- so what was true of it is true still
-pub switch-after : (changed : Bool) (s s' : SwitchView) (o o' : List (LinkName × Msg)) (n n' : List Note) → Comes (start_at s o n) (one_pass s) s' o' n' → Tells changed s (one_pass s) → IsSwitch s → changed ≡ false → IsSwitch s'
+pub switch-after : (changed : Bool) (s s' : SwitchView) (o o' : List (LinkName × Msg)) (n n' : List Note) → Comes (start_at s o n) (one_pass s) s' o' n' → PassTells changed s (one_pass s) → IsSwitch s → changed ≡ false → IsSwitch s'
 switch-after true s s' o o' n n' h t is e = let never : ⊥ = cc in absurd never
 switch-after false s s' o o' n n' h t is e = subst IsSwitch (sym (unchanged-is s s' o o' n n' h t)) is
 
-pub served-more : (start : Start) (first : Effect) (was changed : Bool) (s s' : SwitchView) (o o' : List (LinkName × Msg)) (n n' : List Note) → HasServed start first was s o n → Comes (start_at s o n) (one_pass s) s' o' n' → Tells changed s (one_pass s) → HasServed start first changed s' o' n'
+pub served-more : (start : Start) (first : SwitchEffect) (was changed : Bool) (s s' : SwitchView) (o o' : List (LinkName × Msg)) (n n' : List Note) → HasServed start first was s o n → Comes (start_at s o n) (one_pass s) s' o' n' → PassTells changed s (one_pass s) → HasServed start first changed s' o' n'
 served-more start first was changed s s' o o' n n' h k t = record {
   count = suc h.count;
-  comes = subst (λ (e : Effect). Comes start e s' o' n') (sym (passes-more h.count first)) (comes-on start (passes h.count first) one_pass s s' o o' n n' h.comes k);
+  comes = subst (λ (e : SwitchEffect). Comes start e s' o' n') (sym (passes-more h.count first)) (comes-on start (passes h.count first) one_pass s s' o o' n n' h.comes k);
   ends = ends-after changed s s' o o' n n' k t;
 }
 
-pub served-end : (start : Start) (first : Effect) (changed : Bool) (s : SwitchView) (o : List (LinkName × Msg)) (n : List Note) → changed ≡ false → HasServed start first changed s o n → (last : Effect) × Serves first last × Comes start last s o n
+pub served-end : (start : Start) (first : SwitchEffect) (changed : Bool) (s : SwitchView) (o : List (LinkName × Msg)) (n : List Note) → changed ≡ false → HasServed start first changed s o n → (last : SwitchEffect) × Serves first last × Comes start last s o n
 served-end start first changed s o n e h =
     let served : IsServed s = subst (λ (b : Bool). Ends b s) e h.ends in
     (passes h.count first, (h.count, refl, subst (λ (x : SwitchView). IsServed x) h.comes.after served), h.comes)
 
 -- each pass but the last leaves less to do
-pub falls : (changed : Bool) (s s' : SwitchView) (o o' : List (LinkName × Msg)) (n n' : List Note) → Comes (start_at s o n) (one_pass s) s' o' n' → Tells changed s (one_pass s) → left_to_do s' + cond changed 1 0 < left_to_do s + 1
+pub falls : (changed : Bool) (s s' : SwitchView) (o o' : List (LinkName × Msg)) (n n' : List Note) → Comes (start_at s o n) (one_pass s) s' o' n' → PassTells changed s (one_pass s) → left_to_do s' + cond changed 1 0 < left_to_do s + 1
 falls true s s' o o' n n' h t = let same : left_to_do s' ≡ left_to_do (one_pass s).switch = ap left_to_do h.after in omega (arith, same, t)
 falls false s s' o o' n n' h t = let same : left_to_do s' ≡ left_to_do s = ap left_to_do (unchanged-is s s' o o' n n' h t) in omega (arith, same)

@@ -16,12 +16,13 @@ use Rattle.mind_base.specs.declared.links.LinkName.{LinkName}
 use Rattle.mind_base.specs.declared.notes.State.{State}
 use Rattle.mind_base.specs.declared.notes.State.TheVariants.{I, S, M}
 use Rattle.mind_base.specs.declared.plans.RackPlan.{RackPlan}
+use Rattle.mind_base.specs.Permission.{allows}
 use Rattle.invalidate_multicast.specs.Blades.{has_blade, without_blade, cast_to, casts_of}
 use Rattle.invalidate_multicast.specs.Transition.{is_answered}
 use Rattle.protect_table.specs.Protect.{permission_at}
-use Rattle.range_translate.specs.Place.{place_of as place_among}
+use Rattle.range_translate.specs.Place.{physical_place as place_among}
 use Rattle.region_directory.specs.Directory.{DirectoryView}
-use Rattle.region_directory.specs.Entry.{changed_at, in_state, with_busy, fresh_entry, place_of}
+use Rattle.region_directory.specs.Entry.{changed_at, in_state, with_busy, fresh_entry, entry_place}
 use Rattle.region_directory.specs.declared.entries.Busy.{Busy}
 use Rattle.region_directory.specs.declared.entries.Entry.{Entry}
 use Rattle.request_list.specs.Requests.{fetching_at}
@@ -32,17 +33,17 @@ use Rattle.wire_msg.specs.declared.msgs.Msg.TheVariants.{Inv}
 use Rattle.switch_core.specs.Invariant.{IsFitState, IsFitEntry, IsFitRequest, IsSwitch}
 use Rattle.switch_core.specs.Sending.{AreFetchesAllowed, IsSendable, Stays}
 use Rattle.switch_core.specs.Standing.{left_to_do}
-use Rattle.switch_core.specs.Switch.{SwitchView, Effect, with_entries, with_requests, place_in, to_blade}
-use Rattle.switch_core.specs.Treating.{holders, granted_state, left_to, allows, without_request, denied, granted, reading, begun, cleared, invalidated, lowered, invalidations, entered, dropped}
+use Rattle.switch_core.specs.Switch.{SwitchView, SwitchEffect, with_entries, with_requests, place_in, to_blade}
+use Rattle.switch_core.specs.Treating.{holders, granted_state, left_to, without_request, denied_request, granted, reading, with_transition, cleared, invalidated, lowered, invalidations, entered, dropped}
 use Rattle.switch_core.proofs.Lists.{all-at, all-insert, all-remove, all-filter, all-changed, all-fetching, waiting-fetching, waiting-without, idle-state, under-state, idle-busy, under-busy, idle-remove, under-remove, idle-insert, under-insert}
 use Rattle.switch_core.proofs.Places.{place-within}
-use Rattle.switch_core.proofs.Sets.{with_blade-fits, with_blade-some, power-some, power-fits, has_blade-below, without-le}
+use Rattle.invalidate_multicast.proofs.Sets.{with_blade-fits, with_blade-some, power-some, power-fits, has_blade-below, without-le}
 
 -- what the request fetches is allowed
 abbrev pub IsAllowed : SwitchView → Request → Type 0
 IsAllowed s r = r.fetching ≡ true → allows r.write (permission_at s.protect r.page) ≡ true
 
-pub record Safe (old : SwitchView) (new : Effect) : Type 0 where
+pub record Safe (old : SwitchView) (new : SwitchEffect) : Type 0 where
   pub switch : IsSwitch new.switch
   pub sendable : AllByRecursion (IsSendable old.plan) new.sent
   pub stays : Stays old new.switch
@@ -133,9 +134,9 @@ switch-entries s es last h le k w = record { plan = h.plan; homes = h.homes; out
 pub count-changed : (s : SwitchView) (i : ℕ) (change : Entry → Entry) → IsSwitch s → length (changed_at i change s.directory.entries) ≤ s.directory.slots
 count-changed s i change h = omega (arith, length-changed i change s.directory.entries, h.fits)
 
-count-entered : (s : SwitchView) (range : RangeView) → length s.directory.entries < s.directory.slots → length (insert s.directory.entries (place_of s.directory.entries range) (fresh_entry range)) ≤ s.directory.slots
+count-entered : (s : SwitchView) (range : RangeView) → length s.directory.entries < s.directory.slots → length (insert s.directory.entries (entry_place s.directory.entries range) (fresh_entry range)) ≤ s.directory.slots
 count-entered s range space =
-    omega (arith, length-insert s.directory.entries (place_of s.directory.entries range) (fresh_entry range) (count_by-le-length (λ entry. is_before entry.range range) s.directory.entries), space)
+    omega (arith, length-insert s.directory.entries (entry_place s.directory.entries range) (fresh_entry range) (count_by-le-length (λ entry. is_before entry.range range) s.directory.entries), space)
 
 count-dropped : (s : SwitchView) (i : ℕ) (entry : Entry) → IsSwitch s → slice_get s.directory.entries i ≡ Some entry → length (remove s.directory.entries i) ≤ s.directory.slots
 count-dropped s i entry h found =
@@ -169,7 +170,7 @@ entries-busy s i entry busy h found target =
 
 -- ---- each change
 
-pub safe-denied : (s : SwitchView) (r : Request) (at : ℕ) → IsSwitch s → slice_get s.requests at ≡ Some r → Safe s (denied r s)
+pub safe-denied : (s : SwitchView) (r : Request) (at : ℕ) → IsSwitch s → slice_get s.requests at ≡ Some r → Safe s (denied_request r s)
 safe-denied s r at h place =
     let n = length s.plan.frames in
     let blade : r.blade < n = (all-at (IsFitRequest n) s.requests at r h.requests place).blade in
@@ -180,7 +181,7 @@ safe-denied s r at h place =
       allowed = all-filter (IsAllowed s) _ s.requests;
     }
 
-pub less-denied : (s : SwitchView) (r : Request) (at : ℕ) → slice_get s.requests at ≡ Some r → r.fetching ≡ false → left_to_do (denied r s).switch < left_to_do s
+pub less-denied : (s : SwitchView) (r : Request) (at : ℕ) → slice_get s.requests at ≡ Some r → r.fetching ≡ false → left_to_do (denied_request r s).switch < left_to_do s
 less-denied s r at place waits = omega (arith, waiting-without s.requests at r place waits)
 
 granted-switch : (s : SwitchView) (r : Request) (at i : ℕ) (entry : Entry) → IsSwitch s → slice_get s.requests at ≡ Some r → slice_get s.directory.entries i ≡ Some entry → IsSwitch (granted r at i entry s).switch
@@ -211,7 +212,7 @@ pub less-granted : (s : SwitchView) (r : Request) (at i : ℕ) (entry : Entry) �
 less-granted s r at i entry place waits =
     omega (arith, waiting-fetching s.requests at r place waits, idle-state s.directory.entries i (granted_state r.write r.blade entry.state))
 
-pub safe-begun : (s : SwitchView) (i : ℕ) (entry : Entry) (busy : Busy) (messages : List (LinkName × Msg)) → IsSwitch s → slice_get s.directory.entries i ≡ Some entry → entry.busy ≡ None → IsFitState (length s.plan.frames) busy.target → busy.waiting ≢ 0 → busy.number ≡ s.last + 1 → AllByRecursion (IsSendable s.plan) messages → Safe s (begun i busy messages s)
+pub safe-begun : (s : SwitchView) (i : ℕ) (entry : Entry) (busy : Busy) (messages : List (LinkName × Msg)) → IsSwitch s → slice_get s.directory.entries i ≡ Some entry → entry.busy ≡ None → IsFitState (length s.plan.frames) busy.target → busy.waiting ≢ 0 → busy.number ≡ s.last + 1 → AllByRecursion (IsSendable s.plan) messages → Safe s (with_transition i busy messages s)
 safe-begun s i entry busy messages h found idle target some number sendable = record {
   switch = switch-entries s (changed_at i (with_busy (Some busy)) s.directory.entries) busy.number h (count-changed s i (with_busy (Some busy)) h) (entries-busy s i entry busy h found target) (waits-busy s i entry busy h found some);
   sendable = sendable;
@@ -219,7 +220,7 @@ safe-begun s i entry busy messages h found idle target some number sendable = re
   allowed = λ all. all;
 }
 
-pub less-begun : (s : SwitchView) (i : ℕ) (entry : Entry) (busy : Busy) (messages : List (LinkName × Msg)) → slice_get s.directory.entries i ≡ Some entry → entry.busy ≡ None → left_to_do (begun i busy messages s).switch < left_to_do s
+pub less-begun : (s : SwitchView) (i : ℕ) (entry : Entry) (busy : Busy) (messages : List (LinkName × Msg)) → slice_get s.directory.entries i ≡ Some entry → entry.busy ≡ None → left_to_do (with_transition i busy messages s).switch < left_to_do s
 less-begun s i entry busy messages found idle = omega (arith, idle-busy s.directory.entries i entry busy found idle)
 
 pub less-cleared : (s : SwitchView) (i : ℕ) (entry : Entry) → slice_get s.directory.entries i ≡ Some entry → entry.busy ≡ None → left_to_do (cleared i entry s).switch < left_to_do s
@@ -258,15 +259,15 @@ safe-lowered s r owner i entry h found idle lt has =
 
 pub safe-entered : (s : SwitchView) (range : RangeView) → IsSwitch s → length s.directory.entries < s.directory.slots → Safe s (entered range s)
 safe-entered s range h space = record {
-  switch = switch-entries s _ s.last h (count-entered s range space) (all-insert (IsFitEntry (length s.plan.frames)) s.directory.entries (place_of s.directory.entries range) (fresh_entry range) h.entries (record { state = tt; target = tt }))
-      (all-insert Waits s.directory.entries (place_of s.directory.entries range) (fresh_entry range) h.waits refl);
+  switch = switch-entries s _ s.last h (count-entered s range space) (all-insert (IsFitEntry (length s.plan.frames)) s.directory.entries (entry_place s.directory.entries range) (fresh_entry range) h.entries (record { state = tt; target = tt }))
+      (all-insert Waits s.directory.entries (entry_place s.directory.entries range) (fresh_entry range) h.waits refl);
   sendable = tt;
-  stays = record { plan = refl; slots = refl; numbers = ap (λ n. s.last + n) (sym (under-insert s.directory.entries (place_of s.directory.entries range) (fresh_entry range) refl)) };
+  stays = record { plan = refl; slots = refl; numbers = ap (λ n. s.last + n) (sym (under-insert s.directory.entries (entry_place s.directory.entries range) (fresh_entry range) refl)) };
   allowed = λ all. all;
 }
 
 pub more-entered : (s : SwitchView) (range : RangeView) → left_to_do (entered range s).switch ≡ left_to_do s + 1
-more-entered s range = omega (arith, idle-insert s.directory.entries (place_of s.directory.entries range) (fresh_entry range) refl)
+more-entered s range = omega (arith, idle-insert s.directory.entries (entry_place s.directory.entries range) (fresh_entry range) refl)
 
 pub safe-dropped : (s : SwitchView) (i : ℕ) (entry : Entry) → IsSwitch s → slice_get s.directory.entries i ≡ Some entry → entry.busy ≡ None → Safe s (dropped i entry s)
 safe-dropped s i entry h found idle = record {

@@ -6,13 +6,13 @@ use Rattle.mind_base.specs.declared.links.LinkKind.TheVariants.{Up, Down, To, Fr
 use Rattle.mind_base.specs.declared.links.LinkName.{LinkName}
 use Rattle.mind_base.specs.declared.notes.Note.{Note}
 use Rattle.mind_base.specs.declared.plans.RackPlan.{RackPlan}
+use Rattle.mind_base.specs.Permission.{allows}
 use Rattle.protect_table.specs.Protect.{permission_at}
 use Rattle.region_directory.specs.declared.entries.Busy.{Busy}
 use Rattle.region_directory.specs.declared.entries.Entry.{Entry}
 use Rattle.wire_msg.specs.WellFormed.{FieldsAgree}
 use Rattle.wire_msg.specs.declared.msgs.Msg.{Msg}
-use Rattle.switch_core.specs.Switch.{SwitchView, Effect}
-use Rattle.switch_core.specs.Treating.{allows}
+use Rattle.switch_core.specs.Switch.{SwitchView, SwitchEffect}
 
 -- the link leads down to a compute blade of the plan, or to one of its memory blades
 abbrev pub LeadsOut : RackPlan → LinkKind → ℕ → Type 0
@@ -46,7 +46,7 @@ AreFetchesAllowed switch = AllByRecursion (λ r. r.fetching ≡ true → allows 
 
 -- The switch, the messages and the notes are those of the effect. Where what is fetched is allowed, it sends
 -- nothing but what may be sent, and what is fetched then is allowed too.
-pub record Comes (start : Start) (effect : Effect) (switch : SwitchView) (out : List (LinkName × Msg)) (notes : List Note) : Type 0 where
+pub record Comes (start : Start) (effect : SwitchEffect) (switch : SwitchView) (out : List (LinkName × Msg)) (notes : List Note) : Type 0 where
   pub after : switch ≡ effect.switch
   pub sent : out ≡ start.out ++ effect.sent
   pub noted : notes ≡ start.notes ++ effect.noted
@@ -76,7 +76,7 @@ pub record Stays (old new : SwitchView) : Type 0 where
   pub numbers : new.last + under_way old.directory.entries ≡ old.last + under_way new.directory.entries
 
 -- and the messages and notes begin with what was there
-pub record Keeps (start : Start) (switch : SwitchView) (out : List (LinkName × Msg)) (notes : List Note) : Type 0 where
+pub record KeepsStart (start : Start) (switch : SwitchView) (out : List (LinkName × Msg)) (notes : List Note) : Type 0 where
   pub stays : Stays start.switch switch
   pub sent : Begins start.out out
   pub noted : Begins start.notes notes

@@ -1,7 +1,7 @@
 -- The switch serves: it goes over the waiting requests until a pass changes nothing.
 use Rattle.std.specs.Prelude.{◌≡◌, ℕ, zero, suc, false, length, Option, Some, None, slice_get}
 use Rattle.request_list.specs.declared.requests.Request.{Request}
-use Rattle.switch_core.specs.Switch.{SwitchView, Effect, only, and_then}
+use Rattle.switch_core.specs.Switch.{SwitchView, SwitchEffect, only, and_then}
 use Rattle.switch_core.specs.Treating.{Pass, treated}
 
 -- the request that comes next in a pass is treated
@@ -22,11 +22,11 @@ abbrev pub first_pass : SwitchView → Pass
 first_pass switch = record { done = only switch; at = 0; blocked = false }
 
 -- one pass over all requests in order of arrival
-abbrev pub one_pass : SwitchView → Effect
+abbrev pub one_pass : SwitchView → SwitchEffect
 one_pass switch = (over (length switch.requests) (first_pass switch)).done
 
 -- so many passes
-abbrev pub passes : ℕ → Effect → Effect
+abbrev pub passes : ℕ → SwitchEffect → SwitchEffect
 passes zero done = done
 passes (suc n) done = passes n (and_then done one_pass)
 
@@ -35,5 +35,5 @@ abbrev pub IsServed : SwitchView → Type 0
 IsServed switch = one_pass switch ≡ only switch
 
 -- the switch has served after what was done first
-abbrev pub Serves : Effect → Effect → Type 0
+abbrev pub Serves : SwitchEffect → SwitchEffect → Type 0
 Serves first last = (n : ℕ) × (last ≡ passes n first) × IsServed last.switch

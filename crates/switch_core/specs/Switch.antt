@@ -6,7 +6,7 @@ use Rattle.mind_base.specs.declared.links.LinkName.{LinkName}
 use Rattle.mind_base.specs.declared.notes.Note.{Note}
 use Rattle.mind_base.specs.declared.plans.RackPlan.{RackPlan}
 use Rattle.protect_table.specs.Protect.{ProtectView}
-use Rattle.range_translate.specs.Place.{place_of}
+use Rattle.range_translate.specs.Place.{physical_place}
 use Rattle.range_translate.specs.Table.{TableView}
 use Rattle.region_directory.specs.Directory.{DirectoryView}
 use Rattle.region_directory.specs.declared.entries.Entry.{Entry}
@@ -31,22 +31,22 @@ with_requests switch requests = record switch { requests = requests }
 
 -- the place of a page, as the memory blade and the physical number there
 abbrev pub place_in : SwitchView → PageView → Option (ℕ × ℕ)
-place_in switch page = place_of switch.table.homes switch.table.outliers page
+place_in switch page = physical_place switch.table.homes switch.table.outliers page
 
 -- ---- what a call does
 
 -- the switch after a call, the messages that it sent, each with its link, and the notes that it made
-pub record Effect : Type 0 where
+pub record SwitchEffect : Type 0 where
   pub switch : SwitchView
   pub sent : List (LinkName × Msg)
   pub noted : List Note
 
 -- nothing is sent, and nothing noted
-abbrev pub only : SwitchView → Effect
+abbrev pub only : SwitchView → SwitchEffect
 only switch = record { switch = switch; sent = []; noted = [] }
 
 -- one thing after another
-abbrev pub and_then : Effect → (SwitchView → Effect) → Effect
+abbrev pub and_then : SwitchEffect → (SwitchView → SwitchEffect) → SwitchEffect
 and_then first next = record {
   switch = (next first.switch).switch;
   sent = first.sent ++ (next first.switch).sent;

@@ -3,16 +3,15 @@ use Rattle.std.specs.Prelude.{ℕ, ◌+◌, ◌^◌, ◌==◌, Bool, true, false
 use Rattle.std.specs.List.{list_any}
 use Rattle.mind_base.specs.Page.{PageView}
 use Rattle.mind_base.specs.Range.{RangeView, in_range}
-use Rattle.mind_base.specs.declared.commands.Perm.{Perm}
-use Rattle.mind_base.specs.declared.commands.Perm.TheVariants.{No, R, Rw}
 use Rattle.mind_base.specs.declared.links.LinkName.{LinkName}
 use Rattle.mind_base.specs.declared.notes.Note.{Note}
 use Rattle.mind_base.specs.declared.notes.Note.TheVariants as note
 use Rattle.mind_base.specs.declared.notes.State.{State}
 use Rattle.mind_base.specs.declared.notes.State.TheVariants.{I, S, M}
-use Rattle.invalidate_multicast.specs.Blades.{has_blade, without_blade, casts_of}
+use Rattle.mind_base.specs.Permission.{allows}
+use Rattle.invalidate_multicast.specs.Blades.{has_blade, with_blade, without_blade, casts_of}
 use Rattle.protect_table.specs.Protect.{permission_at}
-use Rattle.region_directory.specs.Entry.{in_state, with_busy, changed_at, fresh_entry, largest_free, place_of}
+use Rattle.region_directory.specs.Entry.{in_state, with_busy, changed_at, fresh_entry, largest_free, entry_place}
 use Rattle.region_directory.specs.Room.{room_of}
 use Rattle.region_directory.specs.declared.entries.Busy.{Busy}
 use Rattle.region_directory.specs.declared.entries.Entry.{Entry}
@@ -22,13 +21,13 @@ use Rattle.request_list.specs.Requests.{is_of, fetched_pages, fetching_at}
 use Rattle.request_list.specs.declared.requests.Request.{Request}
 use Rattle.wire_msg.specs.declared.msgs.Msg.{Msg}
 use Rattle.wire_msg.specs.declared.msgs.Msg.TheVariants.{Deny, Inv, Lower, Read}
-use Rattle.switch_core.specs.Switch.{SwitchView, Effect, with_entries, with_requests, place_in, only, and_then, to_blade, to_memory}
+use Rattle.switch_core.specs.Switch.{SwitchView, SwitchEffect, with_entries, with_requests, place_in, only, and_then, to_blade, to_memory}
 
 -- ---- a pass over the requests
 
 -- what was done so far, the place of the request that comes next, and whether room is waited for
 pub record Pass : Type 0 where
-  pub done : Effect
+  pub done : SwitchEffect
   pub at : ℕ
   pub blocked : Bool
 
@@ -41,14 +40,10 @@ abbrev pub blocks : Pass → Pass
 blocks pass = record pass { at = pass.at + 1; blocked = true }
 
 -- something is done, and the next request stands behind this one, or in its place
-abbrev pub does : (SwitchView → Effect) → Pass → Pass
+abbrev pub does : (SwitchView → SwitchEffect) → Pass → Pass
 does change pass = record pass { done = and_then pass.done change }
 
 -- ---- states
-
--- the set with one blade more
-abbrev pub with_blade : ℕ → ℕ → ℕ
-with_blade blades blade = if has_blade blades blade then blades else blades + 2 ^ blade
 
 -- the blades that a state names
 abbrev pub holders : State → ℕ
@@ -83,12 +78,6 @@ same_state (M owner) (M other) = owner == other
 
 -- ---- a request is denied
 
--- the permission lets the page be read, or written
-abbrev pub allows : Bool → Perm → Bool
-allows write No = false
-allows write R = not write
-allows write Rw = true
-
 abbrev pub is_denied : SwitchView → Request → Bool
 is_denied switch r = not (allows r.write (permission_at switch.protect r.page))
 
@@ -96,8 +85,8 @@ is_denied switch r = not (allows r.write (permission_at switch.protect r.page))
 abbrev pub without_request : Request → List Request → List Request
 without_request r requests = filter (λ q. not (is_of r.blade r.page q)) requests
 
-abbrev pub denied : Request → SwitchView → Effect
-denied r switch = record {
+abbrev pub denied_request : Request → SwitchView → SwitchEffect
+denied_request r switch = record {
   switch = with_requests switch (without_request r switch.requests);
   sent = to_blade r.blade (Deny r.page) ∷ [];
   noted = [];
@@ -115,7 +104,7 @@ reading r None = []
 reading r (Some place) = to_memory place.0 (Read place.1 (Some r.blade) r.page) ∷ []
 
 -- the request at this place fetches its page, and its blade is named by entry number i
-abbrev pub granted : Request → ℕ → ℕ → Entry → SwitchView → Effect
+abbrev pub granted : Request → ℕ → ℕ → Entry → SwitchView → SwitchEffect
 granted r at i entry switch = record {
   switch = with_requests
       (with_entries switch (changed_at i (in_state (granted_state r.write r.blade entry.state)) switch.directory.entries))
@@ -131,16 +120,16 @@ abbrev pub invalidations : ℕ → RangeView → Option PageView → ℕ → Lis
 invalidations number range asked blades = map (λ cast. to_blade cast.blade (Inv number range asked)) (casts_of blades)
 
 -- a transition of entry number i with the next number
-abbrev pub begun : ℕ → Busy → List (LinkName × Msg) → SwitchView → Effect
-begun i busy messages switch = record {
+abbrev pub with_transition : ℕ → Busy → List (LinkName × Msg) → SwitchView → SwitchEffect
+with_transition i busy messages switch = record {
   switch = record (with_entries switch (changed_at i (with_busy (Some busy)) switch.directory.entries)) { last = busy.number };
   sent = messages;
   noted = [];
 }
 
 -- all holders give up what they hold of the block, to make room
-abbrev pub cleared : ℕ → Entry → SwitchView → Effect
-cleared i entry switch = begun i
+abbrev pub cleared : ℕ → Entry → SwitchView → SwitchEffect
+cleared i entry switch = with_transition i
     (record { number = switch.last + 1; waiting = holders entry.state; target = I; for_room = true })
     (invalidations (switch.last + 1) entry.range None (holders entry.state)) switch
 
@@ -150,19 +139,19 @@ left_to blade I = I
 left_to blade (S sharers) = if has_blade sharers blade then S (2 ^ blade) else I
 left_to blade (M owner) = I
 
-abbrev pub invalidated : Request → ℕ → Entry → SwitchView → Effect
-invalidated r i entry switch = begun i
+abbrev pub invalidated : Request → ℕ → Entry → SwitchView → SwitchEffect
+invalidated r i entry switch = with_transition i
     (record { number = switch.last + 1; waiting = without_blade (holders entry.state) r.blade; target = left_to r.blade entry.state; for_room = false })
     (invalidations (switch.last + 1) entry.range (Some r.page) (without_blade (holders entry.state) r.blade)) switch
 
 -- for a read the owner stays a sharer, and may write no longer
-abbrev pub lowered : Request → ℕ → ℕ → Entry → SwitchView → Effect
-lowered r owner i entry switch = begun i
+abbrev pub lowered : Request → ℕ → ℕ → Entry → SwitchView → SwitchEffect
+lowered r owner i entry switch = with_transition i
     (record { number = switch.last + 1; waiting = 2 ^ owner; target = S (2 ^ owner); for_room = false })
     (to_blade owner (Lower (switch.last + 1) entry.range r.page) ∷ []) switch
 
 -- a read needs a transition in M alone, a write wherever another blade is named
-abbrev pub changed_for : Request → State → ℕ → Entry → SwitchView → Effect
+abbrev pub changed_for : Request → State → ℕ → Entry → SwitchView → SwitchEffect
 changed_for r I i entry switch = only switch
 changed_for r (S sharers) i entry switch = invalidated r i entry switch
 changed_for r (M owner) i entry switch = if r.write then invalidated r i entry switch else lowered r owner i entry switch
@@ -191,9 +180,9 @@ at_entry r i pass = with_entry r i (slice_get pass.done.switch.directory.entries
 -- ---- a request whose page has none
 
 -- an entry for a block is put in its place, and nobody holds a page of it
-abbrev pub entered : RangeView → SwitchView → Effect
+abbrev pub entered : RangeView → SwitchView → SwitchEffect
 entered range switch = record {
-  switch = with_entries switch (insert switch.directory.entries (place_of switch.directory.entries range) (fresh_entry range));
+  switch = with_entries switch (insert switch.directory.entries (entry_place switch.directory.entries range) (fresh_entry range));
   sent = [];
   noted = note.Region range I ∷ [];
 }
@@ -205,11 +194,11 @@ new_range page switch = largest_free switch.directory.entries page switch.plan.r
 -- the entry is put in, and the request goes on with it
 abbrev pub enters : Request → Pass → Pass
 enters r pass = at_entry r
-    (place_of pass.done.switch.directory.entries (new_range r.page pass.done.switch))
+    (entry_place pass.done.switch.directory.entries (new_range r.page pass.done.switch))
     (does (entered (new_range r.page pass.done.switch)) pass)
 
 -- an entry is dropped
-abbrev pub dropped : ℕ → Entry → SwitchView → Effect
+abbrev pub dropped : ℕ → Entry → SwitchView → SwitchEffect
 dropped i entry switch = record {
   switch = with_entries switch (remove switch.directory.entries i);
   sent = [];
@@ -244,5 +233,5 @@ for_entry r (Some i) pass = at_entry r i pass
 abbrev pub treated : Request → Pass → Pass
 treated r pass =
     if r.fetching then waits pass
-    else (if is_denied pass.done.switch r then does (denied r) pass
+    else (if is_denied pass.done.switch r then does (denied_request r) pass
     else for_entry r (entry_for r.page pass.done.switch.directory.entries) pass)

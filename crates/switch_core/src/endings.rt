@@ -1,3 +1,5 @@
+//! Transitions that have all their answers, ended one by one.
+
 ghost use Rattle.std.specs.Prelude.{◌≡◌, ◌++◌, ◌↔◌, ℕ, false, None, All, Any, IsTrue, OnOk, OnErr, length, map};
 ghost use Rattle.std.specs.List.{AllByRecursion, flat_map};
 ghost use Rattle.invalidate_multicast.specs.Transition.{is_answered, WaitsFor};

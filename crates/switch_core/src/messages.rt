@@ -1,10 +1,12 @@
+//! What the switch sends and notes.
+
 ghost use Rattle.std.specs.Prelude.{◌≡◌, ◌<◌, [], ◌∷◌, ◌++◌, OnOk, OnErr};
 ghost use Rattle.switch_core.specs.Handling.{writing};
 ghost use Rattle.switch_core.specs.Sending.{Begins};
 ghost use Rattle.switch_core.specs.Switch.{to_blade, to_memory};
 ghost use Rattle.switch_core.specs.Treating.{invalidations, noted_change, reading};
 
-use crate::states::is_same;
+use crate::states::same_state;
 use invalidate_multicast::targets;
 use mind_base::{LinkKind, LinkName, Log, NoMemory, Note, Page, Range, State};
 use page_image::PageImage;
@@ -12,8 +14,11 @@ use request_list::Request;
 use std::alloc::Global;
 use wire_msg::Msg;
 
+/// The messages that go out, each with its link.
+pub(crate) type Out = Vec<(LinkName, Msg)>;
+
 /// Puts a message to a compute blade at the end.
-pub fn tell_blade(out: &mut Vec<(LinkName, Msg)>, blade: u8, msg: Msg) -> Result<(), NoMemory>
+pub fn tell_blade(out: &mut Out, blade: u8, msg: Msg) -> Result<(), NoMemory>
     ensures ok { OnOk result (out.new.items ≡ out.old.items ++ to_blade blade msg ∷ []) }
     ensures err { OnErr result (out.new.items ≡ out.old.items) }
 {
@@ -26,7 +31,7 @@ pub fn tell_blade(out: &mut Vec<(LinkName, Msg)>, blade: u8, msg: Msg) -> Result
 }
 
 /// Puts a message to a memory blade at the end.
-pub fn tell_memory(out: &mut Vec<(LinkName, Msg)>, memory: u8, msg: Msg) -> Result<(), NoMemory>
+pub fn tell_memory(out: &mut Out, memory: u8, msg: Msg) -> Result<(), NoMemory>
     ensures ok { OnOk result (out.new.items ≡ out.old.items ++ to_memory memory msg ∷ []) }
     ensures err { OnErr result (out.new.items ≡ out.old.items) }
 {
@@ -41,7 +46,7 @@ pub fn tell_memory(out: &mut Vec<(LinkName, Msg)>, memory: u8, msg: Msg) -> Resu
 /// Tells each blade of the set, by rising number, to give up the pages of a block.
 pub fn tell_all(
     alloc: Global,
-    out: &mut Vec<(LinkName, Msg)>,
+    out: &mut Out,
     number: u32,
     range: &Range,
     asked: &Option<Page>,
@@ -63,11 +68,7 @@ pub fn tell_all(
 }
 
 /// Asks the memory blade where the page lies for it.
-pub fn read_from(
-    out: &mut Vec<(LinkName, Msg)>,
-    r: &Request,
-    place: Option<(u8, u32)>,
-) -> Result<(), NoMemory>
+pub fn read_from(out: &mut Out, r: &Request, place: Option<(u8, u32)>) -> Result<(), NoMemory>
     ensures ok { OnOk result (out.new.items ≡ out.old.items ++ reading r.now place) }
     ensures err { OnErr result (out.new.items ≡ out.old.items) }
 {
@@ -84,11 +85,7 @@ pub fn read_from(
 }
 
 /// Sends the memory blade where the page lies its image.
-pub fn write_to(
-    out: &mut Vec<(LinkName, Msg)>,
-    place: Option<(u8, u32)>,
-    image: PageImage,
-) -> Result<(), NoMemory>
+pub fn write_to(out: &mut Out, place: Option<(u8, u32)>, image: PageImage) -> Result<(), NoMemory>
     ensures ok { OnOk result (out.new.items ≡ out.old.items ++ writing place image) }
     ensures err { OnErr result (out.new.items ≡ out.old.items) }
 {
@@ -104,7 +101,7 @@ pub fn note_change(log: &mut Log, range: &Range, old: State, new: State) -> Resu
     ensures ok { OnOk result (log.new.notes ≡ log.old.notes ++ noted_change range.now old new) }
     ensures err { OnErr result (log.new.notes ≡ log.old.notes) }
 {
-    if is_same(old, new) {
+    if same_state(old, new) {
         return Ok(());
     }
     log.add(Note::Region {

@@ -1,3 +1,5 @@
+//! Where a pass over the requests stands.
+
 ghost use Rattle.std.specs.Prelude.{◌≡◌, ◌+◌, ◌<◌, true};
 
 /// Where a pass over the requests stands: the place of the request that comes next, whether room is

@@ -1,40 +1,11 @@
+//! What a state of an entry grants, and what is left of it.
+
 ghost use Rattle.std.specs.Prelude.{◌≡◌, ◌<◌, ◌^◌};
 ghost use Rattle.switch_core.specs.Invariant.{IsFitState};
-ghost use Rattle.switch_core.specs.Treating.{allows, grants, granted_state, holders, left_to, same_state, with_blade};
+ghost use Rattle.switch_core.specs.Treating.{grants, granted_state, holders, left_to, same_state};
 
-use invalidate_multicast::{is_among, without};
-use mind_base::{Perm, State};
-
-/// Whether the permission lets a page be read, or written.
-pub fn allows(write: bool, perm: Perm) -> bool
-    ensures { result ≡ allows write perm }
-{
-    match perm {
-        Perm::No => false,
-        Perm::R => !write,
-        Perm::Rw => true,
-    }
-}
-
-/// The set of this blade alone.
-pub fn only(blade: u8) -> u8
-    requires { blade < 8 }
-    ensures { result ≡ 2 ^ blade }
-{
-    1 << blade
-}
-
-/// The set with one blade more.
-fn with_blade(blades: u8, blade: u8) -> u8
-    requires { blade < 8 }
-    ensures { result ≡ with_blade blades blade }
-{
-    if is_among(blades, blade) {
-        blades
-    } else {
-        blades + only(blade)
-    }
-}
+use invalidate_multicast::{is_among, only, with_blade, without};
+use mind_base::State;
 
 /// The blades that a state names.
 pub fn holders(state: State) -> u8
@@ -104,7 +75,8 @@ pub fn left_to(blade: u8, state: State) -> State
     }
 }
 
-pub fn is_same(a: State, b: State) -> bool
+/// Whether the states are one.
+pub fn same_state(a: State, b: State) -> bool
     ensures { result ≡ same_state a b }
 {
     match (a, b) {

@@ -1,9 +1,11 @@
+//! The switch: its tables, its directory and its requests, and what a message does.
+
 ghost use Rattle.std.specs.Prelude.{◌≡◌, ◌↔◌, ◌+◌, ◌≤◌, [], length, IfOk, IsTrue, Err, OnErr, OnOk};
 ghost use Rattle.mind_base.specs.Fit.{IsFit};
 ghost use Rattle.mind_base.specs.Permission.{permission_of};
 ghost use Rattle.mind_base.specs.declared.failures.Stop.TheVariants.{Spent};
 ghost use Rattle.protect_table.specs.Protect.{permission_at};
-ghost use Rattle.switch_core.specs.Handling.{IsQuiet, MayCome, Received};
+ghost use Rattle.switch_core.specs.Handling.{IsQuietSwitch, MayComeToSwitch, Received};
 ghost use Rattle.switch_core.specs.Invariant.{IsSpent, IsSwitch};
 ghost use Rattle.switch_core.specs.Sending.{Remains, start_at};
 ghost use Rattle.wire_msg.specs.WellFormed.{FieldsAgree};
@@ -91,7 +93,7 @@ impl SwitchCore {
         out: &mut Vec<(LinkName, Msg)>,
         log: &mut Log,
     ) -> Result<(), Stop>
-        requires may { MayCome self.old from msg }
+        requires may { MayComeToSwitch self.old from msg }
         requires fields { FieldsAgree msg }
         ensures received { Received result from msg (start_at self.old out.old.items log.old.notes) self.new out.new.items log.new.notes }
         ensures remains { Remains self.old self.new }
@@ -105,7 +107,7 @@ impl SwitchCore {
 
     /// Whether no request waits or is fetched, and no transition is under way.
     pub fn quiet(&self) -> bool
-        ensures { IsTrue result ↔ IsQuiet self.now }
+        ensures { IsTrue result ↔ IsQuietSwitch self.now }
     {
         self.requests.len() == 0 && is_idle(&self.directory)
     }

@@ -13,35 +13,35 @@ use Rattle.tso_machine.specs.State.{State}
 use Rattle.mind_base.specs.Place.{place_of, granule_at}
 use Rattle.tso_machine.specs.Memory.{byte_of}
 use Rattle.hart_effect.specs.Access.{Around}
-use Rattle.hart_effect.specs.Deed.{Deed, Alone, Storing, executed, drained}
-use Rattle.tso_machine.specs.Done.{Does, Settles}
+use Rattle.hart_effect.specs.Deed.{Deed, Alone, Storing, executed, drain_deed}
+use Rattle.tso_machine.specs.Done.{ThreadDoes, EndsReservations}
 use Rattle.tso_machine.specs.Step.{threads_off, around_in, done_by, after_exec, after_drain}
-use Rattle.tso_machine.specs.Machine.{MachineView, StandsFor, LeadsTo, CarriesOut, around_at}
+use Rattle.tso_machine.specs.Machine.{MachineView, StandsFor, StepLeadsTo, CarriesOut, around_at}
 use Rattle.tso_machine.specs.declared.deeds.Done.{Done}
 use Rattle.tso_machine.specs.Storing.{stored_by}
 use Rattle.tso_machine.proofs.Writing.{stored-is}
 
 -- thread hart did its deed, and what it did is settled
 pub carried : (answer : Done) (result : Bool) (hart domain : ℕ) (threads new : List Thread) (old thread : Thread) (m m' : MemoryView) (o : Option Deed)
-    → get_or threads hart old ≡ old → Does answer domain old m thread m' o → Settles result domain answer (slice_set threads hart thread) new
+    → get_or threads hart old ≡ old → ThreadDoes answer domain old m thread m' o → EndsReservations result domain answer (slice_set threads hart thread) new
     → CarriesOut result hart domain threads m new m' o
 carried answer result hart domain threads new old thread m m' None is does settled =
-    let P : Done → Type 0 = λ d. Settles result domain d (slice_set threads hart thread) new in
+    let P : Done → Type 0 = λ d. EndsReservations result domain d (slice_set threads hart thread) new in
     let s = subst P does.0 settled in
     (s.0, s.1 ∙ ap (λ t. slice_set threads hart t) (does.1 ∙ sym is) ∙ set-get_or threads hart old, does.2)
 carried answer result hart domain threads new old thread m m' (Some (Alone t)) is does settled =
-    let P : Done → Type 0 = λ d. Settles result domain d (slice_set threads hart thread) new in
+    let P : Done → Type 0 = λ d. EndsReservations result domain d (slice_set threads hart thread) new in
     let s = subst P does.0 settled in
     (s.0, s.1 ∙ ap (λ x. slice_set threads hart x) does.1, does.2)
 carried answer result hart domain threads new old thread m m' (Some (Storing t store)) is does settled =
-    let P : Done → Type 0 = λ d. Settles result domain d (slice_set threads hart thread) new in
+    let P : Done → Type 0 = λ d. EndsReservations result domain d (slice_set threads hart thread) new in
     let s = subst P does.0 settled in
     (s.0, s.1 ∙ ap (λ x. threads_off (granule_at (place_of domain store.address)) (slice_set threads hart x)) does.1, does.2)
 
 -- the same for what a thread that is there may do
 pub carried-at : (f : Thread → Option Deed) (answer : Done) (result : Bool) (i hart domain : ℕ) (threads new : List Thread) (old thread : Thread) (m m' : MemoryView)
-    → i ≡ hart → i < length threads → old ≡ get_or threads i old → Does answer domain old m thread m' (f old)
-    → Settles result domain answer (slice_set threads i thread) new
+    → i ≡ hart → i < length threads → old ≡ get_or threads i old → ThreadDoes answer domain old m thread m' (f old)
+    → EndsReservations result domain answer (slice_set threads i thread) new
     → CarriesOut result hart domain threads m new m' (option_and_then f (slice_get threads hart))
 carried-at f answer result i hart domain threads new old thread m m' at within is does settled =
     let P : ℕ → Type 0 = λ h. CarriesOut result h domain threads m new m' (option_and_then f (slice_get threads h)) in
@@ -65,7 +65,7 @@ same-machine old new same threads memory =
     ∙ ap (λ k. record { setup = old.setup; threads = old.threads; memory = old.memory; perms = old.perms; taken = k }) same.taken
 
 pub leads-deed : (old new : MachineView) (s : State) (hart domain : ℕ) (result : Bool) (o : Option Deed) → Same old new → StandsFor old s
-    → CarriesOut result hart domain old.threads old.memory new.threads new.memory o → LeadsTo result old new (option_map (done_by hart domain s) o)
+    → CarriesOut result hart domain old.threads old.memory new.threads new.memory o → StepLeadsTo result old new (option_map (done_by hart domain s) o)
 leads-deed old new s hart domain result None same stands c = (c.0, same-machine old new same c.1 c.2)
 leads-deed old new s hart domain result (Some (Alone t)) same stands c = (
   c.0,
@@ -100,14 +100,14 @@ pub exec-leads : (old new : MachineView) (s : State) (hart : ℕ) (result : Bool
     → slice_get old.setup.plan.threads hart ≡ Some plan → slice_get old.setup.images plan.image ≡ Some image
     → CarriesOut result hart plan.domain old.threads old.memory new.threads new.memory
     (option_and_then (λ thread. executed image (around_at hart plan.domain old.memory old.perms) thread) (slice_get old.threads hart))
-    → Same old new → StandsFor old s → LeadsTo result old new (after_exec old.setup s hart)
+    → Same old new → StandsFor old s → StepLeadsTo result old new (after_exec old.setup s hart)
 exec-leads old new s hart result plan image at there c same stands =
-    let P : Around → List Thread → Type 0 = λ around threads. LeadsTo result old new (option_map (done_by hart plan.domain s) (option_and_then (λ thread. executed image around thread) (slice_get threads hart))) in
+    let P : Around → List Thread → Type 0 = λ around threads. StepLeadsTo result old new (option_map (done_by hart plan.domain s) (option_and_then (λ thread. executed image around thread) (slice_get threads hart))) in
     let leads : P (around_at hart plan.domain old.memory old.perms) old.threads = leads-deed old new s hart plan.domain result _ same stands c in
     let here : P (around_in s hart plan.domain) s.threads =
     subst (λ ts. P (around_in s hart plan.domain) ts) stands.threads (subst (λ a. P a old.threads) (around-is old s hart plan.domain stands) leads) in
     let f : Thread → Option State = λ thread. option_map (done_by hart plan.domain s) (executed image (around_in s hart plan.domain) thread) in
-    let Q : Option State → Type 0 = λ o. LeadsTo result old new o in
+    let Q : Option State → Type 0 = λ o. StepLeadsTo result old new o in
     let inside : Q (option_and_then f (slice_get s.threads hart)) = subst Q (map-behind (λ thread. executed image (around_in s hart plan.domain) thread) (done_by hart plan.domain s) (slice_get s.threads hart)) here in
     let g : ThreadPlan → Image → Option State = λ p i. option_and_then (λ thread. option_map (done_by hart p.domain s) (executed i (around_in s hart p.domain) thread)) (slice_get s.threads hart) in
     let R : Option Image → Type 0 = λ o. Q (option_and_then (g plan) o) in
@@ -116,15 +116,15 @@ exec-leads old new s hart result plan image at there c same stands =
 
 pub drain-leads : (old new : MachineView) (s : State) (hart : ℕ) (result : Bool) (plan : ThreadPlan)
     → slice_get old.setup.plan.threads hart ≡ Some plan
-    → CarriesOut result hart plan.domain old.threads old.memory new.threads new.memory (option_and_then drained (slice_get old.threads hart))
-    → Same old new → StandsFor old s → LeadsTo result old new (after_drain old.setup s hart)
+    → CarriesOut result hart plan.domain old.threads old.memory new.threads new.memory (option_and_then drain_deed (slice_get old.threads hart))
+    → Same old new → StandsFor old s → StepLeadsTo result old new (after_drain old.setup s hart)
 drain-leads old new s hart result plan at c same stands =
-    let P : List Thread → Type 0 = λ threads. LeadsTo result old new (option_map (done_by hart plan.domain s) (option_and_then drained (slice_get threads hart))) in
+    let P : List Thread → Type 0 = λ threads. StepLeadsTo result old new (option_map (done_by hart plan.domain s) (option_and_then drain_deed (slice_get threads hart))) in
     let leads : P s.threads = subst P stands.threads (leads-deed old new s hart plan.domain result _ same stands c) in
-    let Q : Option State → Type 0 = λ o. LeadsTo result old new o in
-    let inside : Q (option_and_then (λ thread. option_map (done_by hart plan.domain s) (drained thread)) (slice_get s.threads hart)) =
-    subst Q (map-behind drained (done_by hart plan.domain s) (slice_get s.threads hart)) leads in
-    let S : Option ThreadPlan → Type 0 = λ o. Q (option_and_then (λ p. option_and_then (λ thread. option_map (done_by hart p.domain s) (drained thread)) (slice_get s.threads hart)) o) in
+    let Q : Option State → Type 0 = λ o. StepLeadsTo result old new o in
+    let inside : Q (option_and_then (λ thread. option_map (done_by hart plan.domain s) (drain_deed thread)) (slice_get s.threads hart)) =
+    subst Q (map-behind drain_deed (done_by hart plan.domain s) (slice_get s.threads hart)) leads in
+    let S : Option ThreadPlan → Type 0 = λ o. Q (option_and_then (λ p. option_and_then (λ thread. option_map (done_by hart p.domain s) (drain_deed thread)) (slice_get s.threads hart)) o) in
     subst S (sym at) inside
 
 -- what a list has at a place that the code read

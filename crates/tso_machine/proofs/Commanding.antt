@@ -18,8 +18,8 @@ use Rattle.protect_table.specs.Protect.{permission_at, changed}
 use Rattle.tso_machine.specs.State.{State, Write, Zeros, Taken}
 use Rattle.tso_machine.specs.Memory.{byte_of}
 use Rattle.tso_machine.specs.Commands.{next_command, is_held_up, threads_after, writes_after, perms_after, is_fine, taken_as, outcome_in_state, taken_unless_held_up, after_command}
-use Rattle.tso_machine.specs.Queue.{QueueView, command_if_next, bytes_after}
-use Rattle.tso_machine.specs.Machine.{MachineView, StandsFor, LeadsTo}
+use Rattle.tso_machine.specs.Queue.{CommandQueueView, command_if_next, bytes_after}
+use Rattle.tso_machine.specs.Machine.{MachineView, StandsFor, StepLeadsTo}
 use Rattle.tso_machine.proofs.Writing.{byte_from-append}
 
 -- ---- one record more
@@ -81,7 +81,7 @@ outcome-is : (old new : MachineView) (s : State) (command : Command) (index : �
 outcome-is old new s command index outcome t stands = t.outcome_is ∙ ap (λ p. outcome_of command old.setup.plan.memories p old.setup.plan.protect) stands.perms
 
 -- the machine's queue
-abbrev pub queue_of : MachineView → QueueView
+abbrev pub queue_of : MachineView → CommandQueueView
 queue_of machine = record { commands = machine.setup.commands; taken = machine.taken }
 
 -- what is known where a command is next, or none is
@@ -105,33 +105,33 @@ next-none (Some n) commands index f e = by (n == index) e where
 
 -- a command that is not next leads nowhere
 pub no-command : (old : MachineView) (s : State) (index : ℕ) → None ≡ command_if_next (queue_of old) index → StandsFor old s
-    → LeadsTo false old old (after_command old.setup s index)
+    → StepLeadsTo false old old (after_command old.setup s index)
 no-command old s index e stands =
-    let P : Option State → Type 0 = λ o. LeadsTo false old old o in
+    let P : Option State → Type 0 = λ o. StepLeadsTo false old old o in
     let Q : List Taken → Type 0 = λ ts. None ≡ command_if_next (record { commands = old.setup.commands; taken = ts }) index in
     subst P (sym (next-none (next_command old.setup.commands s.taken) old.setup.commands index (taken_unless_held_up old.setup s index) (subst Q stands.taken e))) (refl, refl)
 
 -- by whether a buffered store holds up the command that is next
 command-by : (old new : MachineView) (s : State) (index : ℕ) (command : Command) (done : Bool) → Some command ≡ command_if_next (queue_of old) index → StandsFor old s
-    → LeadsTo done old new (taken_unless_held_up old.setup s index command) → LeadsTo done old new (after_command old.setup s index)
+    → StepLeadsTo done old new (taken_unless_held_up old.setup s index command) → StepLeadsTo done old new (after_command old.setup s index)
 command-by old new s index command done e stands leads =
-    let P : Option State → Type 0 = λ o. LeadsTo done old new o in
+    let P : Option State → Type 0 = λ o. StepLeadsTo done old new o in
     let Q : List Taken → Type 0 = λ ts. Some command ≡ command_if_next (record { commands = old.setup.commands; taken = ts }) index in
     subst P (sym (next-found (next_command old.setup.commands s.taken) old.setup.commands index command (taken_unless_held_up old.setup s index) (subst Q stands.taken e))) leads
 
 pub held-up : (old : MachineView) (s : State) (index : ℕ) (command : Command) → Some command ≡ command_if_next (queue_of old) index
-    → is_held_up command old.setup.plan.threads old.threads ≡ true → StandsFor old s → LeadsTo false old old (after_command old.setup s index)
+    → is_held_up command old.setup.plan.threads old.threads ≡ true → StandsFor old s → StepLeadsTo false old old (after_command old.setup s index)
 held-up old s index command e waits stands =
     let w : is_held_up command old.setup.plan.threads s.threads ≡ true = ap (is_held_up command old.setup.plan.threads) (sym stands.threads) ∙ waits in
-    let P : Bool → Type 0 = λ b. LeadsTo false old old (if b then None else Some (taken_as command index (outcome_in_state old.setup s command) s)) in
+    let P : Bool → Type 0 = λ b. StepLeadsTo false old old (if b then None else Some (taken_as command index (outcome_in_state old.setup s command) s)) in
     command-by old old s index command false e stands (subst P (sym w) (refl, refl))
 
 pub command-leads : (old new : MachineView) (s : State) (index : ℕ) (command : Command) (outcome : Outcome) → Some command ≡ command_if_next (queue_of old) index
     → is_held_up command old.setup.plan.threads old.threads ≡ false → Takes old new command index outcome → StandsFor old s
-    → LeadsTo true old new (after_command old.setup s index)
+    → StepLeadsTo true old new (after_command old.setup s index)
 command-leads old new s index command outcome e free takes stands =
     let w : is_held_up command old.setup.plan.threads s.threads ≡ false = ap (is_held_up command old.setup.plan.threads) (sym stands.threads) ∙ free in
-    let P : Bool → Type 0 = λ b. LeadsTo true old new (if b then None else Some (taken_as command index (outcome_in_state old.setup s command) s)) in
+    let P : Bool → Type 0 = λ b. StepLeadsTo true old new (if b then None else Some (taken_as command index (outcome_in_state old.setup s command) s)) in
     let Q : Outcome → Type 0 = λ o. StandsFor new (taken_as command index o s) in
     command-by old new s index command true e stands
     (subst P (sym w) (refl, subst Q (outcome-is old new s command index outcome takes stands) (takes-stands old new s command index outcome takes stands)))

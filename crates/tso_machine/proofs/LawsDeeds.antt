@@ -21,9 +21,9 @@ use Rattle.hart_effect.specs.Thread.{Thread}
 use Rattle.tso_machine.specs.State.{Setup, State}
 use Rattle.mind_base.specs.Place.{place_of, granule_at}
 use Rattle.hart_effect.specs.Access.{Around, read_denied, write_denied}
-use Rattle.hart_effect.specs.Deed.{Deed, Alone, Storing, faulted, continued, put_out, unless_denied, called, locked_done, holds_reservation, stored_if, acted, must_wait, holds_stores, found, carried_out, executed_at, executed, drained_of, drained}
+use Rattle.hart_effect.specs.Deed.{Deed, Alone, Storing, faulted, continued, put_out, unless_denied, called, locked_done, holds_reservation, stored_if, acted, must_wait, holds_stores, found, carried_out, executed_at, executed, drained_of, drain_deed}
 use Rattle.tso_machine.specs.Step.{around_in, done_by, after}
-use Rattle.tso_machine.specs.Orders.{event_of, effect_of, scene_with, scene_of, in_effect, unless_refused, store_by, store_upon, store_at, executes, performs}
+use Rattle.tso_machine.specs.Orders.{store_event, effect_of, scene_with, scene_of, in_effect, unless_refused, store_by, store_upon, store_at, executes, performs}
 use Rattle.hart_effect.specs.declared.finds.Found.{Found}
 use Rattle.hart_effect.specs.declared.finds.Found.TheVariants.{Outside, Unknown, Asks}
 use Rattle.tso_machine.specs.declared.labels.Label.{Label}
@@ -144,7 +144,7 @@ pub record Stepped (u : Setup) (s m : State) (l : Label) (hart : ℕ) : Type 0 w
   pub leads : done_by hart plan.domain s deed ≡ m
   pub store : Option PendingView
   pub changes : Changes thread.buffer deed store
-  pub executed : executes u s l ≡ option_map (event_of hart plan.domain) store
+  pub executed : executes u s l ≡ option_map (store_event hart plan.domain) store
   pub performed : performs u s l ≡ option_map (effect_of hart plan.domain) (in_effect deed)
 
 -- what a mapped option is made from
@@ -152,42 +152,45 @@ pub mapped-some : {X Y : Type 0} (f : X → Y) (o : Option X) (y : Y) → option
 mapped-some f None y e = absurd (none-some y e)
 mapped-some f (Some x) y e = (x, refl, same_Some _ _ e)
 
+-- so it does where this is its deed, and these are the store and the effect of it
+stepped-by : (u : Setup) (s m : State) (l : Label) (hart : ℕ) (plan : ThreadPlan) (thread : Thread) (o : Option Deed) (store : Option PendingView)
+    → slice_get u.plan.threads hart ≡ Some plan → slice_get s.threads hart ≡ Some thread → option_map (done_by hart plan.domain s) o ≡ Some m
+    → ((deed : Deed) → o ≡ Some deed → Changes thread.buffer deed store)
+    → executes u s l ≡ option_map (store_event hart plan.domain) store
+    → ((deed : Deed) → o ≡ Some deed → performs u s l ≡ option_map (effect_of hart plan.domain) (in_effect deed))
+    → Stepped u s m l hart
+stepped-by u s m l hart plan thread o store planned there k changes executed performed =
+    let d = mapped-some (done_by hart plan.domain s) o m k in
+    record {
+      plan = plan;
+      planned = planned;
+      thread = thread;
+      there = there;
+      deed = d.0;
+      leads = d.2;
+      store = store;
+      changes = changes d.0 d.1;
+      executed = executed;
+      performed = performed d.0 d.1;
+    }
+
 pub stepped-exec : (u : Setup) (s m : State) (hart : ℕ) → after u s (label.Exec hart) ≡ Some m → Stepped u s m (label.Exec hart) hart
 stepped-exec u s m hart e =
     option_and_then_some _ (slice_get u.plan.threads hart) m e (λ plan planned g.
     option_and_then_some _ (slice_get u.images plan.image) m g (λ image found i.
     option_and_then_some _ (slice_get s.threads hart) m i (λ thread there k.
     let around = around_in s hart plan.domain in
-    let d = mapped-some (done_by hart plan.domain s) (executed image around thread) m k in
     let stands : scene_of u s hart ≡ Some (scene_with image around thread) = rw (planned, found, there) refl in
-    record {
-      plan = plan;
-      planned = planned;
-      thread = thread;
-      there = there;
-      deed = d.0;
-      leads = d.2;
-      store = store_at thread.end (scene_with image around thread);
-      changes = exec-changes thread.end image around thread d.0 d.1;
-      executed = rw stands refl;
-      performed = rw stands (ap (λ o. option_map (effect_of hart plan.domain) (option_and_then in_effect o)) d.1);
-    })))
+    stepped-by u s m (label.Exec hart) hart plan thread (executed image around thread) (store_at thread.end (scene_with image around thread)) planned there k
+    (exec-changes thread.end image around thread)
+    (rw stands refl)
+    (λ deed does. rw stands (ap (λ o. option_map (effect_of hart plan.domain) (option_and_then in_effect o)) does)))))
 
 pub stepped-drain : (u : Setup) (s m : State) (hart : ℕ) → after u s (label.Drain hart) ≡ Some m → Stepped u s m (label.Drain hart) hart
 stepped-drain u s m hart e =
     option_and_then_some _ (slice_get u.plan.threads hart) m e (λ plan planned g.
     option_and_then_some _ (slice_get s.threads hart) m g (λ thread there k.
-    let d = mapped-some (done_by hart plan.domain s) (drained thread) m k in
-    let changes = drain-changes thread.buffer thread d.0 d.1 in
-    record {
-      plan = plan;
-      planned = planned;
-      thread = thread;
-      there = there;
-      deed = d.0;
-      leads = d.2;
-      store = None;
-      changes = changes.0;
-      executed = refl;
-      performed = rw (planned, there, changes.1) refl;
-    }))
+    stepped-by u s m (label.Drain hart) hart plan thread (drain_deed thread) None planned there k
+    (λ deed does. (drain-changes thread.buffer thread deed does).0)
+    refl
+    (λ deed does. let changes = drain-changes thread.buffer thread deed does in rw (planned, there, changes.1) refl)))

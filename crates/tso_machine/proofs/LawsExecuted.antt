@@ -9,7 +9,7 @@ use Rattle.mind_base.specs.Pending.{PendingView}
 use Rattle.hart_effect.specs.Thread.{Thread}
 use Rattle.tso_machine.specs.State.{Setup, State}
 use Rattle.tso_machine.specs.Laws.{RunsTo, IsStep, ExecutedBy}
-use Rattle.tso_machine.specs.Orders.{StoreEvent, event_of, executes, program_order, memory_order, store_if, stores_of, effects_of}
+use Rattle.tso_machine.specs.Orders.{StoreEvent, store_event, executes, program_order, memory_order, store_if, stores_of, effects_of}
 use Rattle.tso_machine.specs.declared.labels.Label.{Label}
 use Rattle.tso_machine.specs.declared.labels.Label.TheVariants as label
 use Rattle.tso_machine.proofs.LawsCommands.{buffer_at}
@@ -27,14 +27,14 @@ executed-by setup start labels hart store event own is g = by_label g.label g.st
   by_exec exec step given same =
       let S : ℕ → Type 0 = λ h. IsStep setup start labels g.before (label.Exec h) g.next in
       let E : ℕ → Type 0 = λ h. executes setup g.before (label.Exec h) ≡ Some event in
-      let made : event ≡ event_of hart event.domain store =
-      ap (λ h. event_of h event.domain event.store) (eqb-true event.hart hart own) ∙ ap (event_of hart event.domain) is in
+      let made : event ≡ store_event hart event.domain store =
+      ap (λ h. store_event h event.domain event.store) (eqb-true event.hart hart own) ∙ ap (store_event hart event.domain) is in
       record { before = g.before; next = g.next; step = subst S same step; domain = event.domain; executed = subst E same given ∙ ap Some made }
 
   by_label : (l : Label) → IsStep setup start labels g.before l g.next → executes setup g.before l ≡ Some event → ExecutedBy setup start labels hart store
   by_label (label.Exec exec) step given =
       let st = stepped-exec setup g.before g.next exec (step-after setup start labels g.before (label.Exec exec) g.next step) in
-      let x = mapped-some (event_of exec st.plan.domain) st.store event (sym st.executed ∙ given) in
+      let x = mapped-some (store_event exec st.plan.domain) st.store event (sym st.executed ∙ given) in
       by_exec exec step given (ap (λ ev. ev.hart) x.2 ∙ eqb-true event.hart hart own)
   by_label (label.Drain h) step given = absurd (none-some event given)
   by_label (label.Command index) step given = absurd (none-some event given)

@@ -10,7 +10,7 @@ use Rattle.tso_machine.specs.State.{Setup, State}
 use Rattle.tso_machine.specs.Memory.{byte_of}
 use Rattle.tso_machine.specs.Step.{after, bytes_of}
 use Rattle.tso_machine.specs.Laws.{sees, SeesAtOnce, SeesOwnStore}
-use Rattle.tso_machine.specs.Orders.{event_of, effect_of, writes_of}
+use Rattle.tso_machine.specs.Orders.{store_event, effect_of, writes_of}
 use Rattle.tso_machine.specs.declared.labels.Label.{Label}
 use Rattle.tso_machine.specs.declared.labels.Label.TheVariants as label
 use Rattle.tso_machine.proofs.LawsDeeds.{thread_of, Changes, Stays, Waits, AtOnce, Drains, Stepped, mapped-some, stepped-exec}
@@ -46,7 +46,7 @@ at_once : (setup : Setup) (start : State) (labels : List Label) → SeesAtOnce s
 at_once setup start labels hart before next step event executed domain thread is address covered =
     let e = step-after setup start labels before (label.Exec hart) next step in
     let st = stepped-exec setup before next hart e in
-    let x = mapped-some (event_of hart st.plan.domain) st.store event (sym st.executed ∙ executed) in
+    let x = mapped-some (store_event hart st.plan.domain) st.store event (sym st.executed ∙ executed) in
     let same = same_Some _ _ (sym (ap (option_map (λ t. t.buffer)) is.there) ∙ own-after setup before next (label.Exec hart) hart st) in
     let in_domain : st.plan.domain ≡ domain = ap (λ p. p.domain) (same_Some _ _ (sym st.planned ∙ is.planned)) ∙ is.in_domain in
     let store_is : x.0 ≡ event.store = ap (λ ev. ev.store) x.2 in

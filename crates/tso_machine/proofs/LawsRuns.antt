@@ -12,7 +12,7 @@ use Rattle.tso_machine.proofs.Threads.{after-length}
 use Rattle.tso_machine.proofs.Runs.{advance_all-append, advance_all-stuck, replay-more}
 
 -- the first label of a whole run is enabled, and the others go on from where it leads
-enabled : (u : Setup) (n : ℕ) (s t : State) (l : Label) (ls : List Label) → advance_all u n (Whole s) (l ∷ ls) ≡ Whole t
+pub enabled : (u : Setup) (n : ℕ) (s t : State) (l : Label) (ls : List Label) → advance_all u n (Whole s) (l ∷ ls) ≡ Whole t
     → (m : State) × (after u s l ≡ Some m) × (advance_all u (suc n) (Whole m) ls ≡ Whole t)
 enabled u n s t l ls e = by_step (after u s l) refl e where
   by_step : (o : Option State) → after u s l ≡ o → advance_all u (suc n) (advanced n s o) ls ≡ Whole t
@@ -21,7 +21,7 @@ enabled u n s t l ls e = by_step (after u s l) refl e where
   by_step (Some m) is e = (m, is, e)
 
 -- where a whole run leads does not hang on the number of its first label
-renumbered : (u : Setup) (n k : ℕ) (s t : State) (ls : List Label) → advance_all u n (Whole s) ls ≡ Whole t → advance_all u k (Whole s) ls ≡ Whole t
+pub renumbered : (u : Setup) (n k : ℕ) (s t : State) (ls : List Label) → advance_all u n (Whole s) ls ≡ Whole t → advance_all u k (Whole s) ls ≡ Whole t
 renumbered u n k s t [] e = e
 renumbered u n k s t (l ∷ ls) e =
     let first = enabled u n s t l ls e in

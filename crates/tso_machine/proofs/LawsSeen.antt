@@ -10,7 +10,7 @@ use Rattle.hart_effect.specs.Thread.{Thread}
 use Rattle.tso_machine.specs.State.{State, Write, Byte, Zeros}
 use Rattle.tso_machine.specs.Memory.{byte_after, byte_from, byte_of}
 use Rattle.tso_machine.specs.Step.{bytes_from, bytes_of}
-use Rattle.tso_machine.specs.Laws.{IsLast, IsNewestStore, NoneCovers, write_covers, byte_written, IsLastWrite, HasSource, sees}
+use Rattle.tso_machine.specs.Laws.{IsLastWith, IsNewestStore, NoneCovers, write_covers, byte_written, IsLastWrite, HasSource, sees}
 
 -- ---- the last of a list that passes a test
 
@@ -32,7 +32,7 @@ overlaid-none test value y (x ∷ xs) none =
     overlaid-none test value (cond (test x) (value x) y) xs (All-tail (λ x. IsFalse (test x)) x xs none)
     ∙ ap (λ b. cond b (value x) y) (All-head (λ x. IsFalse (test x)) x xs none)
 
-overlaid-last : {X Y : Type 0} (test : X → Bool) (value : X → Y) (y : Y) (xs : List X) (x : X) → IsLast test xs x → overlaid test value y xs ≡ value x
+overlaid-last : {X Y : Type 0} (test : X → Bool) (value : X → Y) (y : Y) (xs : List X) (x : X) → IsLastWith test xs x → overlaid test value y xs ≡ value x
 unfolding overlaid
 overlaid-last test value y xs x is = ap (overlaid test value y) is.split
     ∙ overlaid-append test value y is.before (x ∷ is.behind)
@@ -41,7 +41,7 @@ overlaid-last test value y xs x is = ap (overlaid test value y) is.split
 
 -- none passes, or there is a last that does
 abbrev Found : {X : Type 0} → (X → Bool) → List X → Type 0
-Found {X = X} test xs = All (λ x. IsFalse (test x)) xs ⊎ ((x : X) × IsLast test xs x)
+Found {X = X} test xs = All (λ x. IsFalse (test x)) xs ⊎ ((x : X) × IsLastWith test xs x)
 
 last-found : {X : Type 0} (test : X → Bool) (xs : List X) → Found test xs
 last-found test [] = inl (All-nil (λ x. IsFalse (test x)))

@@ -11,7 +11,7 @@ use Rattle.tso_machine.specs.State.{Setup, State, Taken}
 use Rattle.mind_base.specs.Place.{Granule, place_of, granule_at}
 use Rattle.hart_effect.specs.Deed.{Deed, Alone, Storing}
 use Rattle.tso_machine.specs.Step.{done_by, bytes_of, threads_off, after}
-use Rattle.tso_machine.specs.Orders.{Zeroed, event_of, effect_of, in_effect, executes, zeroes, performs, stores_of, effects_of, spans_of, accepted_spans, writes_of}
+use Rattle.tso_machine.specs.Orders.{Zeroed, store_event, effect_of, in_effect, executes, zeroes, performs, stores_of, effects_of, spans_of, accepted_spans, writes_of}
 use Rattle.tso_machine.specs.declared.labels.Label.{Label}
 use Rattle.tso_machine.specs.declared.labels.Label.TheVariants as label
 use Rattle.tso_machine.proofs.LawsDeeds.{thread_of, Changes, Stays, Waits, AtOnce, Drains, Stepped, stepped-exec, stepped-drain}
@@ -89,11 +89,11 @@ changes-kept buffer deed store (AtOnce s some effect empty after) = rw (some, ef
 changes-kept buffer deed store (Drains s none effect split) = rw (none, effect) (append-nil buffer ∙ split)
 
 -- the stores of one thread among that of a step
-pub own-event : (hart domain : ℕ) (o : Option PendingView) → stores_of hart (option_to_list (option_map (event_of hart domain) o)) ≡ option_to_list o
+pub own-event : (hart domain : ℕ) (o : Option PendingView) → stores_of hart (option_to_list (option_map (store_event hart domain) o)) ≡ option_to_list o
 own-event hart domain None = refl
 own-event hart domain (Some store) = rw (eq-eqb hart hart refl) refl
 
-other-event : (hart other domain : ℕ) (o : Option PendingView) → eqb hart other ≡ false → stores_of other (option_to_list (option_map (event_of hart domain) o)) ≡ []
+other-event : (hart other domain : ℕ) (o : Option PendingView) → eqb hart other ≡ false → stores_of other (option_to_list (option_map (store_event hart domain) o)) ≡ []
 other-event hart other domain None e = refl
 other-event hart other domain (Some store) e = rw e refl
 

@@ -6,7 +6,7 @@ pub mod LawsFences
 mod LawsLists
 pub mod LawsOrder
 pub mod LawsOwnStores
-mod LawsRuns
+pub mod LawsRuns
 mod LawsSeen
 pub mod LawsSources
 mod LawsSteps

@@ -11,7 +11,7 @@ use Rattle.tso_machine.specs.declared.labels.Replay.TheVariants as answer
 use Rattle.tso_machine.specs.State.{Setup, State}
 use Rattle.tso_machine.specs.Step.{after}
 use Rattle.tso_machine.specs.Replay.{label_of, labels, Replayed, Whole, Stuck, advanced, advance, advance_all, replay}
-use Rattle.tso_machine.specs.Machine.{MachineView, StandsFor, LeadsTo, Leads, ReplaysTo, Replays, Reaches, StandsInside}
+use Rattle.tso_machine.specs.Machine.{MachineView, StandsFor, StepLeadsTo, StepLeads, ReplaysTo, Replays, MachineReaches, StandsInside}
 
 -- labels in two parts are replayed one part after the other
 pub advance_all-append : (u : Setup) (n : ℕ) (r : Replayed) (xs ys : List Label)
@@ -53,28 +53,28 @@ whole-front u s t ls more e = front-of u (0 + length ls) (replay u s ls) more t 
 
 -- by what the label leads to
 went-on : (u : Setup) (s t : State) (ls : List Label) (l : Label) (old new : MachineView) (o : Option State)
-    → replay u s (ls ++ l ∷ []) ≡ advanced (length ls) t o → LeadsTo true old new o → Reaches u s (ls ++ l ∷ []) new
+    → replay u s (ls ++ l ∷ []) ≡ advanced (length ls) t o → StepLeadsTo true old new o → MachineReaches u s (ls ++ l ∷ []) new
 went-on u s t ls l old new None e leads = absurd (let no_step : true ≡ false = leads.0 in cc)
 went-on u s t ls l old new (Some next) e leads = (next, e, leads.1)
 
 pub reaches-label : (u : Setup) (s : State) (ls : List Label) (l : Label) (old new : MachineView)
-    → old.setup ≡ u → Reaches u s ls old → Leads true l old new → Reaches u s (ls ++ l ∷ []) new
+    → old.setup ≡ u → MachineReaches u s ls old → StepLeads true l old new → MachineReaches u s (ls ++ l ∷ []) new
 reaches-label u s ls l old new same (t, whole, stands) leads =
-    let P : Setup → Type 0 = λ v. LeadsTo true old new (after v t l) in
+    let P : Setup → Type 0 = λ v. StepLeadsTo true old new (after v t l) in
     went-on u s t ls l old new (after u t l) (replay-more u s t ls l whole) (subst P same (leads t stands))
 
 -- it is not enabled
 stopped : (u : Setup) (s t : State) (ls : List Label) (l : Label) (old new : MachineView) (o : Option State)
-    → replay u s (ls ++ l ∷ []) ≡ advanced (length ls) t o → StandsFor old t → LeadsTo false old new o
+    → replay u s (ls ++ l ∷ []) ≡ advanced (length ls) t o → StandsFor old t → StepLeadsTo false old new o
     → (replay u s (ls ++ l ∷ []) ≡ Stuck (length ls) t) × StandsFor new t
 stopped u s t ls l old new None e stands leads =
     let P : MachineView → Type 0 = λ m. StandsFor m t in (e, subst P (sym leads.1) stands)
 stopped u s t ls l old new (Some next) e stands leads = absurd (let no_step : false ≡ true = leads.0 in cc)
 
 pub stuck-label : (u : Setup) (s : State) (ls more : List Label) (l : Label) (old new : MachineView)
-    → old.setup ≡ u → Reaches u s ls old → Leads false l old new → ReplaysTo (answer.Stuck (length ls)) new (replay u s ((ls ++ l ∷ []) ++ more))
+    → old.setup ≡ u → MachineReaches u s ls old → StepLeads false l old new → ReplaysTo (answer.Stuck (length ls)) new (replay u s ((ls ++ l ∷ []) ++ more))
 stuck-label u s ls more l old new same (t, whole, stands) leads =
-    let P : Setup → Type 0 = λ v. LeadsTo false old new (after v t l) in
+    let P : Setup → Type 0 = λ v. StepLeadsTo false old new (after v t l) in
     let stop = stopped u s t ls l old new (after u t l) (replay-more u s t ls l whole) stands (subst P same (leads t stands)) in
     let Q : Replayed → Type 0 = λ r. ReplaysTo (answer.Stuck (length ls)) new r in
     subst Q (sym (replay-stuck u s t (length ls) (ls ++ l ∷ []) more stop.0)) (refl, stop.1)
@@ -92,7 +92,7 @@ labels-some notes note l e = filter_map-append label_of notes (note ∷ []) ∙ 
 pub record Follows (old new : MachineView) (notes : List Note) (taken : ℕ) : Type 0 where
   pub setup : new.setup ≡ old.setup
   pub counted : taken ≡ length (labels notes)
-  pub reaches : (s : State) → StandsFor old s → Reaches old.setup s (labels notes) new
+  pub reaches : (s : State) → StandsFor old s → MachineReaches old.setup s (labels notes) new
 
 pub follows-start : (m : MachineView) → Follows m m [] 0
 follows-start m = record { setup = refl; counted = refl; reaches = λ s stands. (s, refl, stands) }
@@ -100,14 +100,14 @@ follows-start m = record { setup = refl; counted = refl; reaches = λ s stands. 
 pub follows-none : (old new : MachineView) (notes : List Note) (note : Note) (taken : ℕ) → label_of note ≡ None
     → Follows old new notes taken → Follows old new (notes ++ note ∷ []) taken
 follows-none old new notes note taken e f =
-    let P : List Label → Type 0 = λ ls. (taken ≡ length ls) × ((s : State) → StandsFor old s → Reaches old.setup s ls new) in
+    let P : List Label → Type 0 = λ ls. (taken ≡ length ls) × ((s : State) → StandsFor old s → MachineReaches old.setup s ls new) in
     let p = subst P (sym (labels-none notes note e)) (f.counted, f.reaches) in
     record { setup = f.setup; counted = p.0; reaches = p.1 }
 
 pub follows-some : (old mid new : MachineView) (notes : List Note) (note : Note) (l : Label) (taken : ℕ) → label_of note ≡ Some l
-    → Follows old mid notes taken → Leads true l mid new → new.setup ≡ mid.setup → Follows old new (notes ++ note ∷ []) (taken + 1)
+    → Follows old mid notes taken → StepLeads true l mid new → new.setup ≡ mid.setup → Follows old new (notes ++ note ∷ []) (taken + 1)
 follows-some old mid new notes note l taken e f leads same =
-    let P : List Label → Type 0 = λ ls. (taken + 1 ≡ length ls) × ((s : State) → StandsFor old s → Reaches old.setup s ls new) in
+    let P : List Label → Type 0 = λ ls. (taken + 1 ≡ length ls) × ((s : State) → StandsFor old s → MachineReaches old.setup s ls new) in
     let p = subst P (sym (labels-some notes note l e)) (
       omega (arith, f.counted, length-append (labels notes) (l ∷ [])),
       λ s stands. reaches-label old.setup s (labels notes) l mid new f.setup (f.reaches s stands) leads,
@@ -127,7 +127,7 @@ labels-split before behind note l e = filter_map-append label_of (before ++ note
     ∙ ap (λ ls. ls ++ labels behind) (labels-some before note l e)
 
 pub follows-stuck : (old mid new : MachineView) (before behind : List Note) (note : Note) (l : Label) (taken : ℕ) → label_of note ≡ Some l
-    → Follows old mid before taken → Leads false l mid new → Replays (answer.Stuck taken) (labels ((before ++ note ∷ []) ++ behind)) old new
+    → Follows old mid before taken → StepLeads false l mid new → Replays (answer.Stuck taken) (labels ((before ++ note ∷ []) ++ behind)) old new
 follows-stuck old mid new before behind note l taken e f leads s stands =
     let P : ℕ → Type 0 = λ k. ReplaysTo (answer.Stuck k) new (replay old.setup s ((labels before ++ l ∷ []) ++ labels behind)) in
     let Q : List Label → Type 0 = λ ls. ReplaysTo (answer.Stuck taken) new (replay old.setup s ls) in
@@ -156,13 +156,13 @@ follows-none-at old new notes i note taken at e f =
     subst P (sym (take-at notes i note at)) (follows-none old new (take i notes) note taken e f)
 
 pub follows-some-at : (old mid new : MachineView) (notes : List Note) (i : ℕ) (note : Note) (l : Label) (taken : ℕ) → slice_get notes i ≡ Some note → label_of note ≡ Some l
-    → Follows old mid (take i notes) taken → Leads true l mid new → new.setup ≡ mid.setup → Follows old new (take (i + 1) notes) (taken + 1)
+    → Follows old mid (take i notes) taken → StepLeads true l mid new → new.setup ≡ mid.setup → Follows old new (take (i + 1) notes) (taken + 1)
 follows-some-at old mid new notes i note l taken at e f leads same =
     let P : List Note → Type 0 = λ ns. Follows old new ns (taken + 1) in
     subst P (sym (take-at notes i note at)) (follows-some old mid new (take i notes) note l taken e f leads same)
 
 pub follows-stuck-at : (old mid new : MachineView) (notes : List Note) (i : ℕ) (note : Note) (l : Label) (taken : ℕ) → slice_get notes i ≡ Some note → label_of note ≡ Some l
-    → Follows old mid (take i notes) taken → Leads false l mid new → Replays (answer.Stuck taken) (labels notes) old new
+    → Follows old mid (take i notes) taken → StepLeads false l mid new → Replays (answer.Stuck taken) (labels notes) old new
 follows-stuck-at old mid new notes i note l taken at e f leads =
     let P : List Note → Type 0 = λ ns. Replays (answer.Stuck taken) (labels ns) old new in
     subst P (split-at notes i note at) (follows-stuck old mid new (take i notes) (drop (i + 1) notes) note l taken e f leads)

@@ -10,7 +10,7 @@ use Rattle.mind_base.specs.declared.commands.Outcome.{Outcome}
 use Rattle.hart_effect.specs.Thread.{Thread}
 use Rattle.tso_machine.specs.State.{Setup, State}
 use Rattle.tso_machine.specs.Commands.{next_command, is_held_up, thread_outside, threads_after, taken_as, outcome_in_state, taken_unless_held_up}
-use Rattle.hart_effect.specs.Deed.{Deed, Alone, Storing, executed, drained}
+use Rattle.hart_effect.specs.Deed.{Deed, Alone, Storing, executed, drain_deed}
 use Rattle.mind_base.specs.Place.{place_of, granule_at}
 use Rattle.tso_machine.specs.Step.{done_by, around_in, thread_off, after}
 use Rattle.tso_machine.specs.declared.labels.Label.{Label}
@@ -51,6 +51,6 @@ after-length setup s t (label.Exec hart) e =
 after-length setup s t (label.Drain hart) e =
     option_and_then_some _ (slice_get setup.plan.threads hart) t e (λ plan f g.
     option_and_then_some _ (slice_get s.threads hart) t g (λ thread j k.
-    deed-length hart plan.domain s t (drained thread) k))
+    deed-length hart plan.domain s t (drain_deed thread) k))
 after-length setup s t (label.Command index) e =
     option_and_then_some _ (next_command setup.commands s.taken) t e (λ n f g. next-length setup s t index (n == index) g)

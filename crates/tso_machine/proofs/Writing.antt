@@ -2,7 +2,7 @@
 use Rattle.std.proofs.Common.{◌≡◌, ℕ, zero, suc, ◌+◌, ◌-◌, ◌∙◌, ap, sym, refl, cond, Bool, false, ◌&&◌, ◌==◌, nat_le, nat_lt, List, [], ◌∷◌, ◌++◌, arith}
 use Rattle.std.proofs.Math.Path.{fun_ext}
 use Rattle.std.proofs.lemmas.Grind.{common_steps}
-use Rattle.flat_memory.specs.FlatMemory.{stored}
+use Rattle.flat_memory.specs.FlatMemory.{byte_stored}
 use Rattle.mind_base.specs.Pending.{PendingView, byte_number}
 use Rattle.tso_machine.specs.State.{Write, Byte}
 use Rattle.tso_machine.specs.Memory.{byte_after, byte_from, byte_of}
@@ -37,8 +37,8 @@ written domain address value i (suc left) byte d a =
     ∙ one-more byte domain address value i left d a
 
 -- the bytes that a store leaves are those of its writes
-pub stored-is : (writes : List Write) (domain : ℕ) (store : PendingView) → stored (byte_of writes) domain store ≡ byte_of (writes ++ bytes_of domain store)
+pub stored-is : (writes : List Write) (domain : ℕ) (store : PendingView) → byte_stored (byte_of writes) domain store ≡ byte_of (writes ++ bytes_of domain store)
 unfolding among
 stored-is writes domain store = fun_ext (λ d. fun_ext (λ a. at d a)) where
-  at : (d a : ℕ) → stored (byte_of writes) domain store d a ≡ byte_of (writes ++ bytes_of domain store) d a
+  at : (d a : ℕ) → byte_stored (byte_of writes) domain store d a ≡ byte_of (writes ++ bytes_of domain store) d a
   at d a = sym (byte_from-append 0 writes (bytes_of domain store) d a ∙ written domain store.address store.value 0 store.size (byte_of writes d a) d a ∙ ap (λ n. cond (d == domain && among n store.size a) (byte_number store.value (a - store.address)) (byte_of writes d a)) (omega arith))

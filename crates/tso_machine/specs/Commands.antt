@@ -20,10 +20,8 @@ use Rattle.mind_base.specs.Place.{Granule, place_of, page_at, page_with}
 
 -- a map, an unmap or a protect; a migrate moves pages, of which the machine sees nothing
 abbrev pub is_change : Command → Bool
-is_change (Map span perm) = true
-is_change (Unmap span) = true
-is_change (Protect span perm) = true
 is_change (Migrate range memory) = false
+is_change command = true
 
 -- how the command with this number ended, if it was taken
 abbrev pub outcome_at : List Taken → ℕ → Option Outcome
@@ -81,15 +79,12 @@ threads_outside span threads = map (thread_outside span) threads
 abbrev pub threads_after : Command → List Thread → List Thread
 threads_after (Map span perm) threads = threads_outside span threads
 threads_after (Unmap span) threads = threads_outside span threads
-threads_after (Protect span perm) threads = threads
-threads_after (Migrate range memory) threads = threads
+threads_after command threads = threads
 
 -- an accepted map makes its pages zero
 abbrev pub writes_after : Command → List Write → List Write
 writes_after (Map span perm) writes = writes ++ Zeros span ∷ []
-writes_after (Unmap span) writes = writes
-writes_after (Protect span perm) writes = writes
-writes_after (Migrate range memory) writes = writes
+writes_after command writes = writes
 
 -- an accepted command gives its span a permission, none by an unmap
 abbrev pub perms_after : Command → List MapPlan → List MapPlan
@@ -100,12 +95,7 @@ perms_after (Migrate range memory) perms = perms
 
 abbrev pub is_fine : Outcome → Bool
 is_fine outcome.Fine = true
-is_fine outcome.Unplaced = false
-is_fine outcome.Overlap = false
-is_fine outcome.Unmapped = false
-is_fine outcome.Slots = false
-is_fine outcome.Same = false
-is_fine outcome.Room = false
+is_fine outcome = false
 
 -- the command with this number is taken and ends so
 abbrev pub taken_as : Command → ℕ → Outcome → State → State

@@ -17,7 +17,7 @@ use Rattle.hart_effect.specs.Access.{seen_byte}
 use Rattle.hart_effect.specs.Deed.{wants_empty}
 use Rattle.tso_machine.specs.Step.{bytes_of}
 use Rattle.tso_machine.specs.Replay.{Whole, replay}
-use Rattle.tso_machine.specs.Orders.{StoreEvent, event_of, Stored, comes_upon, executes, performs, program_order, memory_order, stores_of, effects_of, spans_of, accepted_spans, writes_of}
+use Rattle.tso_machine.specs.Orders.{StoreEvent, store_event, Stored, comes_upon, executes, performs, program_order, memory_order, stores_of, effects_of, spans_of, accepted_spans, writes_of}
 use Rattle.hart_effect.specs.declared.finds.Found.TheVariants.{Asks}
 use Rattle.tso_machine.specs.declared.labels.Label.{Label}
 use Rattle.tso_machine.specs.declared.labels.Label.TheVariants as label
@@ -56,7 +56,7 @@ sees state domain thread address = seen_byte (byte_of state.writes) domain threa
 -- ---- own store seen
 
 -- the last of a list that passes a test: none behind it does
-pub record IsLast {X : Type 0} (test : X → Bool) (xs : List X) (x : X) : Type 0 where
+pub record IsLastWith {X : Type 0} (test : X → Bool) (xs : List X) (x : X) : Type 0 where
   pub before : List X
   pub behind : List X
   pub split : xs ≡ before ++ x ∷ behind
@@ -65,7 +65,7 @@ pub record IsLast {X : Type 0} (test : X → Bool) (xs : List X) (x : X) : Type 
 
 -- the newest store of a buffer that covers an address
 abbrev pub IsNewestStore : List PendingView → ℕ → PendingView → Type 0
-IsNewestStore buffer address store = IsLast (λ s. covers s address) buffer store
+IsNewestStore buffer address store = IsLastWith (λ s. covers s address) buffer store
 
 -- no store of a buffer covers an address
 abbrev pub NoneCovers : List PendingView → ℕ → Type 0
@@ -102,7 +102,7 @@ pub record ExecutedBy (setup : Setup) (start : State) (labels : List Label) (har
   pub next : State
   pub step : IsStep setup start labels before (label.Exec hart) next
   pub domain : ℕ
-  pub executed : executes setup before (label.Exec hart) ≡ Some (event_of hart domain store)
+  pub executed : executes setup before (label.Exec hart) ≡ Some (store_event hart domain store)
 
 -- some label of the run put the write there by a store: it is of a store that took effect by the label, and
 -- that its thread executed by then, or that waited in the thread's buffer at the start
@@ -143,7 +143,7 @@ byte_written (Zeros span) = 0
 
 -- the last write that covers an address of a domain
 abbrev pub IsLastWrite : List Write → ℕ → ℕ → Write → Type 0
-IsLastWrite writes domain address write = IsLast (λ w. write_covers w domain address) writes write
+IsLastWrite writes domain address write = IsLastWith (λ w. write_covers w domain address) writes write
 
 -- A byte that a thread sees is that of the newest store of its own that waits and covers the address; where
 -- none does, that of the last write to memory that covers it; and where none does, the first zero.

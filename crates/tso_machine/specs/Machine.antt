@@ -32,12 +32,12 @@ pub record StandsFor (machine : MachineView) (state : State) : Type 0 where
   pub taken : machine.taken ≡ state.taken
 
 -- a step answers true and stands for the state that the label leads to, or false where it is not enabled
-abbrev pub LeadsTo : Bool → MachineView → MachineView → Option State → Type 0
-LeadsTo enabled old new None = (enabled ≡ false) × (new ≡ old)
-LeadsTo enabled old new (Some state) = (enabled ≡ true) × StandsFor new state
+abbrev pub StepLeadsTo : Bool → MachineView → MachineView → Option State → Type 0
+StepLeadsTo enabled old new None = (enabled ≡ false) × (new ≡ old)
+StepLeadsTo enabled old new (Some state) = (enabled ≡ true) × StandsFor new state
 
-abbrev pub Leads : Bool → Label → MachineView → MachineView → Type 0
-Leads enabled label old new = (state : State) → StandsFor old state → LeadsTo enabled old new (after old.setup state label)
+abbrev pub StepLeads : Bool → Label → MachineView → MachineView → Type 0
+StepLeads enabled label old new = (state : State) → StandsFor old state → StepLeadsTo enabled old new (after old.setup state label)
 
 -- a replay answers whole and stands for the state at the end, or names the first label that is not
 -- enabled and stands for the state before it
@@ -51,13 +51,13 @@ abbrev pub Replays : Replay → List Label → MachineView → MachineView → T
 Replays answer labels old new = (state : State) → StandsFor old state → ReplaysTo answer new (replay old.setup state labels)
 
 -- the labels replay whole from a state to one that the machine stands for
-abbrev pub Reaches : Setup → State → List Label → MachineView → Type 0
-Reaches setup start labels machine = (state : State) × (replay setup start labels ≡ Whole state) × StandsFor machine state
+abbrev pub MachineReaches : Setup → State → List Label → MachineView → Type 0
+MachineReaches setup start labels machine = (state : State) × (replay setup start labels ≡ Whole state) × StandsFor machine state
 
 -- the machine stands for the state after some front of the labels, from every state that it stood for before
 abbrev pub StandsInside : List Label → MachineView → MachineView → Type 0
 StandsInside labels old new = (state : State) → StandsFor old state → (front : List Label) × (rest : List Label)
-    × (labels ≡ front ++ rest) × Reaches old.setup state front new
+    × (labels ≡ front ++ rest) × MachineReaches old.setup state front new
 
 -- ---- what the code does of a deed
 

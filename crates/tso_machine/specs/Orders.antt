@@ -29,8 +29,8 @@ pub record StoreEvent : Type 0 where
   pub domain : ℕ
   pub store : PendingView
 
-abbrev pub event_of : ℕ → ℕ → PendingView → StoreEvent
-event_of hart domain store = record { hart = hart; domain = domain; store = store }
+abbrev pub store_event : ℕ → ℕ → PendingView → StoreEvent
+store_event hart domain store = record { hart = hart; domain = domain; store = store }
 
 -- what takes effect in memory: a store of a thread, or an accepted map, which makes its span zero
 pub data Effect : Type 0 where
@@ -38,7 +38,7 @@ pub data Effect : Type 0 where
   Zeroed : (span : SpanView) → Effect
 
 abbrev pub effect_of : ℕ → ℕ → PendingView → Effect
-effect_of hart domain store = Stored (event_of hart domain store)
+effect_of hart domain store = Stored (store_event hart domain store)
 
 -- ---- what a thread comes upon
 
@@ -102,7 +102,7 @@ store_at (Fault kind value pc) here = None
 -- the store that a thread executes by a label, in the state before it: into its buffer, or at once into memory
 abbrev pub executes : Setup → State → Label → Option StoreEvent
 executes setup state (label.Exec hart) = option_and_then (λ here.
-    option_map (event_of hart here.around.domain) (store_at here.thread.end here)) (scene_of setup state hart)
+    option_map (store_event hart here.around.domain) (store_at here.thread.end here)) (scene_of setup state hart)
 executes setup state (label.Drain hart) = None
 executes setup state (label.Command index) = None
 

@@ -8,15 +8,15 @@ use Rattle.tso_machine.specs.State.{Taken}
 use Rattle.tso_machine.specs.Commands.{is_change, next_command}
 
 -- commands, and those of them that were taken
-pub record QueueView : Type 0 where
+pub record CommandQueueView : Type 0 where
   pub commands : List Command
   pub taken : List Taken
 
 -- the commands that these outcomes say were taken, numbered from n on
-abbrev pub taken_from : ℕ → List (Option Outcome) → List Taken
-taken_from n [] = []
-taken_from n (None ∷ outcomes) = taken_from (suc n) outcomes
-taken_from n (Some outcome ∷ outcomes) = record { index = n; outcome = outcome } ∷ taken_from (suc n) outcomes
+abbrev pub taken_commands : ℕ → List (Option Outcome) → List Taken
+taken_commands n [] = []
+taken_commands n (None ∷ outcomes) = taken_commands (suc n) outcomes
+taken_commands n (Some outcome ∷ outcomes) = record { index = n; outcome = outcome } ∷ taken_commands (suc n) outcomes
 
 -- there is an outcome for each of the first commands that is a change, and none for a migrate
 abbrev pub AreMarked : List (Option Outcome) → List Command → Type 0
@@ -41,7 +41,7 @@ pub record IsQueue (commands : List Command) (outcomes : List (Option Outcome)) 
   pub stands : StartsWithChange (drop next commands)
 
 -- the command with this number, if it is next
-abbrev pub command_if_next : QueueView → ℕ → Option Command
+abbrev pub command_if_next : CommandQueueView → ℕ → Option Command
 command_if_next queue index =
     option_and_then (λ next. if next == index then slice_get queue.commands index else None) (next_command queue.commands queue.taken)
 

@@ -13,15 +13,7 @@ abbrev pub label_of : Note → Option Label
 label_of (note.Exec hart) = Some (label.Exec hart)
 label_of (note.Drain hart) = Some (label.Drain hart)
 label_of (note.Command index) = Some (label.Command index)
-label_of (note.Event index) = None
-label_of (note.Moved index outcome) = None
-label_of (note.Take blade page writable) = None
-label_of (note.Give blade page) = None
-label_of (note.Down blade page) = None
-label_of (note.Region range state) = None
-label_of (note.Gone range) = None
-label_of (note.Split range) = None
-label_of (note.Merge range) = None
+label_of note = None
 
 -- the labels of a log, in order
 abbrev pub labels : List Note → List Label

@@ -1,13 +1,13 @@
 -- The state of the machine: threads with their registers and buffers over one flat memory for each domain.
-use Rattle.std.specs.Prelude.{ℕ, List, [], map, slice_get, option_map, unwrap_or}
+use Rattle.std.specs.Prelude.{ℕ, List, [], map}
 use Rattle.mind_base.specs.Span.{SpanView}
 use Rattle.mind_base.specs.declared.commands.Command.{Command}
 use Rattle.mind_base.specs.declared.commands.Outcome.{Outcome}
 use Rattle.mind_base.specs.declared.images.Image.{Image}
-use Rattle.mind_base.specs.declared.plans.ImagePlan.{ImagePlan}
 use Rattle.mind_base.specs.declared.plans.MapPlan.{MapPlan}
 use Rattle.mind_base.specs.declared.plans.RackPlan.{RackPlan}
 use Rattle.mind_base.specs.declared.plans.ThreadPlan.{ThreadPlan}
+use Rattle.mind_base.specs.Plan.{image_place}
 use Rattle.hart_effect.specs.Thread.{Thread, first_thread}
 
 -- what a machine is made from, which never changes
@@ -33,14 +33,10 @@ pub record State : Type 0 where
   pub perms : List MapPlan
   pub taken : List Taken
 
--- where an image of the plan stands; 0 for one that the plan does not have
-abbrev pub image_at : List ImagePlan → ℕ → ℕ
-image_at images i = unwrap_or (option_map (λ image. image.at) (slice_get images i)) 0
-
 -- the state at the start: each thread at its image, the maps of the plan, and nothing written
 abbrev pub start_state : Setup → State
 start_state setup = record {
-  threads = map (λ (t : ThreadPlan). first_thread (image_at setup.plan.images t.image)) setup.plan.threads;
+  threads = map (λ (t : ThreadPlan). first_thread (image_place setup.plan.images t.image)) setup.plan.threads;
   writes = [];
   perms = setup.plan.maps;
   taken = [];

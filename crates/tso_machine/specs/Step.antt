@@ -8,7 +8,7 @@ use Rattle.mind_base.specs.Place.{Granule, place_of, granule_at, same_granule}
 use Rattle.tso_machine.specs.Memory.{byte_of}
 use Rattle.tso_machine.specs.Commands.{after_command}
 use Rattle.hart_effect.specs.Access.{Around}
-use Rattle.hart_effect.specs.Deed.{Deed, Alone, Storing, executed, drained}
+use Rattle.hart_effect.specs.Deed.{Deed, Alone, Storing, executed, drain_deed}
 use Rattle.tso_machine.specs.declared.labels.Label.{Label}
 use Rattle.tso_machine.specs.declared.labels.Label.TheVariants as label
 
@@ -62,7 +62,7 @@ after_exec setup state hart =
 abbrev pub after_drain : Setup → State → ℕ → Option State
 after_drain setup state hart =
     option_and_then (λ plan. option_and_then (λ thread.
-    option_map (done_by hart plan.domain state) (drained thread))
+    option_map (done_by hart plan.domain state) (drain_deed thread))
     (slice_get state.threads hart)) (slice_get setup.plan.threads hart)
 
 -- the state after a label that is enabled

@@ -1,3 +1,5 @@
+//! The buffered stores of a thread, oldest first.
+
 ghost use Rattle.std.specs.Prelude.{◌≡◌, ◌<◌, ◌+◌, ◌∷◌, ◌++◌, [], None, Some, OnOk, OnErr, length, drop, slice_get, if◌then◌else◌};
 ghost use Rattle.mind_base.specs.Pending.{covers, byte_at, newest_byte as newest_byte_of};
 ghost use Rattle.std.specs.List.{list_any};

@@ -1,3 +1,5 @@
+//! What a command does to permissions, memory and reservations.
+
 ghost use Rattle.std.specs.Prelude.{◌≡◌, ◌≤◌, length, OnOk, OnErr, if◌then◌else◌};
 ghost use Rattle.control_plane.specs.Outcome.{IsChange, permissions_after};
 ghost use Rattle.flat_memory.specs.FlatMemory.{byte_in};

@@ -1,7 +1,9 @@
+//! The commands of a run, taken in their order.
+
 ghost use Rattle.std.specs.Prelude.{◌≡◌, ◌≤◌, ◌++◌, ◌∷◌, [], length, take, drop, Some, IfOk, IfSome, IsSomeAnd, slice_get};
 ghost use Rattle.control_plane.specs.Outcome.{IsChange};
 ghost use Rattle.tso_machine.specs.Commands.{is_change, outcome_at, next_command};
-ghost use Rattle.tso_machine.specs.Queue.{taken_from, IsPassed, IsQueue, command_if_next};
+ghost use Rattle.tso_machine.specs.Queue.{taken_commands, IsPassed, IsQueue, command_if_next};
 
 use mind_base::{Command, NoMemory, Outcome, Sequence};
 use std::alloc::Global;
@@ -18,11 +20,11 @@ pub struct CommandQueue {
 
 impl Model for CommandQueue {
     ghost use Rattle.std.specs.Prelude.{take};
-    ghost use Rattle.tso_machine.specs.Queue.{QueueView, taken_from, IsQueue};
+    ghost use Rattle.tso_machine.specs.Queue.{CommandQueueView, taken_commands, IsQueue};
 
-    ghost Value = { QueueView };
+    ghost Value = { CommandQueueView };
 
-    ghost view = { λ q. record { commands = q.commands; taken = taken_from 0 (take q.next q.outcomes.items) } };
+    ghost view = { λ q. record { commands = q.commands; taken = taken_commands 0 (take q.next q.outcomes.items) } };
 
     ghost invariant = { λ q. IsQueue q.commands q.outcomes.items q.next };
 }
@@ -94,7 +96,7 @@ fn is_change(command: Command) -> bool
 fn pass_moves(outcomes: &mut Vec<Option<Outcome>>, commands: &[Command], from: usize) -> usize
     requires { IsPassed commands.now outcomes.old.items from }
     ensures queue { IsQueue commands.now outcomes.new.items result }
-    ensures taken { taken_from 0 (take result outcomes.new.items) ≡ taken_from 0 (take from outcomes.old.items) }
+    ensures taken { taken_commands 0 (take result outcomes.new.items) ≡ taken_commands 0 (take from outcomes.old.items) }
 {
     for i in from..commands.len() {
         if is_change(commands[i]) {

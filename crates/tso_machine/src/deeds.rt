@@ -1,3 +1,5 @@
+//! What a deed does to memory.
+
 ghost use Rattle.std.specs.Prelude.{◌≡◌, ◌<◌, OnOk, OnErr};
 ghost use Rattle.flat_memory.specs.FlatMemory.{byte_in};
 ghost use Rattle.tso_machine.specs.Storing.{stored_by};

@@ -1,10 +1,12 @@
+//! A thread of the machine: its core, its buffer and its reservation.
+
 ghost use Rattle.std.specs.Prelude.{◌≡◌, ◌<◌, Some, IfOk, OnErr, option_map};
 ghost use Rattle.hart_effect.specs.Core.{core_continued};
-ghost use Rattle.hart_effect.specs.Deed.{holds_stores, AsksWellFormed, carried_out, executed, drained, drains_first};
+ghost use Rattle.hart_effect.specs.Deed.{holds_stores, AsksWellFormed, carried_out, executed, drain_deed, drains_first};
 ghost use Rattle.hart_effect.specs.Thread.{first_thread, with_core};
 ghost use Rattle.hart_effect.specs.Work.{deed_of, deed_with};
 ghost use Rattle.tso_machine.specs.Commands.{buffers_in, thread_outside};
-ghost use Rattle.tso_machine.specs.Done.{Does};
+ghost use Rattle.tso_machine.specs.Done.{ThreadDoes};
 ghost use Rattle.tso_machine.specs.Machine.{around_at};
 ghost use Rattle.tso_machine.specs.Scheduled.{running_label, label_at};
 ghost use Rattle.tso_machine.specs.Step.{thread_off};
@@ -104,7 +106,7 @@ impl Hart {
         perms: &Protect,
     ) -> Result<Done, NoMemory>
         requires { domain < 16 }
-        ensures ok { IfOk result (λ done. Does done domain self.old memory.old self.new memory.new
+        ensures ok { IfOk result (λ done. ThreadDoes done domain self.old memory.old self.new memory.new
             (executed image.now (around_at hart domain memory.old perms.now) self.old)) }
         ensures err { OnErr result ((self.new ≡ self.old) × (memory.new ≡ memory.old)) }
     {
@@ -129,7 +131,7 @@ impl Hart {
     ) -> Result<Done, NoMemory>
         requires domain { here.domain < 16 }
         requires well_formed { AsksWellFormed found }
-        ensures ok { IfOk result (λ done. Does done here.domain self.old memory.old self.new memory.new
+        ensures ok { IfOk result (λ done. ThreadDoes done here.domain self.old memory.old self.new memory.new
             (carried_out found (around_at here.hart here.domain memory.old perms.now) here.pc self.old)) }
         ensures err { OnErr result ((self.new ≡ self.old) × (memory.new ≡ memory.old)) }
     {
@@ -160,7 +162,7 @@ impl Hart {
 
     fn perform(&mut self, work: Work, domain: u8, memory: &mut FlatMemory) -> Result<Done, NoMemory>
         requires { domain < 16 }
-        ensures ok { IfOk result (λ done. Does done domain self.old memory.old self.new memory.new (Some (deed_of work self.old))) }
+        ensures ok { IfOk result (λ done. ThreadDoes done domain self.old memory.old self.new memory.new (Some (deed_of work self.old))) }
         ensures err { OnErr result ((self.new ≡ self.old) × (memory.new ≡ memory.old)) }
     {
         match work {
@@ -184,7 +186,7 @@ impl Hart {
         memory: &mut FlatMemory,
     ) -> Result<Done, NoMemory>
         requires { domain < 16 }
-        ensures ok { IfOk result (λ done. Does done domain self.old memory.old self.new memory.new
+        ensures ok { IfOk result (λ done. ThreadDoes done domain self.old memory.old self.new memory.new
             (Some (deed_with effect (with_core (core_continued next)) self.old))) }
         ensures err { OnErr result ((self.new ≡ self.old) × (memory.new ≡ memory.old)) }
     {
@@ -215,7 +217,7 @@ impl Hart {
     /// Drains the oldest store of the buffer, if there is one, to the memory of a domain.
     pub fn drain(&mut self, domain: u8, memory: &mut FlatMemory) -> Result<Done, NoMemory>
         requires { domain < 16 }
-        ensures ok { IfOk result (λ done. Does done domain self.old memory.old self.new memory.new (drained self.old)) }
+        ensures ok { IfOk result (λ done. ThreadDoes done domain self.old memory.old self.new memory.new (drain_deed self.old)) }
         ensures err { OnErr result ((self.new ≡ self.old) × (memory.new ≡ memory.old)) }
     {
         let Some(store) = self.buffer.front() else {

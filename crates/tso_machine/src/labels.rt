@@ -1,3 +1,5 @@
+//! The labels of the machine, and where a replay of them ends.
+
 ghost use Rattle.std.specs.Prelude.{◌≡◌};
 ghost use Rattle.tso_machine.specs.Replay.{label_of};
 

@@ -1,16 +1,19 @@
+//! The machine: threads over one flat memory, step by step.
+
 ghost use Rattle.std.specs.Prelude.{◌≡◌, ◌<◌, ◌≤◌, length, map, IfOk, IfSome, IsSomeAnd, OnErr, slice_get, Some, option_map, option_and_then};
 ghost use Rattle.control_plane.specs.Outcome.{IsChange};
 ghost use Rattle.mind_base.specs.Fit.{IsFit, FitImages};
+ghost use Rattle.mind_base.specs.Plan.{image_place};
 ghost use Rattle.hart_effect.specs.Thread.{first_thread};
-ghost use Rattle.tso_machine.specs.State.{State, start_state, image_at};
-ghost use Rattle.hart_effect.specs.Deed.{executed, drained};
-ghost use Rattle.tso_machine.specs.Done.{Settles};
+ghost use Rattle.tso_machine.specs.State.{State, start_state};
+ghost use Rattle.hart_effect.specs.Deed.{executed, drain_deed};
+ghost use Rattle.tso_machine.specs.Done.{EndsReservations};
 ghost use Rattle.tso_machine.specs.Commands.{after_command, outcome_at};
 ghost use Rattle.tso_machine.specs.Step.{threads_off, after_exec, after_drain};
 ghost use Rattle.tso_machine.specs.Scheduled.{step_label, drain_label};
 ghost use Rattle.tso_machine.specs.Laws.{KeepsTotalStoreOrder};
 ghost use Rattle.tso_machine.specs.Replay.{labels};
-ghost use Rattle.tso_machine.specs.Machine.{MachineView, StandsFor, Leads, LeadsTo, CarriesOut, around_at, Replays, StandsInside};
+ghost use Rattle.tso_machine.specs.Machine.{MachineView, StandsFor, StepLeads, StepLeadsTo, CarriesOut, around_at, Replays, StandsInside};
 
 use crate::changes::{carry_out, end_reservations_by, is_held_up};
 use crate::command_queues::CommandQueue;
@@ -20,7 +23,7 @@ use crate::{Label, Replay, label_in};
 use control_plane::decide;
 use flat_memory::FlatMemory;
 use mind_base::{
-    Command, End, Granule, Image, ImagePlan, Log, NoMemory, Outcome, Place, RackPlan, Sequence,
+    Command, End, Granule, Image, Log, NoMemory, Outcome, Place, RackPlan, Sequence, image_place,
 };
 use protect_table::Protect;
 use std::alloc::Global;
@@ -88,7 +91,7 @@ impl Machine {
     /// Takes one label: true where it was enabled and took effect, false, with nothing changed, where it
     /// was not.
     pub fn step(&mut self, label: Label) -> Result<bool, NoMemory>
-        ensures ok { IfOk result (λ enabled. Leads enabled label self.old self.new) }
+        ensures ok { IfOk result (λ enabled. StepLeads enabled label self.old self.new) }
         ensures setup { self.new.setup ≡ self.old.setup }
         ensures err { OnErr result (self.new ≡ self.old) }
     {
@@ -100,7 +103,7 @@ impl Machine {
     }
 
     fn execute(&mut self, hart: u8) -> Result<bool, NoMemory>
-        ensures ok { IfOk result (λ done. (state : State) → StandsFor self.old state → LeadsTo done self.old self.new (after_exec self.old.setup state hart)) }
+        ensures ok { IfOk result (λ done. (state : State) → StandsFor self.old state → StepLeadsTo done self.old self.new (after_exec self.old.setup state hart)) }
         ensures setup { self.new.setup ≡ self.old.setup }
         ensures err { OnErr result (self.new ≡ self.old) }
     {
@@ -122,7 +125,7 @@ impl Machine {
     }
 
     fn drain(&mut self, hart: u8) -> Result<bool, NoMemory>
-        ensures ok { IfOk result (λ done. (state : State) → StandsFor self.old state → LeadsTo done self.old self.new (after_drain self.old.setup state hart)) }
+        ensures ok { IfOk result (λ done. (state : State) → StandsFor self.old state → StepLeadsTo done self.old self.new (after_drain self.old.setup state hart)) }
         ensures setup { self.new.setup ≡ self.old.setup }
         ensures err { OnErr result (self.new ≡ self.old) }
     {
@@ -135,7 +138,7 @@ impl Machine {
 
     /// Takes the command with this number, where it is next and no buffered store holds it up.
     fn take_command(&mut self, index: u32) -> Result<bool, NoMemory>
-        ensures ok { IfOk result (λ done. (state : State) → StandsFor self.old state → LeadsTo done self.old self.new (after_command self.old.setup state index)) }
+        ensures ok { IfOk result (λ done. (state : State) → StandsFor self.old state → StepLeadsTo done self.old self.new (after_command self.old.setup state index)) }
         ensures setup { self.new.setup ≡ self.old.setup }
         ensures err { OnErr result (self.new ≡ self.old) }
     {
@@ -274,7 +277,7 @@ fn drain_among(
 ) -> Result<bool, NoMemory>
     requires { domain < 16 }
     ensures ok { IfOk result (λ done. CarriesOut done hart domain harts.old.items memory.old harts.new.items memory.new
-        (option_and_then drained (slice_get harts.old.items hart))) }
+        (option_and_then drain_deed (slice_get harts.old.items hart))) }
     ensures count { length harts.new.items ≡ length harts.old.items }
     ensures err { OnErr result ((harts.new.items ≡ harts.old.items) × (memory.new ≡ memory.old)) }
 {
@@ -290,7 +293,7 @@ fn drain_among(
 #[tactic(auto, using(crate::proofs::Counting::length_off))]
 fn settle_deed(harts: &mut Vec<Hart>, done: Done, domain: u8) -> bool
     requires { domain < 16 }
-    ensures settles { Settles result domain done harts.old.items harts.new.items }
+    ensures settles { EndsReservations result domain done harts.old.items harts.new.items }
     ensures count { length harts.new.items ≡ length harts.old.items }
 {
     match done {
@@ -321,19 +324,9 @@ fn copied_images(alloc: Global, images: &[Image]) -> Result<Sequence<Image>, NoM
     Ok(copies)
 }
 
-/// Where image number `i` of the plan stands; 0 for one that the plan does not have.
-fn image_place(images: &[ImagePlan], i: u8) -> u32
-    ensures { result ≡ image_at images.now i }
-{
-    match images.get(usize::from(i)) {
-        Some(image) => image.at,
-        None => 0,
-    }
-}
-
 #[tactic(auto, using(crate::proofs::Counting::length_first))]
 fn start_harts(alloc: Global, plan: &RackPlan) -> Result<Vec<Hart>, NoMemory>
-    ensures threads { IfOk result (λ harts. harts.items ≡ map (λ thread. first_thread (image_at plan.now.images thread.image)) plan.now.threads) }
+    ensures threads { IfOk result (λ harts. harts.items ≡ map (λ thread. first_thread (image_place plan.now.images thread.image)) plan.now.threads) }
     ensures count { IfOk result (λ harts. length harts.items ≡ length plan.now.threads) }
 {
     let mut harts = Vec::new(alloc);

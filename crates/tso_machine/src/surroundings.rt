@@ -1,3 +1,5 @@
+//! What a thread finds around it in flat memory.
+
 ghost use Rattle.std.specs.Prelude.{◌≡◌};
 ghost use Rattle.flat_memory.specs.FlatMemory.{byte_in};
 ghost use Rattle.hart_effect.specs.Deed.{holds_reservation};

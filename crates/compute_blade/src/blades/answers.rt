@@ -1,20 +1,20 @@
 //! Answers to the blade's requests: what waited is performed.
 
 ghost use Rattle.std.specs.Prelude.{◌≡◌, ◌<◌, is_some, Err, OnOk, OnErr, IfSome, IfNone, IsSome, IsSomeAnd};
-ghost use Rattle.hart_effect.specs.Deed.{AsksWellFormed};
 ghost use Rattle.mind_base.specs.declared.failures.Stop.TheVariants.{Spent};
-ghost use Rattle.compute_blade.specs.Blade.{Did, IsBlade, Keeps, Notes, HasSpent, hart_of, answered, with_hart, request_for as request_for_of};
-ghost use Rattle.compute_blade.specs.Denials.{faulting, refused_by, denial_in as denial_in_found};
+ghost use Rattle.compute_blade.specs.Blade.{Did, IsBlade, StaysBlade, OnlyNotes, HasSpent, hart_of, requests_without, with_hart, request_for as request_for_of};
+ghost use Rattle.compute_blade.specs.Denials.{refused_by, denial_in as denial_in_found};
+ghost use Rattle.compute_blade.specs.Harts.{IsDoing, IsMover};
 ghost use Rattle.compute_blade.specs.Messages.{awake, need_asked, resumed_with, resumed_at, resumed_by, resumed_for};
 
 use crate::blades::{ComputeBlade, image_for};
 use crate::denials::denial_in;
-use crate::kept::{Answer, Denial, Need};
+use crate::kept::{Answer, Doing, HartChange, Mover, Need};
 use crate::needs::{need_in, needs_just};
 use crate::requests::{answer as answer_request, request_for};
 use crate::{Asked, Waits};
 use hart_effect::{Found, find};
-use mind_base::{End, Image, Log, NoMemory, Note, Page, Stop, ThreadPlan};
+use mind_base::{End, Image, Log, NoMemory, Note, Page, Stop};
 use wire_msg::Msg;
 
 impl ComputeBlade {
@@ -30,18 +30,18 @@ impl ComputeBlade {
         ensures ok { OnOk result (Did (resumed_for answer images.now (request_for_of page self.old.requests) self.old) self.new out.old.items out.new.items log.old.notes log.new.notes) }
         ensures spent { result ≡ Err Spent → IsSomeAnd (request_for_of page self.old.requests) (λ asked. HasSpent asked.hart self.old × HasSpent asked.hart self.new) }
         ensures err { OnErr result ((out.new.items ≡ out.old.items) × (log.new.notes ≡ log.old.notes)) }
-        ensures keeps { Keeps self.old self.new }
+        ensures keeps { StaysBlade self.old self.new }
     {
         let Some(asked) = request_for(self.requests.as_slice(), page) else {
             return Ok(());
         };
-        let Some(plan) = self.thread(asked.hart) else {
+        let Some(mover) = self.mover(asked.hart) else {
             return Ok(());
         };
         if !self.wake(&asked) {
             return Ok(());
         }
-        self.resume_by(answer, &asked, plan, images, out, log)?;
+        self.resume_by(answer, &asked, mover, images, out, log)?;
         Ok(())
     }
 
@@ -50,50 +50,39 @@ impl ComputeBlade {
     fn wake(&mut self, asked: &Asked) -> bool
         ensures own { result ≡ is_some (hart_of self.old asked.now.hart) }
         ensures awake { IfSome (hart_of self.old asked.now.hart) (λ hart.
-            self.new ≡ with_hart asked.now.hart (awake asked.now.waits hart) (record self.old { requests = answered asked.now.page self.old.requests })) }
+            self.new ≡ with_hart asked.now.hart (awake asked.now.waits hart) (record self.old { requests = requests_without asked.now.page self.old.requests })) }
         ensures none { IfNone (hart_of self.old asked.now.hart) (self.new ≡ self.old) }
-        ensures keeps { Keeps self.old self.new }
+        ensures keeps { StaysBlade self.old self.new }
     {
         if self.hart(asked.hart).is_none() {
             return false;
         }
         answer_request(&mut self.requests, asked.page);
-        self.rouse(asked.hart, asked.waits);
+        let waits = asked.waits;
+        self.change_hart(asked.hart, HartChange::Wakes { waits });
         true
-    }
-
-    fn rouse(&mut self, h: u8, waits: Waits)
-        requires { IsSome (hart_of self.old h) }
-        ensures done { IfSome (hart_of self.old h) (λ hart. self.new ≡ with_hart h (awake waits hart) self.old) }
-        ensures keeps { Keeps self.old self.new }
-    {
-        let Some(hart) = &mut self.harts[usize::from(h)] else {
-            return;
-        };
-        hart.wake(waits);
     }
 
     fn resume_by(
         &mut self,
         answer: Answer,
         asked: &Asked,
-        plan: ThreadPlan,
+        mover: Mover,
         images: &[Image],
         out: &mut Vec<Msg>,
         log: &mut Log,
     ) -> Result<(), Stop>
-        requires hart { asked.now.hart < 64 }
-        requires domain { plan.domain < 16 }
-        requires own { IsSome (hart_of self.old asked.now.hart) }
-        ensures ok { OnOk result (IfSome (hart_of self.old asked.now.hart) (λ hart.
-            Did (resumed_by asked.now.waits answer (need_asked asked.now) images.now asked.now.hart plan self.old hart) self.new out.old.items out.new.items log.old.notes log.new.notes)) }
-        ensures spent { result ≡ Err Spent → HasSpent asked.now.hart self.old × (self.new ≡ self.old) }
+        requires mover { IsMover mover }
+        requires own { IsSome (hart_of self.old mover.hart) }
+        ensures ok { OnOk result (IfSome (hart_of self.old mover.hart) (λ hart.
+            Did (resumed_by asked.now.waits answer (need_asked asked.now) images.now mover.hart mover.plan self.old hart) self.new out.old.items out.new.items log.old.notes log.new.notes)) }
+        ensures spent { result ≡ Err Spent → HasSpent mover.hart self.old × (self.new ≡ self.old) }
         ensures err { OnErr result ((out.new.items ≡ out.old.items) × (log.new.notes ≡ log.old.notes)) }
-        ensures keeps { Keeps self.old self.new }
+        ensures keeps { StaysBlade self.old self.new }
     {
         match asked.waits {
-            Waits::Step => self.resume_step(answer, asked, plan, images, log)?,
-            Waits::Drain => self.drain_by(asked.hart, plan, out, log)?,
+            Waits::Step => self.resume_step(answer, need_for(asked), mover, images, log)?,
+            Waits::Drain => self.drain_by(mover, out, log)?,
         }
         Ok(())
     }
@@ -101,62 +90,58 @@ impl ComputeBlade {
     fn resume_step(
         &mut self,
         answer: Answer,
-        asked: &Asked,
-        plan: ThreadPlan,
+        need: Need,
+        mover: Mover,
         images: &[Image],
         log: &mut Log,
     ) -> Result<(), Stop>
-        requires hart { asked.now.hart < 64 }
-        requires domain { plan.domain < 16 }
-        requires own { IsSome (hart_of self.old asked.now.hart) }
-        ensures ok { OnOk result (IfSome (hart_of self.old asked.now.hart) (λ hart.
-            Notes (resumed_at hart.end answer (need_asked asked.now) images.now asked.now.hart plan self.old hart) self.new log.old.notes log.new.notes)) }
-        ensures spent { result ≡ Err Spent → HasSpent asked.now.hart self.old × (self.new ≡ self.old) }
+        requires mover { IsMover mover }
+        requires own { IsSome (hart_of self.old mover.hart) }
+        ensures ok { OnOk result (IfSome (hart_of self.old mover.hart) (λ hart.
+            OnlyNotes (resumed_at hart.end answer need images.now mover.hart mover.plan self.old hart) self.new log.old.notes log.new.notes)) }
+        ensures spent { result ≡ Err Spent → HasSpent mover.hart self.old × (self.new ≡ self.old) }
         ensures err { OnErr result (log.new.notes ≡ log.old.notes) }
-        ensures keeps { Keeps self.old self.new }
+        ensures keeps { StaysBlade self.old self.new }
     {
-        let Some(mover) = self.hart(asked.hart) else {
+        let Some(hart) = self.hart(mover.hart) else {
             return Ok(());
         };
-        let End::Running { pc } = mover.end() else {
+        let End::Running { pc } = hart.end() else {
             return Ok(());
         };
-        let Some(image) = image_for(images, plan.image) else {
+        let Some(image) = image_for(images, mover.plan.image) else {
             return Ok(());
         };
-        let found = find(image, mover.regs(), pc);
-        self.resume_with(answer, asked, plan, found, pc, log)?;
+        let found = find(image, hart.regs(), pc);
+        self.resume_with(answer, need, Doing { mover, found, pc }, log)?;
         Ok(())
     }
 
     fn resume_with(
         &mut self,
         answer: Answer,
-        asked: &Asked,
-        plan: ThreadPlan,
-        found: Found,
-        pc: u32,
+        need: Need,
+        doing: Doing,
         log: &mut Log,
     ) -> Result<(), Stop>
-        requires hart { asked.now.hart < 64 }
-        requires domain { plan.domain < 16 }
-        requires well_formed { AsksWellFormed found }
-        requires own { IsSome (hart_of self.old asked.now.hart) }
-        ensures ok { OnOk result (IfSome (hart_of self.old asked.now.hart) (λ hart.
-            Notes (resumed_with answer (need_asked asked.now) asked.now.hart plan found pc self.old hart) self.new log.old.notes log.new.notes)) }
-        ensures spent { result ≡ Err Spent → HasSpent asked.now.hart self.old × (self.new ≡ self.old) }
+        requires doing { IsDoing doing }
+        requires own { IsSome (hart_of self.old doing.mover.hart) }
+        ensures ok { OnOk result (IfSome (hart_of self.old doing.mover.hart) (λ hart.
+            OnlyNotes (resumed_with answer need doing.mover.hart doing.mover.plan doing.found doing.pc self.old hart) self.new log.old.notes log.new.notes)) }
+        ensures spent { result ≡ Err Spent → HasSpent doing.mover.hart self.old × (self.new ≡ self.old) }
         ensures err { OnErr result (log.new.notes ≡ log.old.notes) }
-        ensures keeps { Keeps self.old self.new }
+        ensures keeps { StaysBlade self.old self.new }
     {
-        if self.drains_first(asked.hart, found) {
+        let Doing { mover, found, pc } = doing;
+        if self.drains_first(mover.hart, found) {
             return Ok(());
         }
-        if !needs_just(need_for(asked), need_in(found, plan.domain)) {
+        if !needs_just(need, need_in(found, mover.plan.domain)) {
             return Ok(());
         }
         match answer {
-            Answer::Filled => self.perform(asked.hart, plan, found, pc, log)?,
-            Answer::Denied => self.refuse(asked.hart, found, pc, log)?,
+            Answer::Filled => self.perform(doing, log)?,
+            Answer::Denied => self.refuse(mover.hart, found, pc, log)?,
         }
         Ok(())
     }
@@ -166,28 +151,16 @@ impl ComputeBlade {
         requires shape { IsBlade self.old }
         requires own { IsSome (hart_of self.old h) }
         ensures ok { OnOk result (IfSome (hart_of self.old h) (λ hart.
-            Notes (refused_by (denial_in_found found) h pc self.old hart) self.new log.old.notes log.new.notes)) }
+            OnlyNotes (refused_by (denial_in_found found) h pc self.old hart) self.new log.old.notes log.new.notes)) }
         ensures err { OnErr result (log.new.notes ≡ log.old.notes) }
-        ensures keeps { Keeps self.old self.new }
+        ensures keeps { StaysBlade self.old self.new }
     {
         let Some(denial) = denial_in(found) else {
             return Ok(());
         };
-        let hart = h;
-        self.fault(h, denial, pc);
-        log.add(Note::Exec { hart })?;
+        self.change_hart(h, HartChange::Faults { denial, pc });
+        log.add(Note::Exec { hart: h })?;
         Ok(())
-    }
-
-    fn fault(&mut self, h: u8, denial: Denial, pc: u32)
-        requires { IsSome (hart_of self.old h) }
-        ensures done { IfSome (hart_of self.old h) (λ hart. self.new ≡ with_hart h (faulting denial.kind denial.address pc hart) self.old) }
-        ensures keeps { Keeps self.old self.new }
-    {
-        let Some(hart) = &mut self.harts[usize::from(h)] else {
-            return;
-        };
-        hart.fault(denial.kind, denial.address, pc);
     }
 }
 

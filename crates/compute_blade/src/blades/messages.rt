@@ -5,14 +5,13 @@ ghost use Rattle.mind_base.specs.Fit.{FitImages};
 ghost use Rattle.mind_base.specs.declared.failures.Stop.TheVariants.{Spent};
 ghost use Rattle.page_cache.specs.PageCache.{same_page};
 ghost use Rattle.wire_msg.specs.declared.msgs.Msg.TheVariants.{Fill};
-ghost use Rattle.compute_blade.specs.Blade.{Did, BeginsWith, Keeps, HasSpent, request_for as request_for_of};
-ghost use Rattle.compute_blade.specs.Messages.{BringsNothing, FitsFill, MayCome, acknowledging, after_message, request_of};
+ghost use Rattle.compute_blade.specs.Blade.{Did, BeginsWith, StaysBlade, HasSpent, request_for as request_for_of};
+ghost use Rattle.compute_blade.specs.Messages.{BringsNothing, FitsFill, MayComeToBlade, acknowledging, after_message, request_answered};
 ghost use Rattle.compute_blade.specs.declared.kept.Waits.TheVariants.{Step};
-ghost use Rattle.compute_blade.specs.Pages.{given_up, lowered, held_in, writable_in, spared as spared_of};
+ghost use Rattle.compute_blade.specs.Pages.{withdrawn, withdrawable_in, spared as spared_of};
 
 use crate::blades::ComputeBlade;
-use crate::blades::pages::span_of;
-use crate::kept::Answer;
+use crate::kept::{Answer, Withdrawal};
 use crate::requests::request_for;
 use crate::{Asked, Waits};
 use mind_base::{Image, Log, NoMemory, Page, Perm, Range, Stop};
@@ -23,7 +22,7 @@ impl ComputeBlade {
     /// Whether the message may come to the blade as it is: one that answers a request answers one that is
     /// out, brings a page to be written where one was asked for, and denies no drain.
     pub fn may_receive(&self, msg: &Msg) -> bool
-        ensures { IsTrue result ↔ MayCome self.now msg.now }
+        ensures { IsTrue result ↔ MayComeToBlade self.now msg.now }
     {
         match msg {
             Msg::Fill { page, writable, .. } => {
@@ -47,12 +46,12 @@ impl ComputeBlade {
         out: &mut Vec<Msg>,
         log: &mut Log,
     ) -> Result<(), Stop>
-        requires may_come { MayCome self.old msg }
+        requires may_come { MayComeToBlade self.old msg }
         requires images { FitImages self.old.plan.images images.now }
         ensures ok { OnOk result (Did (after_message images.now msg self.old) self.new out.old.items out.new.items log.old.notes log.new.notes) }
-        ensures spent { result ≡ Err Spent → IsSomeAnd (request_of msg self.old.requests) (λ asked. HasSpent asked.hart self.old × HasSpent asked.hart self.new) }
+        ensures spent { result ≡ Err Spent → IsSomeAnd (request_answered msg self.old.requests) (λ asked. HasSpent asked.hart self.old × HasSpent asked.hart self.new) }
         ensures err { OnErr result (BeginsWith out.old.items out.new.items × BeginsWith log.old.notes log.new.notes) }
-        ensures keeps { Keeps self.old self.new }
+        ensures keeps { StaysBlade self.old self.new }
     {
         match msg {
             Msg::Fill {
@@ -74,11 +73,11 @@ impl ComputeBlade {
         log: &mut Log,
     ) -> Result<(), Stop>
         requires brings { BringsNothing msg.now }
-        requires may_come { MayCome self.old msg.now }
+        requires may_come { MayComeToBlade self.old msg.now }
         ensures ok { OnOk result (Did (after_message images.now msg.now self.old) self.new out.old.items out.new.items log.old.notes log.new.notes) }
-        ensures spent { result ≡ Err Spent → IsSomeAnd (request_of msg.now self.old.requests) (λ asked. HasSpent asked.hart self.old × HasSpent asked.hart self.new) }
+        ensures spent { result ≡ Err Spent → IsSomeAnd (request_answered msg.now self.old.requests) (λ asked. HasSpent asked.hart self.old × HasSpent asked.hart self.new) }
         ensures err { OnErr result (BeginsWith out.old.items out.new.items × BeginsWith log.old.notes log.new.notes) }
-        ensures keeps { Keeps self.old self.new }
+        ensures keeps { StaysBlade self.old self.new }
     {
         match msg {
             Msg::Deny { page } => self.resume(Answer::Denied, *page, images, out, log)?,
@@ -86,12 +85,12 @@ impl ComputeBlade {
                 number,
                 range,
                 asked,
-            } => self.invalidate(*number, *range, *asked, out, log)?,
+            } => self.withdraw_range(Withdrawal::Pages, *number, *range, *asked, out, log)?,
             Msg::Lower {
                 number,
                 range,
                 asked,
-            } => self.lower_range(*number, *range, *asked, out, log)?,
+            } => self.withdraw_range(Withdrawal::Writing, *number, *range, Some(*asked), out, log)?,
             Msg::Fill { .. }
             | Msg::Get { .. }
             | Msg::Back { .. }
@@ -121,53 +120,31 @@ impl ComputeBlade {
         ensures ok { OnOk result (Did (after_message images.now (Fill page perm writable image) self.old) self.new out.old.items out.new.items log.old.notes log.new.notes) }
         ensures spent { result ≡ Err Spent → IsSomeAnd (request_for_of page self.old.requests) (λ asked. HasSpent asked.hart self.old × HasSpent asked.hart self.new) }
         ensures err { OnErr result (BeginsWith out.old.items out.new.items × BeginsWith log.old.notes log.new.notes) }
-        ensures keeps { Keeps self.old self.new }
+        ensures keeps { StaysBlade self.old self.new }
     {
         self.take(page, perm, writable, image, out, log)?;
         self.resume(Answer::Filled, page, images, out, log)?;
         Ok(())
     }
 
-    /// Gives up the pages of a range, the least recently used first, and says how many of them were not
-    /// asked for.
-    fn invalidate(
+    /// Gives up the pages of a range, or lets them be written no longer, the least recently used first, and
+    /// says how many of them were not asked for.
+    fn withdraw_range(
         &mut self,
+        what: Withdrawal,
         number: u32,
         range: Range,
         asked: Option<Page>,
         out: &mut Vec<Msg>,
         log: &mut Log,
     ) -> Result<(), NoMemory>
-        ensures ok { OnOk result (Did (acknowledging given_up (held_in range self.old) number asked self.old) self.new out.old.items out.new.items log.old.notes log.new.notes) }
+        ensures ok { OnOk result (Did (acknowledging (withdrawn what) (withdrawable_in what range self.old) number asked self.old) self.new out.old.items out.new.items log.old.notes log.new.notes) }
         ensures err { OnErr result (BeginsWith out.old.items out.new.items × BeginsWith log.old.notes log.new.notes) }
-        ensures keeps { Keeps self.old self.new }
+        ensures keeps { StaysBlade self.old self.new }
     {
-        let alloc = *self.harts.allocator();
-        let pages = self.cache.pages_in(alloc, &span_of(range))?;
+        let pages = self.withdrawable(what, range)?;
         let count = spared(asked, pages.as_slice());
-        self.give_up_each(pages.as_slice(), out, log)?;
-        out.push(Msg::Ack { number, count })?;
-        Ok(())
-    }
-
-    /// Lets the pages of a range be written no longer, the least recently used first, and says how many
-    /// of them were not asked for.
-    fn lower_range(
-        &mut self,
-        number: u32,
-        range: Range,
-        asked: Page,
-        out: &mut Vec<Msg>,
-        log: &mut Log,
-    ) -> Result<(), NoMemory>
-        ensures ok { OnOk result (Did (acknowledging lowered (writable_in range self.old) number (Some asked) self.old) self.new out.old.items out.new.items log.old.notes log.new.notes) }
-        ensures err { OnErr result (BeginsWith out.old.items out.new.items × BeginsWith log.old.notes log.new.notes) }
-        ensures keeps { Keeps self.old self.new }
-    {
-        let alloc = *self.harts.allocator();
-        let pages = self.cache.writable_pages_in(alloc, &span_of(range))?;
-        let count = spared(Some(asked), pages.as_slice());
-        self.lower_each(pages.as_slice(), out, log)?;
+        self.withdraw_each(what, pages.as_slice(), out, log)?;
         out.push(Msg::Ack { number, count })?;
         Ok(())
     }

@@ -1,10 +1,11 @@
 //! Pages that the blade gives up, may write no longer, or takes.
 
-ghost use Rattle.std.specs.Prelude.{◌≡◌, ◌<◌, ◌≤◌, ◌+◌, [], ◌∷◌, ◌++◌, vec_len, vec_capacity, IfOk, OnOk, OnErr};
-ghost use Rattle.compute_blade.specs.Blade.{Did, BeginsWith, IsBlade, Keeps};
-ghost use Rattle.compute_blade.specs.Pages.{evicted, given_up, lowered, back_of, each_in, taken, sent_out, noted_out, span_of as span_of_range};
+ghost use Rattle.std.specs.Prelude.{◌≡◌, ◌<◌, ◌≤◌, ◌+◌, [], ◌∷◌, ◌++◌, length, vec_len, vec_capacity, IfOk, OnOk, OnErr};
+ghost use Rattle.compute_blade.specs.Blade.{Did, BeginsWith, IsBlade, StaysBlade};
+ghost use Rattle.compute_blade.specs.Pages.{evicted, given_up, lowered, withdrawn, withdrawable_in, back_of, each_in, taken, sent_out, noted_out, run_of_block as span_of_range};
 
 use crate::blades::ComputeBlade;
+use crate::kept::Withdrawal;
 use mind_base::{Log, NoMemory, Note, Page, Perm, Range, Span};
 use page_cache::{Frame, Put};
 use page_image::PageImage;
@@ -14,7 +15,7 @@ impl ComputeBlade {
     /// Gives a page up where it is held; if it is dirty, its image goes back to the switch.
     pub fn evict(&mut self, page: Page, out: &mut Vec<Msg>, log: &mut Log) -> Result<(), NoMemory>
         ensures ok { OnOk result (Did (evicted page self.old) self.new out.old.items out.new.items log.old.notes log.new.notes) }
-        ensures keeps { Keeps self.old self.new }
+        ensures keeps { StaysBlade self.old self.new }
         ensures err { OnErr result (BeginsWith out.old.items out.new.items × BeginsWith log.old.notes log.new.notes) }
     {
         self.give_up(page, out, log)?;
@@ -23,7 +24,7 @@ impl ComputeBlade {
 
     fn give_up(&mut self, page: Page, out: &mut Vec<Msg>, log: &mut Log) -> Result<(), NoMemory>
         ensures ok { OnOk result (Did (given_up page self.old) self.new out.old.items out.new.items log.old.notes log.new.notes) }
-        ensures keeps { Keeps self.old self.new }
+        ensures keeps { StaysBlade self.old self.new }
         ensures err { OnErr result ((out.new.items ≡ out.old.items) × (log.new.notes ≡ log.old.notes)) }
     {
         let blade = self.number;
@@ -41,7 +42,7 @@ impl ComputeBlade {
     fn lower(&mut self, page: Page, out: &mut Vec<Msg>, log: &mut Log) -> Result<(), NoMemory>
         ensures ok { OnOk result (Did (lowered page self.old) self.new out.old.items out.new.items log.old.notes log.new.notes) }
         ensures err { OnErr result ((out.new.items ≡ out.old.items) × (log.new.notes ≡ log.old.notes)) }
-        ensures keeps { Keeps self.old self.new }
+        ensures keeps { StaysBlade self.old self.new }
     {
         let blade = self.number;
         let Some(frame) = self.cache.find(page) else {
@@ -55,40 +56,55 @@ impl ComputeBlade {
         Ok(())
     }
 
-    /// Gives up these pages, one after another.
-    pub(crate) fn give_up_each(
+    fn withdraw(
         &mut self,
-        pages: &[Page],
+        what: Withdrawal,
+        page: Page,
         out: &mut Vec<Msg>,
         log: &mut Log,
     ) -> Result<(), NoMemory>
-        requires { IsBlade self.old }
-        ensures ok { OnOk result (Did (each_in given_up pages.now self.old) self.new out.old.items out.new.items log.old.notes log.new.notes) }
-        ensures err { OnErr result (BeginsWith out.old.items out.new.items × BeginsWith log.old.notes log.new.notes) }
-        ensures keeps { Keeps self.old self.new }
+        ensures ok { OnOk result (Did (withdrawn what page self.old) self.new out.old.items out.new.items log.old.notes log.new.notes) }
+        ensures err { OnErr result ((out.new.items ≡ out.old.items) × (log.new.notes ≡ log.old.notes)) }
+        ensures keeps { StaysBlade self.old self.new }
     {
-        for page in pages {
-            self.give_up(*page, out, log)?;
+        match what {
+            Withdrawal::Pages => self.give_up(page, out, log)?,
+            Withdrawal::Writing => self.lower(page, out, log)?,
         }
         Ok(())
     }
 
-    /// Lets these pages be written no longer, one after another.
-    pub(crate) fn lower_each(
+    /// Gives up these pages, or lets them be written no longer, one after another.
+    pub(crate) fn withdraw_each(
         &mut self,
+        what: Withdrawal,
         pages: &[Page],
         out: &mut Vec<Msg>,
         log: &mut Log,
     ) -> Result<(), NoMemory>
         requires { IsBlade self.old }
-        ensures ok { OnOk result (Did (each_in lowered pages.now self.old) self.new out.old.items out.new.items log.old.notes log.new.notes) }
+        ensures ok { OnOk result (Did (each_in (withdrawn what) pages.now self.old) self.new out.old.items out.new.items log.old.notes log.new.notes) }
         ensures err { OnErr result (BeginsWith out.old.items out.new.items × BeginsWith log.old.notes log.new.notes) }
-        ensures keeps { Keeps self.old self.new }
+        ensures keeps { StaysBlade self.old self.new }
     {
         for page in pages {
-            self.lower(*page, out, log)?;
+            self.withdraw(what, *page, out, log)?;
         }
         Ok(())
+    }
+
+    /// The pages of a range that are held, or those that may be written, the least recently used first.
+    pub(crate) fn withdrawable(&self, what: Withdrawal, range: Range) -> Result<Vec<Page>, NoMemory>
+        ensures pages { IfOk result (λ pages. pages.items ≡ withdrawable_in what range self.now) }
+        ensures count { IfOk result (λ pages. length pages.items ≤ self.now.cache.frames) }
+        ensures shape { IsBlade self.now }
+    {
+        let alloc = *self.harts.allocator();
+        let span = span_of(range);
+        match what {
+            Withdrawal::Pages => self.cache.pages_in(alloc, &span),
+            Withdrawal::Writing => self.cache.writable_pages_in(alloc, &span),
+        }
     }
 
     /// Takes a page, as the most recently used. A full cache of others gives up its least recently used
@@ -104,7 +120,7 @@ impl ComputeBlade {
     ) -> Result<(), NoMemory>
         ensures ok { OnOk result (Did (taken page perm writable image self.old) self.new out.old.items out.new.items log.old.notes log.new.notes) }
         ensures err { OnErr result ((out.new.items ≡ out.old.items) × (log.new.notes ≡ log.old.notes)) }
-        ensures keeps { Keeps self.old self.new }
+        ensures keeps { StaysBlade self.old self.new }
     {
         let blade = self.number;
         out.reserve(1)?;
@@ -177,7 +193,7 @@ fn give_way(blade: u8, put: Put, out: &mut Vec<Msg>, log: &mut Log)
 }
 
 /// A range as a run of pages.
-pub fn span_of(range: Range) -> Span
+fn span_of(range: Range) -> Span
     ensures { result ≡ span_of_range range }
 {
     Span {

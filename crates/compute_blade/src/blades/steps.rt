@@ -1,20 +1,21 @@
 //! Steps and drains of the blade's harts.
 
 ghost use Rattle.std.specs.Prelude.{◌≡◌, ◌<◌, ◌++◌, [], true, false, drop, slice_get, Err, OnOk, OnErr, IfSome, IsSome};
-ghost use Rattle.hart_effect.specs.Deed.{AsksWellFormed, drains_first as drains_first_of};
+ghost use Rattle.hart_effect.specs.Deed.{drains_first as drains_first_of};
 ghost use Rattle.mind_base.specs.Fit.{FitImages};
 ghost use Rattle.mind_base.specs.declared.failures.Stop.TheVariants.{Spent};
-ghost use Rattle.compute_blade.specs.Blade.{BeginsWith, Did, DidSome, IsBlade, Keeps, Notes, Sends, HasSpent, hart_of, with_hart};
-ghost use Rattle.compute_blade.specs.Steps.{performed, asking, drained, draining_by, drain_of, stepping_by, step_at, waiting, after_step, after_drain};
+ghost use Rattle.compute_blade.specs.Blade.{BeginsWith, Did, DidSome, IsBlade, StaysBlade, OnlyNotes, OnlySends, HasSpent, hart_of, with_hart};
+ghost use Rattle.compute_blade.specs.Harts.{IsDoing, IsMover, hart_changed};
+ghost use Rattle.compute_blade.specs.Steps.{performed, asking, drained, draining_by, drain_of, stepping_by, step_at, after_step, blade_after_drain};
 
 use crate::blades::{ComputeBlade, image_for};
 use crate::frames::is_writable;
-use crate::kept::Need;
+use crate::kept::{Doing, HartChange, Mover, Need};
 use crate::needs::{need_in, serves};
 use crate::requests::is_asked;
 use crate::{Asked, Waits};
-use hart_effect::{Found, Here, find};
-use mind_base::{End, Image, Log, NoMemory, Note, Pending, Place, Stop, ThreadPlan};
+use hart_effect::{Found, find};
+use mind_base::{End, Image, Log, NoMemory, Note, Pending, Place, Stop};
 use wire_msg::Msg;
 
 impl ComputeBlade {
@@ -34,15 +35,15 @@ impl ComputeBlade {
         ensures ok { OnOk result (DidSome (after_step images.now hart self.old) self.new out.old.items out.new.items log.old.notes log.new.notes) }
         ensures spent { result ≡ Err Spent → HasSpent hart self.old × (self.new ≡ self.old) }
         ensures err { OnErr result (BeginsWith out.old.items out.new.items × BeginsWith log.old.notes log.new.notes) }
-        ensures keeps { Keeps self.old self.new }
+        ensures keeps { StaysBlade self.old self.new }
     {
-        let Some(plan) = self.thread(hart) else {
+        let Some(mover) = self.mover(hart) else {
             return Ok(());
         };
-        let Some(image) = image_for(images, plan.image) else {
+        let Some(image) = image_for(images, mover.plan.image) else {
             return Ok(());
         };
-        self.step_of(hart, plan, image, out, log)?;
+        self.step_of(mover, image, out, log)?;
         Ok(())
     }
 
@@ -51,155 +52,122 @@ impl ComputeBlade {
     /// the hart's 2^58th, and leaves the blade as it was.
     pub fn drain(&mut self, hart: u8, out: &mut Vec<Msg>, log: &mut Log) -> Result<(), Stop>
         requires { IsSome (hart_of self.old hart) }
-        ensures ok { OnOk result (DidSome (after_drain hart self.old) self.new out.old.items out.new.items log.old.notes log.new.notes) }
+        ensures ok { OnOk result (DidSome (blade_after_drain hart self.old) self.new out.old.items out.new.items log.old.notes log.new.notes) }
         ensures spent { result ≡ Err Spent → HasSpent hart self.old × (self.new ≡ self.old) }
         ensures err { OnErr result (BeginsWith out.old.items out.new.items × BeginsWith log.old.notes log.new.notes) }
-        ensures keeps { Keeps self.old self.new }
+        ensures keeps { StaysBlade self.old self.new }
     {
-        let Some(plan) = self.thread(hart) else {
+        let Some(mover) = self.mover(hart) else {
             return Ok(());
         };
-        self.drain_of(hart, plan, out, log)?;
+        self.drain_of(mover, out, log)?;
         Ok(())
     }
 
     fn step_of(
         &mut self,
-        h: u8,
-        plan: ThreadPlan,
+        mover: Mover,
         image: &Image,
         out: &mut Vec<Msg>,
         log: &mut Log,
     ) -> Result<(), Stop>
-        requires hart { h < 64 }
-        requires domain { plan.domain < 16 }
-        requires own { IsSome (hart_of self.old h) }
-        ensures ok { OnOk result (IfSome (hart_of self.old h) (λ hart.
-            Did (step_at hart.end h plan image.now self.old hart) self.new out.old.items out.new.items log.old.notes log.new.notes)) }
-        ensures spent { result ≡ Err Spent → HasSpent h self.old × (self.new ≡ self.old) }
+        requires mover { IsMover mover }
+        requires own { IsSome (hart_of self.old mover.hart) }
+        ensures ok { OnOk result (IfSome (hart_of self.old mover.hart) (λ hart.
+            Did (step_at hart.end mover.hart mover.plan image.now self.old hart) self.new out.old.items out.new.items log.old.notes log.new.notes)) }
+        ensures spent { result ≡ Err Spent → HasSpent mover.hart self.old × (self.new ≡ self.old) }
         ensures err { OnErr result ((out.new.items ≡ out.old.items) × (log.new.notes ≡ log.old.notes)) }
-        ensures keeps { Keeps self.old self.new }
+        ensures keeps { StaysBlade self.old self.new }
     {
-        let Some(mover) = self.hart(h) else {
+        let Some(hart) = self.hart(mover.hart) else {
             return Ok(());
         };
-        let End::Running { pc } = mover.end() else {
+        let End::Running { pc } = hart.end() else {
             return Ok(());
         };
-        if mover.is_stepping() {
+        if hart.is_stepping() {
             return Ok(());
         }
-        let found = find(image, mover.regs(), pc);
-        self.step_by(h, plan, found, pc, out, log)?;
+        let found = find(image, hart.regs(), pc);
+        self.step_by(Doing { mover, found, pc }, out, log)?;
         Ok(())
     }
 
-    fn step_by(
-        &mut self,
-        h: u8,
-        plan: ThreadPlan,
-        found: Found,
-        pc: u32,
-        out: &mut Vec<Msg>,
-        log: &mut Log,
-    ) -> Result<(), Stop>
-        requires hart { h < 64 }
-        requires domain { plan.domain < 16 }
-        requires well_formed { AsksWellFormed found }
-        requires own { IsSome (hart_of self.old h) }
-        ensures ok { OnOk result (IfSome (hart_of self.old h) (λ hart.
-            Did (stepping_by h plan found pc self.old hart) self.new out.old.items out.new.items log.old.notes log.new.notes)) }
-        ensures spent { result ≡ Err Spent → HasSpent h self.old × (self.new ≡ self.old) }
+    fn step_by(&mut self, doing: Doing, out: &mut Vec<Msg>, log: &mut Log) -> Result<(), Stop>
+        requires doing { IsDoing doing }
+        requires own { IsSome (hart_of self.old doing.mover.hart) }
+        ensures ok { OnOk result (IfSome (hart_of self.old doing.mover.hart) (λ hart.
+            Did (stepping_by doing.mover.hart doing.mover.plan doing.found doing.pc self.old hart) self.new out.old.items out.new.items log.old.notes log.new.notes)) }
+        ensures spent { result ≡ Err Spent → HasSpent doing.mover.hart self.old × (self.new ≡ self.old) }
         ensures err { OnErr result ((out.new.items ≡ out.old.items) × (log.new.notes ≡ log.old.notes)) }
-        ensures keeps { Keeps self.old self.new }
+        ensures keeps { StaysBlade self.old self.new }
     {
-        if self.drains_first(h, found) {
-            self.drain_of(h, plan, out, log)?;
+        let Doing { mover, found, .. } = doing;
+        if self.drains_first(mover.hart, found) {
+            self.drain_of(mover, out, log)?;
             return Ok(());
         }
-        if let Some(need) = need_in(found, plan.domain) {
+        if let Some(need) = need_in(found, mover.plan.domain) {
             if !serves(found, &self.cache, need.page) {
-                self.ask(h, Waits::Step, need, out)?;
+                self.ask(mover.hart, Waits::Step, need, out)?;
                 return Ok(());
             }
         }
-        self.perform(h, plan, found, pc, log)?;
+        self.perform(doing, log)?;
         Ok(())
     }
 
-    fn drain_of(
-        &mut self,
-        h: u8,
-        plan: ThreadPlan,
-        out: &mut Vec<Msg>,
-        log: &mut Log,
-    ) -> Result<(), Stop>
-        requires hart { h < 64 }
-        requires domain { plan.domain < 16 }
-        requires own { IsSome (hart_of self.old h) }
-        ensures ok { OnOk result (IfSome (hart_of self.old h) (λ hart.
-            Did (drain_of h plan self.old hart) self.new out.old.items out.new.items log.old.notes log.new.notes)) }
-        ensures spent { result ≡ Err Spent → HasSpent h self.old × (self.new ≡ self.old) }
+    fn drain_of(&mut self, mover: Mover, out: &mut Vec<Msg>, log: &mut Log) -> Result<(), Stop>
+        requires mover { IsMover mover }
+        requires own { IsSome (hart_of self.old mover.hart) }
+        ensures ok { OnOk result (IfSome (hart_of self.old mover.hart) (λ hart.
+            Did (drain_of mover.hart mover.plan self.old hart) self.new out.old.items out.new.items log.old.notes log.new.notes)) }
+        ensures spent { result ≡ Err Spent → HasSpent mover.hart self.old × (self.new ≡ self.old) }
         ensures err { OnErr result ((out.new.items ≡ out.old.items) × (log.new.notes ≡ log.old.notes)) }
-        ensures keeps { Keeps self.old self.new }
+        ensures keeps { StaysBlade self.old self.new }
     {
-        if self.is_draining(h) {
+        if self.is_draining(mover.hart) {
             return Ok(());
         }
-        self.drain_by(h, plan, out, log)?;
+        self.drain_by(mover, out, log)?;
         Ok(())
     }
 
-    /// Hart `h`, of this plan, does what it found at a pc.
-    pub(crate) fn perform(
-        &mut self,
-        h: u8,
-        plan: ThreadPlan,
-        found: Found,
-        pc: u32,
-        log: &mut Log,
-    ) -> Result<(), Stop>
-        requires hart { h < 64 }
-        requires domain { plan.domain < 16 }
-        requires well_formed { AsksWellFormed found }
-        requires own { IsSome (hart_of self.old h) }
-        requires ready { IfSome (hart_of self.old h) (λ hart. drains_first_of found hart.queue.stores hart.queue.capacity ≡ false) }
-        ensures ok { OnOk result (IfSome (hart_of self.old h) (λ hart. Notes (performed h plan found pc self.old hart) self.new log.old.notes log.new.notes)) }
-        ensures spent { result ≡ Err Spent → HasSpent h self.old × (self.new ≡ self.old) }
+    /// The hart does what it found at a pc.
+    pub(crate) fn perform(&mut self, doing: Doing, log: &mut Log) -> Result<(), Stop>
+        requires doing { IsDoing doing }
+        requires own { IsSome (hart_of self.old doing.mover.hart) }
+        requires ready { IfSome (hart_of self.old doing.mover.hart) (λ hart. drains_first_of doing.found hart.queue.stores hart.queue.capacity ≡ false) }
+        ensures ok { OnOk result (IfSome (hart_of self.old doing.mover.hart) (λ hart. OnlyNotes (performed doing.mover.hart doing.mover.plan doing.found doing.pc self.old hart) self.new log.old.notes log.new.notes)) }
+        ensures spent { result ≡ Err Spent → HasSpent doing.mover.hart self.old × (self.new ≡ self.old) }
         ensures err { OnErr result (log.new.notes ≡ log.old.notes) }
-        ensures keeps { Keeps self.old self.new }
+        ensures keeps { StaysBlade self.old self.new }
     {
-        let hart = h;
-        let here = Here {
-            hart,
-            domain: plan.domain,
-            pc,
-        };
-        let Some(mover) = &mut self.harts[usize::from(h)] else {
+        let Some(hart) = &mut self.harts[usize::from(doing.mover.hart)] else {
             return Ok(());
         };
-        mover.perform(found, here, &mut self.cache)?;
-        log.add(Note::Exec { hart })?;
+        hart.perform(doing, &mut self.cache)?;
+        log.add(Note::Exec {
+            hart: doing.mover.hart,
+        })?;
         Ok(())
     }
 
-    /// The oldest store of hart `h` leaves its queue and takes effect.
-    fn drain_oldest(&mut self, h: u8, plan: ThreadPlan, log: &mut Log) -> Result<(), Stop>
-        requires hart { h < 64 }
-        requires domain { plan.domain < 16 }
-        requires own { IsSome (hart_of self.old h) }
-        ensures ok { OnOk result (IfSome (hart_of self.old h) (λ hart. IfSome (slice_get hart.queue.stores 0) (λ oldest.
-            Notes (drained h plan oldest (drop 1 hart.queue.stores) self.old hart) self.new log.old.notes log.new.notes))) }
-        ensures spent { result ≡ Err Spent → HasSpent h self.old × (self.new ≡ self.old) }
+    /// The oldest store of the hart leaves its queue and takes effect.
+    fn drain_oldest(&mut self, mover: Mover, log: &mut Log) -> Result<(), Stop>
+        requires mover { IsMover mover }
+        requires own { IsSome (hart_of self.old mover.hart) }
+        ensures ok { OnOk result (IfSome (hart_of self.old mover.hart) (λ hart. IfSome (slice_get hart.queue.stores 0) (λ oldest.
+            OnlyNotes (drained mover.hart mover.plan oldest (drop 1 hart.queue.stores) self.old hart) self.new log.old.notes log.new.notes))) }
+        ensures spent { result ≡ Err Spent → HasSpent mover.hart self.old × (self.new ≡ self.old) }
         ensures err { OnErr result (log.new.notes ≡ log.old.notes) }
-        ensures keeps { Keeps self.old self.new }
+        ensures keeps { StaysBlade self.old self.new }
     {
-        let hart = h;
-        let Some(mover) = &mut self.harts[usize::from(h)] else {
+        let Some(hart) = &mut self.harts[usize::from(mover.hart)] else {
             return Ok(());
         };
-        mover.drain(hart, plan.domain, &mut self.cache)?;
-        log.add(Note::Drain { hart })?;
+        hart.drain(mover, &mut self.cache)?;
+        log.add(Note::Drain { hart: mover.hart })?;
         Ok(())
     }
 
@@ -235,32 +203,30 @@ impl ComputeBlade {
         }
     }
 
-    /// The oldest store of hart `h` takes effect where its page may be written; else the page is asked
+    /// The oldest store of the hart takes effect where its page may be written; else the page is asked
     /// for.
     pub(crate) fn drain_by(
         &mut self,
-        h: u8,
-        plan: ThreadPlan,
+        mover: Mover,
         out: &mut Vec<Msg>,
         log: &mut Log,
     ) -> Result<(), Stop>
-        requires hart { h < 64 }
-        requires domain { plan.domain < 16 }
-        requires own { IsSome (hart_of self.old h) }
-        ensures ok { OnOk result (IfSome (hart_of self.old h) (λ hart.
-            Did (draining_by h plan hart.queue.stores self.old hart) self.new out.old.items out.new.items log.old.notes log.new.notes)) }
-        ensures spent { result ≡ Err Spent → HasSpent h self.old × (self.new ≡ self.old) }
+        requires mover { IsMover mover }
+        requires own { IsSome (hart_of self.old mover.hart) }
+        ensures ok { OnOk result (IfSome (hart_of self.old mover.hart) (λ hart.
+            Did (draining_by mover.hart mover.plan hart.queue.stores self.old hart) self.new out.old.items out.new.items log.old.notes log.new.notes)) }
+        ensures spent { result ≡ Err Spent → HasSpent mover.hart self.old × (self.new ≡ self.old) }
         ensures err { OnErr result ((out.new.items ≡ out.old.items) × (log.new.notes ≡ log.old.notes)) }
-        ensures keeps { Keeps self.old self.new }
+        ensures keeps { StaysBlade self.old self.new }
     {
-        let Some(oldest) = self.oldest(h) else {
+        let Some(oldest) = self.oldest(mover.hart) else {
             return Ok(());
         };
-        let page = Place::of(plan.domain, oldest.address).page();
+        let page = Place::of(mover.plan.domain, oldest.address).page();
         if is_writable(&self.cache, page) {
-            self.drain_oldest(h, plan, log)?;
+            self.drain_oldest(mover, log)?;
         } else {
-            self.ask(h, Waits::Drain, Need { page, write: true }, out)?;
+            self.ask(mover.hart, Waits::Drain, Need { page, write: true }, out)?;
         }
         Ok(())
     }
@@ -268,9 +234,9 @@ impl ComputeBlade {
     /// Asks the switch for a page for which hart `h` waits, unless a request for it is out.
     fn ask(&mut self, h: u8, waits: Waits, need: Need, out: &mut Vec<Msg>) -> Result<(), NoMemory>
         requires own { IsSome (hart_of self.old h) }
-        ensures ok { OnOk result (IfSome (hart_of self.old h) (λ hart. Sends (asking h waits need self.old hart) self.new out.old.items out.new.items)) }
+        ensures ok { OnOk result (IfSome (hart_of self.old h) (λ hart. OnlySends (asking h waits need self.old hart) self.new out.old.items out.new.items)) }
         ensures err { OnErr result (out.new.items ≡ out.old.items) }
-        ensures keeps { Keeps self.old self.new }
+        ensures keeps { StaysBlade self.old self.new }
     {
         let Need { page, write } = need;
         if is_asked(self.requests.as_slice(), page) {
@@ -283,19 +249,20 @@ impl ComputeBlade {
             hart,
             waits,
         })?;
-        self.wait(h, waits);
+        self.change_hart(h, HartChange::Waits { waits });
         out.push(Msg::Get { page, write })?;
         Ok(())
     }
 
-    fn wait(&mut self, h: u8, waits: Waits)
+    /// Something befalls hart `h`.
+    pub(crate) fn change_hart(&mut self, h: u8, change: HartChange)
         requires { IsSome (hart_of self.old h) }
-        ensures done { IfSome (hart_of self.old h) (λ hart. self.new ≡ with_hart h (waiting waits hart) self.old) }
-        ensures keeps { Keeps self.old self.new }
+        ensures done { IfSome (hart_of self.old h) (λ hart. self.new ≡ with_hart h (hart_changed change hart) self.old) }
+        ensures keeps { StaysBlade self.old self.new }
     {
         let Some(hart) = &mut self.harts[usize::from(h)] else {
             return;
         };
-        hart.wait(waits);
+        hart.change_by(change);
     }
 }

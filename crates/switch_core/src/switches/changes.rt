@@ -1,3 +1,5 @@
+//! The things that may be done for a request.
+
 ghost use Rattle.std.specs.Prelude.{◌≡◌, ◌≢◌, ◌<◌, ◌^◌, ◌++◌, [], length, slice_get, Some, None, Err, true, false, OnOk, OnErr};
 ghost use Rattle.mind_base.specs.declared.failures.Stop.TheVariants.{Spent};
 ghost use Rattle.mind_base.specs.declared.notes.State.TheVariants.{M};
@@ -5,22 +7,22 @@ ghost use Rattle.invalidate_multicast.specs.Blades.{without_blade};
 ghost use Rattle.region_directory.specs.Entry.{MeetsNone};
 ghost use Rattle.switch_core.specs.Invariant.{IsFitState, IsSpent, IsSwitch};
 ghost use Rattle.switch_core.specs.Sending.{Begins};
-ghost use Rattle.switch_core.specs.Treating.{begun, cleared, denied, dropped, entered, granted, holders, invalidated, left_to, lowered};
+ghost use Rattle.switch_core.specs.Treating.{with_transition, cleared, denied_request, dropped, entered, granted, holders, invalidated, left_to, lowered};
 
 use super::SwitchCore;
-use crate::messages::{note_change, read_from, tell_all, tell_blade};
+use crate::messages::{Out, note_change, read_from, tell_all, tell_blade};
 use crate::states::{granted_state, holders, left_to};
 use invalidate_multicast::{begin, without};
-use mind_base::{LinkName, Log, Note, Range, State, Stop};
+use mind_base::{Log, Note, Range, State, Stop};
 use region_directory::{Busy, Entry};
 use request_list::Request;
 use wire_msg::Msg;
 
 impl SwitchCore {
     /// A request is denied, and ends.
-    pub(super) fn deny(&mut self, r: &Request, out: &mut Vec<(LinkName, Msg)>) -> Result<(), Stop>
-        ensures switch { OnOk result (self.new ≡ (denied r.now self.old).switch) }
-        ensures sent { OnOk result (out.new.items ≡ out.old.items ++ (denied r.now self.old).sent) }
+    pub(super) fn deny(&mut self, r: &Request, out: &mut Out) -> Result<(), Stop>
+        ensures switch { OnOk result (self.new ≡ (denied_request r.now self.old).switch) }
+        ensures sent { OnOk result (out.new.items ≡ out.old.items ++ (denied_request r.now self.old).sent) }
         ensures was { OnOk result (IsSwitch self.old) }
         ensures unchanged { OnErr result (self.new ≡ self.old) }
         ensures out { Begins out.old.items out.new.items }
@@ -38,7 +40,7 @@ impl SwitchCore {
         at: u32,
         i: u32,
         entry: &Entry,
-        out: &mut Vec<(LinkName, Msg)>,
+        out: &mut Out,
         log: &mut Log,
     ) -> Result<(), Stop>
         requires blade { r.now.blade < length self.old.plan.frames }
@@ -69,7 +71,7 @@ impl SwitchCore {
         requires idle { entry.now.busy ≡ None }
         requires waits { busy.now.waiting ≢ 0 }
         requires target { IsFitState (length self.old.plan.frames) busy.now.target }
-        ensures { self.new ≡ (begun i busy.now [] self.old).switch }
+        ensures { self.new ≡ (with_transition i busy.now [] self.old).switch }
     {
         begin(&mut self.directory, i, *busy);
         self.last = busy.number;
@@ -77,12 +79,7 @@ impl SwitchCore {
 
     /// All holders of the entry with this index are told to give up what they hold of the block, to
     /// make room.
-    pub(super) fn clear(
-        &mut self,
-        i: u32,
-        entry: &Entry,
-        out: &mut Vec<(LinkName, Msg)>,
-    ) -> Result<(), Stop>
+    pub(super) fn clear(&mut self, i: u32, entry: &Entry, out: &mut Out) -> Result<(), Stop>
         requires entry { slice_get self.old.directory.entries i ≡ Some entry.now }
         requires idle { entry.now.busy ≡ None }
         requires held { holders entry.now.state ≢ 0 }
@@ -123,7 +120,7 @@ impl SwitchCore {
         r: &Request,
         i: u32,
         entry: &Entry,
-        out: &mut Vec<(LinkName, Msg)>,
+        out: &mut Out,
     ) -> Result<(), Stop>
         requires blade { r.now.blade < length self.old.plan.frames }
         requires entry { slice_get self.old.directory.entries i ≡ Some entry.now }
@@ -166,7 +163,7 @@ impl SwitchCore {
         owner: u8,
         i: u32,
         entry: &Entry,
-        out: &mut Vec<(LinkName, Msg)>,
+        out: &mut Out,
     ) -> Result<(), Stop>
         requires entry { slice_get self.old.directory.entries i ≡ Some entry.now }
         requires owner { entry.now.state ≡ M owner }

@@ -1,7 +1,9 @@
+//! Which messages may come.
+
 ghost use Rattle.std.specs.Prelude.{◌≡◌, ◌↔◌, IsTrue, All, Any, true, false};
 ghost use Rattle.invalidate_multicast.specs.Transition.{WaitsFor};
 ghost use Rattle.request_list.specs.Requests.{is_of};
-ghost use Rattle.switch_core.specs.Handling.{MayCome, MayComeFrom, MayComeUp};
+ghost use Rattle.switch_core.specs.Handling.{MayComeToSwitch, MayComeFrom, MayComeUp};
 
 use super::SwitchCore;
 use crate::endings::is_awaited;
@@ -66,7 +68,7 @@ impl SwitchCore {
 
     /// Whether the message may come on that link now, as `receive` wants it.
     pub fn may_come(&self, from: &LinkName, msg: &Msg) -> bool
-        ensures { IsTrue result ↔ MayCome self.now from.now msg.now }
+        ensures { IsTrue result ↔ MayComeToSwitch self.now from.now msg.now }
     {
         match from.kind {
             LinkKind::Up => {

@@ -1,14 +1,16 @@
+//! What a message itself does.
+
 ghost use Rattle.std.specs.Prelude.{◌≡◌, ◌≢◌, ◌<◌, ◌++◌, [], Err, Some, true, false, All, Any, length, OnOk, OnErr};
 ghost use Rattle.mind_base.specs.declared.failures.Stop.TheVariants.{Spent};
 ghost use Rattle.invalidate_multicast.specs.Transition.{acknowledged};
 ghost use Rattle.request_list.specs.Requests.{is_of};
-ghost use Rattle.switch_core.specs.Handling.{all_ended, asked, filled, from_blade, from_memory, handled_from, MayComeFrom, MayComeOn, MayComeUp, went_back};
+ghost use Rattle.switch_core.specs.Handling.{all_ended, request_noted, filled, from_blade, from_memory, handled_from, MayComeFrom, MayComeOn, MayComeUp, went_back};
 ghost use Rattle.switch_core.specs.Invariant.{IsSwitch};
 ghost use Rattle.switch_core.specs.Sending.{Begins, Comes, Remains, start_at};
 
 use super::SwitchCore;
 use crate::endings::end_all;
-use crate::messages::{tell_blade, write_to};
+use crate::messages::{Out, tell_blade, write_to};
 use invalidate_multicast::ack;
 use mind_base::{LinkKind, LinkName, Log, Page, Stop};
 use page_image::PageImage;
@@ -19,7 +21,7 @@ impl SwitchCore {
     fn ask(&mut self, blade: u8, page: &Page, write: bool) -> Result<(), Stop>
         requires blade { blade < length self.old.plan.frames }
         requires new { All (λ r. is_of blade page.now r ≡ false) self.old.requests }
-        ensures switch { OnOk result (self.new ≡ (asked blade page.now write self.old).switch) }
+        ensures switch { OnOk result (self.new ≡ (request_noted blade page.now write self.old).switch) }
         ensures unchanged { OnErr result (self.new ≡ self.old) }
         ensures spent { result ≢ Err Spent }
     {
@@ -28,13 +30,7 @@ impl SwitchCore {
     }
 
     /// The page that a request fetched has come: the request ends, and its blade gets the page.
-    fn fill(
-        &mut self,
-        blade: u8,
-        page: &Page,
-        image: PageImage,
-        out: &mut Vec<(LinkName, Msg)>,
-    ) -> Result<(), Stop>
+    fn fill(&mut self, blade: u8, page: &Page, image: PageImage, out: &mut Out) -> Result<(), Stop>
         requires fetched { Any (λ r. (is_of blade page.now r ≡ true) × (r.fetching ≡ true)) self.old.requests }
         ensures comes { OnOk result (Comes (start_at self.old out.old.items []) (filled (Some blade) page.now image self.old) self.new out.new.items []) }
         ensures remains { Remains self.old self.new }
@@ -56,12 +52,7 @@ impl SwitchCore {
     }
 
     /// A page that a blade wrote comes back, and goes to where it lies.
-    fn take_back(
-        &self,
-        page: &Page,
-        image: PageImage,
-        out: &mut Vec<(LinkName, Msg)>,
-    ) -> Result<(), Stop>
+    fn take_back(&self, page: &Page, image: PageImage, out: &mut Out) -> Result<(), Stop>
         ensures sent { OnOk result (out.new.items ≡ out.old.items ++ (went_back page.now image self.now).sent) }
         ensures switch { OnOk result (IsSwitch self.now) }
         ensures out { Begins out.old.items out.new.items }
@@ -87,13 +78,7 @@ impl SwitchCore {
     }
 
     /// A message from a compute blade.
-    fn handle_up(
-        &mut self,
-        blade: u8,
-        msg: Msg,
-        out: &mut Vec<(LinkName, Msg)>,
-        log: &mut Log,
-    ) -> Result<(), Stop>
+    fn handle_up(&mut self, blade: u8, msg: Msg, out: &mut Out, log: &mut Log) -> Result<(), Stop>
         requires blade { blade < length self.old.plan.frames }
         requires may { MayComeUp self.old blade msg }
         ensures comes { OnOk result (Comes (start_at self.old out.old.items log.old.notes) (from_blade blade msg self.old) self.new out.new.items log.new.notes) }
@@ -112,7 +97,7 @@ impl SwitchCore {
     }
 
     /// A message from a memory blade.
-    fn handle_image(&mut self, msg: Msg, out: &mut Vec<(LinkName, Msg)>) -> Result<(), Stop>
+    fn handle_image(&mut self, msg: Msg, out: &mut Out) -> Result<(), Stop>
         requires { MayComeFrom self.old msg }
         ensures comes { OnOk result (Comes (start_at self.old out.old.items []) (from_memory msg self.old) self.new out.new.items []) }
         ensures remains { Remains self.old self.new }
@@ -134,7 +119,7 @@ impl SwitchCore {
         &mut self,
         from: &LinkName,
         msg: Msg,
-        out: &mut Vec<(LinkName, Msg)>,
+        out: &mut Out,
         log: &mut Log,
     ) -> Result<(), Stop>
         requires { MayComeOn self.old from.now.kind from.now.number msg }

@@ -1,22 +1,23 @@
+//! What is done for one request.
+
 ghost use Rattle.std.specs.Prelude.{◌≡◌, ◌<◌, length, slice_get, Some, None, Err, true, false, ◌++◌, OnOk, OnErr};
 ghost use Rattle.mind_base.specs.Range.{InRange};
 ghost use Rattle.mind_base.specs.declared.failures.Stop.TheVariants.{Spent};
-ghost use Rattle.protect_table.specs.Protect.{permission_at};
 ghost use Rattle.region_directory.specs.Entry.{HasPage, NoneHas};
 ghost use Rattle.switch_core.specs.Invariant.{IsSpent, IsSwitch};
-ghost use Rattle.switch_core.specs.Sending.{Begins, Keeps, start_at};
-ghost use Rattle.switch_core.specs.Standing.{GoesOn};
-ghost use Rattle.switch_core.specs.Treating.{allows, at_entry, changed_for, enters, grants, is_fetched, treated, with_idle, with_room, without_entry};
+ghost use Rattle.switch_core.specs.Sending.{Begins, KeepsStart, start_at};
+ghost use Rattle.switch_core.specs.Standing.{IsTreatable, PassGoesOn};
+ghost use Rattle.switch_core.specs.Treating.{at_entry, changed_for, enters, grants, is_fetched, treated, with_idle, with_room, without_entry};
 ghost use Rattle.region_directory.specs.Room.{room_of};
 ghost use Rattle.request_list.specs.Requests.{fetched_pages};
 
 use super::SwitchCore;
+use crate::messages::Out;
 use crate::stands::Stand;
-use crate::states::{allows, grants};
-use mind_base::{LinkName, Log, Range, State, Stop};
+use crate::states::grants;
+use mind_base::{Log, Range, State, Stop};
 use region_directory::{Entry, Room, has_any};
 use request_list::Request;
-use wire_msg::Msg;
 
 impl SwitchCore {
     /// Whether a page of the block is being fetched.
@@ -27,13 +28,7 @@ impl SwitchCore {
     }
 
     /// A transition begins for the request, which the state of the entry does not let be granted.
-    fn change_for(
-        &mut self,
-        r: &Request,
-        i: u32,
-        entry: &Entry,
-        out: &mut Vec<(LinkName, Msg)>,
-    ) -> Result<(), Stop>
+    fn change_for(&mut self, r: &Request, i: u32, entry: &Entry, out: &mut Out) -> Result<(), Stop>
         requires blade { r.now.blade < length self.old.plan.frames }
         requires entry { slice_get self.old.directory.entries i ≡ Some entry.now }
         requires idle { entry.now.busy ≡ None }
@@ -65,19 +60,15 @@ impl SwitchCore {
         i: u32,
         entry: &Entry,
         stand: &mut Stand,
-        out: &mut Vec<(LinkName, Msg)>,
+        out: &mut Out,
         log: &mut Log,
     ) -> Result<(), Stop>
-        requires at { stand.old.at < 4294967295 }
-        requires place { slice_get self.old.requests stand.old.at ≡ Some r.now }
-        requires blade { r.now.blade < length self.old.plan.frames }
-        requires waits { r.now.fetching ≡ false }
-        requires allowed { allows r.now.write (permission_at self.old.protect r.now.page) ≡ true }
+        requires treatable { IsTreatable self.old stand.old r.now }
         requires entry { slice_get self.old.directory.entries i ≡ Some entry.now }
         requires has { InRange entry.now.range r.now.page }
         requires idle { entry.now.busy ≡ None }
-        ensures goes_on { OnOk result (GoesOn (with_idle r.now i entry.now) self.old stand.old out.old.items log.old.notes self.new stand.new out.new.items log.new.notes) }
-        ensures keeps { Keeps (start_at self.old out.old.items log.old.notes) self.new out.new.items log.new.notes }
+        ensures goes_on { OnOk result (PassGoesOn (with_idle r.now i entry.now) self.old stand.old out.old.items log.old.notes self.new stand.new out.new.items log.new.notes) }
+        ensures keeps { KeepsStart (start_at self.old out.old.items log.old.notes) self.new out.new.items log.new.notes }
         ensures spent { result ≡ Err Spent → IsSpent self.new }
     {
         if grants(r.write, r.blade, entry.state) {
@@ -102,17 +93,13 @@ impl SwitchCore {
         r: &Request,
         i: u32,
         stand: &mut Stand,
-        out: &mut Vec<(LinkName, Msg)>,
+        out: &mut Out,
         log: &mut Log,
     ) -> Result<(), Stop>
-        requires at { stand.old.at < 4294967295 }
-        requires place { slice_get self.old.requests stand.old.at ≡ Some r.now }
-        requires blade { r.now.blade < length self.old.plan.frames }
-        requires waits { r.now.fetching ≡ false }
-        requires allowed { allows r.now.write (permission_at self.old.protect r.now.page) ≡ true }
+        requires treatable { IsTreatable self.old stand.old r.now }
         requires has { HasPage self.old.directory.entries i r.now.page }
-        ensures goes_on { OnOk result (GoesOn (at_entry r.now i) self.old stand.old out.old.items log.old.notes self.new stand.new out.new.items log.new.notes) }
-        ensures keeps { Keeps (start_at self.old out.old.items log.old.notes) self.new out.new.items log.new.notes }
+        ensures goes_on { OnOk result (PassGoesOn (at_entry r.now i) self.old stand.old out.old.items log.old.notes self.new stand.new out.new.items log.new.notes) }
+        ensures keeps { KeepsStart (start_at self.old out.old.items log.old.notes) self.new out.new.items log.new.notes }
         ensures spent { result ≡ Err Spent → IsSpent self.new }
     {
         let entry = self.directory.entry(i);
@@ -128,18 +115,14 @@ impl SwitchCore {
         &mut self,
         r: &Request,
         stand: &mut Stand,
-        out: &mut Vec<(LinkName, Msg)>,
+        out: &mut Out,
         log: &mut Log,
     ) -> Result<(), Stop>
-        requires at { stand.old.at < 4294967295 }
-        requires place { slice_get self.old.requests stand.old.at ≡ Some r.now }
-        requires blade { r.now.blade < length self.old.plan.frames }
-        requires waits { r.now.fetching ≡ false }
-        requires allowed { allows r.now.write (permission_at self.old.protect r.now.page) ≡ true }
+        requires treatable { IsTreatable self.old stand.old r.now }
         requires none { NoneHas self.old.directory.entries r.now.page }
         requires space { length self.old.directory.entries < self.old.directory.slots }
-        ensures goes_on { OnOk result (GoesOn (enters r.now) self.old stand.old out.old.items log.old.notes self.new stand.new out.new.items log.new.notes) }
-        ensures keeps { Keeps (start_at self.old out.old.items log.old.notes) self.new out.new.items log.new.notes }
+        ensures goes_on { OnOk result (PassGoesOn (enters r.now) self.old stand.old out.old.items log.old.notes self.new stand.new out.new.items log.new.notes) }
+        ensures keeps { KeepsStart (start_at self.old out.old.items log.old.notes) self.new out.new.items log.new.notes }
         ensures spent { result ≡ Err Spent → IsSpent self.new }
     {
         let range = self.directory.new_range(r.page, self.plan.region);
@@ -162,18 +145,14 @@ impl SwitchCore {
         &mut self,
         r: &Request,
         stand: &mut Stand,
-        out: &mut Vec<(LinkName, Msg)>,
+        out: &mut Out,
         log: &mut Log,
     ) -> Result<(), Stop>
-        requires at { stand.old.at < 4294967295 }
-        requires place { slice_get self.old.requests stand.old.at ≡ Some r.now }
-        requires blade { r.now.blade < length self.old.plan.frames }
-        requires waits { r.now.fetching ≡ false }
-        requires allowed { allows r.now.write (permission_at self.old.protect r.now.page) ≡ true }
+        requires treatable { IsTreatable self.old stand.old r.now }
         requires none { NoneHas self.old.directory.entries r.now.page }
         requires full { length self.old.directory.entries ≡ self.old.directory.slots }
-        ensures goes_on { OnOk result (GoesOn (with_room r.now (room_of self.old.directory (fetched_pages self.old.requests))) self.old stand.old out.old.items log.old.notes self.new stand.new out.new.items log.new.notes) }
-        ensures keeps { Keeps (start_at self.old out.old.items log.old.notes) self.new out.new.items log.new.notes }
+        ensures goes_on { OnOk result (PassGoesOn (with_room r.now (room_of self.old.directory (fetched_pages self.old.requests))) self.old stand.old out.old.items log.old.notes self.new stand.new out.new.items log.new.notes) }
+        ensures keeps { KeepsStart (start_at self.old out.old.items log.old.notes) self.new out.new.items log.new.notes }
         ensures spent { result ≡ Err Spent → IsSpent self.new }
     {
         match self.directory.room(self.requests.fetching_pages()) {
@@ -202,17 +181,13 @@ impl SwitchCore {
         &mut self,
         r: &Request,
         stand: &mut Stand,
-        out: &mut Vec<(LinkName, Msg)>,
+        out: &mut Out,
         log: &mut Log,
     ) -> Result<(), Stop>
-        requires at { stand.old.at < 4294967295 }
-        requires place { slice_get self.old.requests stand.old.at ≡ Some r.now }
-        requires blade { r.now.blade < length self.old.plan.frames }
-        requires waits { r.now.fetching ≡ false }
-        requires allowed { allows r.now.write (permission_at self.old.protect r.now.page) ≡ true }
+        requires treatable { IsTreatable self.old stand.old r.now }
         requires none { NoneHas self.old.directory.entries r.now.page }
-        ensures goes_on { OnOk result (GoesOn (without_entry r.now) self.old stand.old out.old.items log.old.notes self.new stand.new out.new.items log.new.notes) }
-        ensures keeps { Keeps (start_at self.old out.old.items log.old.notes) self.new out.new.items log.new.notes }
+        ensures goes_on { OnOk result (PassGoesOn (without_entry r.now) self.old stand.old out.old.items log.old.notes self.new stand.new out.new.items log.new.notes) }
+        ensures keeps { KeepsStart (start_at self.old out.old.items log.old.notes) self.new out.new.items log.new.notes }
         ensures spent { result ≡ Err Spent → IsSpent self.new }
     {
         if stand.blocked {
@@ -231,20 +206,20 @@ impl SwitchCore {
         &mut self,
         r: &Request,
         stand: &mut Stand,
-        out: &mut Vec<(LinkName, Msg)>,
+        out: &mut Out,
         log: &mut Log,
     ) -> Result<(), Stop>
         requires at { stand.old.at < 4294967295 }
         requires place { slice_get self.old.requests stand.old.at ≡ Some r.now }
-        ensures goes_on { OnOk result (GoesOn (treated r.now) self.old stand.old out.old.items log.old.notes self.new stand.new out.new.items log.new.notes) }
-        ensures keeps { Keeps (start_at self.old out.old.items log.old.notes) self.new out.new.items log.new.notes }
+        ensures goes_on { OnOk result (PassGoesOn (treated r.now) self.old stand.old out.old.items log.old.notes self.new stand.new out.new.items log.new.notes) }
+        ensures keeps { KeepsStart (start_at self.old out.old.items log.old.notes) self.new out.new.items log.new.notes }
         ensures spent { result ≡ Err Spent → IsSpent self.new }
     {
         if r.fetching {
             stand.pass_by();
             return Ok(());
         }
-        if !allows(r.write, self.protect.perm(r.page)) {
+        if !self.protect.perm(r.page).allows(r.write) {
             self.deny(r, out)?;
             stand.change();
             return Ok(());

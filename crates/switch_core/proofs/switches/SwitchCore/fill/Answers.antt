@@ -2,7 +2,7 @@ use Rattle.std.proofs.Common.{◌≡◌, Some, None, List, [], ◌∷◌, ◌++�
 use Rattle.std.specs.List.{find}
 use Rattle.mind_base.specs.declared.commands.Perm.{Perm}
 use Rattle.protect_table.specs.Protect.{permission_at}
-use Rattle.request_list.specs.Requests.{is_of, AreApart}
+use Rattle.request_list.specs.Requests.{is_of, AskOncePerPage}
 use Rattle.request_list.specs.declared.requests.Request.{Request}
 use Rattle.wire_msg.specs.declared.msgs.Msg.TheVariants.{Fill}
 use Rattle.switch_core.specs.Invariant.{IsFitRequest, IsSwitch}
@@ -35,7 +35,7 @@ returns-clause-comes c =
     let s : SwitchView = c.args.self.now in
     let r : Request = c.in-Some.r in
     let rs : List Request = c.done.new.self in
-    let apart : AreApart s.requests = subst (λ (v : SwitchView). AreApart v.requests) c.self.view_is c.done.ensures.was_apart in
+    let apart : AskOncePerPage s.requests = subst (λ (v : SwitchView). AskOncePerPage v.requests) c.self.view_is c.done.ensures.was_apart in
     let found : find (is_of c.args.blade c.args.page.now) s.requests ≡ Some r = ap (λ (v : SwitchView). find (is_of c.args.blade c.args.page.now) v.requests) (sym c.self.view_is) ∙ sym c.in-Some.ensures.found in
     let left : rs ≡ filter (λ q. not (is_of c.args.blade c.args.page.now q)) s.requests =
     c.done.ensures.left ∙ ap (λ (v : SwitchView). filter (λ q. not (is_of c.args.blade c.args.page.now q)) v.requests) c.self.view_is in

@@ -1,15 +1,14 @@
-use Rattle.std.proofs.Common.{◌≡◌, ◌<◌, Some, None, true, false, length, ap, sym, subst, ◌∙◌}
-use Rattle.std.specs.List.{slice_get}
+use Rattle.std.proofs.Common.{◌≡◌, Some, None, true, false, ap, sym, subst, ◌∙◌}
 use Rattle.std.proofs.lemmas.List.{append-nil}
 use Rattle.std.proofs.lemmas.Result.{on_ok_weaker}
+use Rattle.mind_base.specs.Permission.{allows}
 use Rattle.protect_table.specs.Protect.{permission_at}
-use Rattle.switch_core.specs.Invariant.{IsFitRequest}
 use Rattle.switch_core.specs.Standing.{InPass}
 use Rattle.switch_core.specs.Switch.{SwitchView}
-use Rattle.switch_core.specs.Treating.{allows, entry_for, treated}
+use Rattle.switch_core.specs.Treating.{entry_for, treated}
 use Rattle.switch_core.specs.declared.stands.Stand.{Stand}
 use Rattle.switch_core.proofs.Going.{goes-denied, goes-entry}
-use Rattle.switch_core.proofs.Lists.{all-at}
+use Rattle.switch_core.proofs.Passing.{treatable}
 use Rattle.switch_core.proofs.switches.SwitchCore.treat.Goals as goal
 
 pub returns-then-not-allows-clause-goes_on : goal.returns-then-not-allows-clause-goes_on
@@ -21,19 +20,15 @@ returns-then-not-allows-clause-goes_on c = λ start pass h.
     (goes-denied start pass s c.args.stand.now c.args.out.now.items c.args.log.now.notes h c.deny.new.self c.deny.new.out.items c.args.log.now.notes c.args.r.now c.if-r.false denied-there c.in_ok-deny.ensures.was c.requires.place
     c.in_ok-deny.ensures.switch c.in_ok-deny.ensures.sent (sym (append-nil c.args.log.now.notes)))
 
-pub treat_found-requires-clause-blade : goal.treat_found-requires-clause-blade
-treat_found-requires-clause-blade c =
-    let n = length c.self.inside.plan.frames in
-    let place : slice_get c.self.inside.requests c.args.stand.now.at ≡ Some c.args.r.now = subst (λ (v : SwitchView). slice_get v.requests c.args.stand.now.at ≡ Some c.args.r.now) (sym c.self.view_is) c.requires.place in
-    subst (λ (v : SwitchView). c.args.r.now.blade < length v.plan.frames) c.self.view_is
-    (all-at (IsFitRequest n) c.self.inside.requests c.args.stand.now.at c.args.r.now c.self.invariant.requests place).blade
+pub treat_found-requires-clause-treatable : goal.treat_found-requires-clause-treatable
+treat_found-requires-clause-treatable c =
+    treatable c.args.stand.now c.args.r.now c.self.view_is c.self.invariant.requests c.requires.at c.requires.place c.if-r.false
+    (ap (allows c.args.r.now.write) (sym c.perm.ensures) ∙ sym c.allows.ensures ∙ c.if-not-allows.false)
 
-pub treat_missing-requires-clause-blade : goal.treat_missing-requires-clause-blade
-treat_missing-requires-clause-blade c =
-    let n = length c.self.inside.plan.frames in
-    let place : slice_get c.self.inside.requests c.args.stand.now.at ≡ Some c.args.r.now = subst (λ (v : SwitchView). slice_get v.requests c.args.stand.now.at ≡ Some c.args.r.now) (sym c.self.view_is) c.requires.place in
-    subst (λ (v : SwitchView). c.args.r.now.blade < length v.plan.frames) c.self.view_is
-    (all-at (IsFitRequest n) c.self.inside.requests c.args.stand.now.at c.args.r.now c.self.invariant.requests place).blade
+pub treat_missing-requires-clause-treatable : goal.treat_missing-requires-clause-treatable
+treat_missing-requires-clause-treatable c =
+    treatable c.args.stand.now c.args.r.now c.self.view_is c.self.invariant.requests c.requires.at c.requires.place c.if-r.false
+    (ap (allows c.args.r.now.write) (sym c.perm.ensures) ∙ sym c.allows.ensures ∙ c.if-not-allows.false)
 
 pub returns-in-Some-clause-goes_on : goal.returns-in-Some-clause-goes_on
 returns-in-Some-clause-goes_on c =

@@ -1,6 +1,6 @@
 use Rattle.std.proofs.Common.{◌+◌, ℕ, Bool, sym, subst, take, arith}
 use Rattle.tso_machine.specs.Replay.{labels}
-use Rattle.tso_machine.specs.Machine.{MachineView, Leads, StandsInside}
+use Rattle.tso_machine.specs.Machine.{MachineView, StepLeads, StandsInside}
 use Rattle.tso_machine.proofs.Laws.{keeps_total_store_order}
 use Rattle.tso_machine.proofs.Runs.{Follows, follows-none-at, follows-some-at, follows-stuck-at, follows-inside-at, follows-end, on_err}
 use Rattle.tso_machine.proofs.machines.Machine.replay.Goals as goal
@@ -13,14 +13,14 @@ returns-in_err-step-in-Some-clause-err c =
 
 pub returns-then-not-branch-clause-ok : goal.returns-then-not-branch-clause-ok
 returns-then-not-branch-clause-ok c =
-    let P : Bool → Type 0 = λ b. Leads b c.in-Some.label c.loop-i.self c.step.new.self in
+    let P : Bool → Type 0 = λ b. StepLeads b c.in-Some.label c.loop-i.self c.step.new.self in
     follows-stuck-at _ c.loop-i.self _ _ c.loop-i.i c.get.result c.in-Some.label _ c.get.ensures (sym c.in-Some.ensures) c.loop-i.invariant.0
     (subst P c.if-not-branch.true c.in_ok-step-in-Some.ensures.ok)
 
 pub loop-i-preserved : goal.loop-i-preserved
 loop-i-preserved c = elim c.match-label_in.branch [
   | in-Some+in_ok-step-in-Some+else-not-branch w ↦
-      let P : Bool → Type 0 = λ b. Leads b w.in-Some.label c.loop-i.self w.step.new.self in
+      let P : Bool → Type 0 = λ b. StepLeads b w.in-Some.label c.loop-i.self w.step.new.self in
       let f = follows-some-at c.args.self.now c.loop-i.self w.step.new.self c.args.log.now.notes c.loop-i.i c.get.result w.in-Some.label c.loop-i.taken
       c.get.ensures (sym w.in-Some.ensures) c.loop-i.invariant.0 (subst P w.if-not-branch.false w.in_ok-step-in-Some.ensures.ok) w.in_ok-step-in-Some.ensures.setup in
       let Q : MachineView → Type 0 = λ m. Follows c.args.self.now m (take (c.loop-i.i + 1) c.args.log.now.notes) (c.loop-i.taken + 1) in
