@@ -1,11 +1,11 @@
 -- What a hart of the rack does at its blade is done where the blade holds the page that it needs.
-use Rattle.std.proofs.Common.{◌≡◌, ℕ, Bool, true, false, not, ◌&&◌, ap, sym, refl, subst, ◌∙◌, List, [], ◌∷◌, slice_get, slice_set, Option, Some, None, option_map, unwrap_or}
+use Rattle.std.proofs.Common.{◌≡◌, ℕ, Bool, true, false, ap, sym, refl, subst, ◌∙◌, List, [], ◌∷◌, slice_get, slice_set, Option, Some, None, option_map, unwrap_or}
 use Rattle.std.specs.Prelude.{if◌then◌else◌, option_and_then}
 use Rattle.std.proofs.lemmas.Bool.{false≢true}
 use Rattle.std.proofs.lemmas.Option.{none-some, same_Some, slice_get-map}
 use Rattle.mind_base.specs.Page.{PageView}
 use Rattle.mind_base.specs.Pending.{PendingView}
-use Rattle.mind_base.specs.Permission.{permission_of}
+use Rattle.mind_base.specs.Permission.{permission_of, allows}
 use Rattle.mind_base.specs.Place.{place_of, page_at, granule_at}
 use Rattle.mind_base.specs.declared.commands.Perm.{Perm}
 use Rattle.mind_base.specs.declared.ends.End.{End}
@@ -16,26 +16,22 @@ use Rattle.mind_base.specs.declared.plans.ThreadPlan.{ThreadPlan}
 use Rattle.hart_effect.specs.Access.{AccessView}
 use Rattle.hart_effect.specs.Deed.{Deed, Alone, Storing, found, faulted, carried_out, drains_first, executed, executed_at}
 use Rattle.hart_effect.specs.Thread.{Thread}
-use Rattle.hart_effect.specs.declared.accesses.AccessKind.{AccessKind}
-use Rattle.hart_effect.specs.declared.accesses.AccessKind.TheVariants.{Reads, WritesLater, WritesAtOnce}
 use Rattle.hart_effect.specs.declared.finds.Found.{Found}
-use Rattle.page_cache.specs.PageCache.{frame_of}
+use Rattle.page_cache.specs.PageCache.{frame_of, is_writable}
 use Rattle.page_cache.specs.declared.frames.Frame.{Frame}
 use Rattle.page_image.specs.PageImage.{PageImageView}
 use Rattle.protect_table.specs.Protect.{permission_at}
 use Rattle.compute_blade.specs.Actions.{Asks, after_action}
-use Rattle.compute_blade.specs.Blade.{HartView, BladeView, Effect, is_asked, only}
+use Rattle.compute_blade.specs.Blade.{HartView, BladeView, BladeEffect, is_asked, only}
 use Rattle.compute_blade.specs.Denials.{denial_in, refused_by}
 use Rattle.compute_blade.specs.Frames.{around_held, thread_of}
-use Rattle.compute_blade.specs.Messages.{needs_just, resumed_at, resumed_by, resumed_with}
-use Rattle.compute_blade.specs.Steps as steps
-use Rattle.compute_blade.specs.Steps.{asking, drain_of, drained, draining_by, need_in, performed, performed_by, serves, step_at, stepping_at, stepping_by, writes_at_once}
+use Rattle.compute_blade.specs.Messages.{needs_just, resumed_by}
+use Rattle.compute_blade.specs.Steps.{asking, drain_of, drained, draining_by, need_in, performed, performed_by, serves, step_at, stepping_at, stepping_by}
 use Rattle.compute_blade.specs.declared.kept.Answer.TheVariants.{Filled, Denied}
 use Rattle.compute_blade.specs.declared.kept.Denial.{Denial}
 use Rattle.compute_blade.specs.declared.kept.Need.{Need}
 use Rattle.compute_blade.specs.declared.kept.Waits.{Waits}
 use Rattle.compute_blade.specs.declared.kept.Waits.TheVariants.{Step, Drain}
-use Rattle.coherence.specs.Facts.{allows}
 use Rattle.coherence.specs.Held.{Holdings}
 use Rattle.coherence.proofs.TellingNotes.{writable_of}
 use Rattle.tso_machine.specs.State.{Setup, State}
@@ -50,7 +46,8 @@ use Rattle.rack_core.proofs.AccessFinds.{AllSuits, Suits, end_of, performed-held
 use Rattle.rack_core.proofs.BladeFills.{just-page}
 use Rattle.rack_core.proofs.BladeTold.{HoldsAs}
 use Rattle.rack_core.proofs.Lookups.{slice_get-set}
-use Rattle.rack_core.proofs.StandDenies.{FaultsIn, exec-faults, found-faults, not-true}
+use Rattle.rack_core.proofs.StandDenies.{FaultsIn, exec-faults, just-faults}
+use Rattle.rack_core.proofs.Resuming.{resumes-as}
 
 -- the notes that a blade made are such that it holds what they want, where it holds these pages
 abbrev pub Holds : Setup → State → ℕ → BladeView → List Note → Type 0
@@ -58,7 +55,7 @@ Holds setup m c blade noted = (held : Holdings) → HoldsAs c blade held → Are
 
 -- ---- what is held, and the frames
 
-to-write : (frame : Option Frame) → steps.is_writable frame ≡ true → writable_of frame ≡ Some true
+to-write : (frame : Option Frame) → is_writable frame ≡ true → writable_of frame ≡ Some true
 to-write None e = absurd (false≢true e)
 to-write (Some frame) e = ap Some e
 
@@ -84,7 +81,7 @@ module _ (images : List Image) (setup : Setup) (old : RackView) (flat : PageView
   nothing : Holds setup m at.plan.blade at.blade []
   nothing held is = tt
 
-  either : (b : Bool) (x y : Effect) → Holds setup m at.plan.blade at.blade x.noted → Holds setup m at.plan.blade at.blade y.noted → Holds setup m at.plan.blade at.blade (if b then x else y).noted
+  either : (b : Bool) (x y : BladeEffect) → Holds setup m at.plan.blade at.blade x.noted → Holds setup m at.plan.blade at.blade y.noted → Holds setup m at.plan.blade at.blade (if b then x else y).noted
   either true x y p q = p
   either false x y p q = q
 
@@ -152,7 +149,7 @@ module _ (images : List Image) (setup : Setup) (old : RackView) (flat : PageView
 
   -- ---- a drain
 
-  drain-holds : (oldest : PendingView) (newer : List PendingView) → hart.queue.stores ≡ oldest ∷ newer → steps.is_writable (frame_of (page_at (place_of at.plan.domain oldest.address)) at.blade.cache.entries) ≡ true
+  drain-holds : (oldest : PendingView) (newer : List PendingView) → hart.queue.stores ≡ oldest ∷ newer → is_writable (frame_of (page_at (place_of at.plan.domain oldest.address)) at.blade.cache.entries) ≡ true
       → (held : Holdings) → HoldsAs at.plan.blade at.blade held → DrainHolds setup m held h
   drain-holds oldest newer queue writable held holds plan thread first later is there buffer =
       let same : at.plan ≡ plan = same_Some _ _ (sym planned ∙ is) in
@@ -168,8 +165,8 @@ module _ (images : List Image) (setup : Setup) (old : RackView) (flat : PageView
 
   draining-hold : (queue : List PendingView) → hart.queue.stores ≡ queue → Holds setup m at.plan.blade at.blade (draining_by h at.plan queue at.blade hart).noted
   draining-hold [] is = nothing
-  draining-hold (oldest ∷ newer) is = by (steps.is_writable (frame_of (page_at (place_of at.plan.domain oldest.address)) at.blade.cache.entries)) refl where
-    by : (b : Bool) → steps.is_writable (frame_of (page_at (place_of at.plan.domain oldest.address)) at.blade.cache.entries) ≡ b
+  draining-hold (oldest ∷ newer) is = by (is_writable (frame_of (page_at (place_of at.plan.domain oldest.address)) at.blade.cache.entries)) refl where
+    by : (b : Bool) → is_writable (frame_of (page_at (place_of at.plan.domain oldest.address)) at.blade.cache.entries) ≡ b
         → Holds setup m at.plan.blade at.blade (if b then drained h at.plan oldest newer at.blade hart
         else asking h Drain (record { page = page_at (place_of at.plan.domain oldest.address); write = true }) at.blade hart).noted
     by true e = λ held holds. (drain-holds oldest newer is e held holds, tt)
@@ -208,29 +205,11 @@ module _ (images : List Image) (setup : Setup) (old : RackView) (flat : PageView
       let found_it : frame_of need.page at.blade.cache.entries ≡ Some frame = ap (λ p. frame_of p at.blade.cache.entries) (sym same.0) ∙ held in
       subst (Suits finds perm need) (sym found_it) (record { held = refl; writable = λ at_once write may. writable (same.1 ∙ write) })
 
-  resumes-with : (asked : Need) (frame : Frame) → frame_of asked.page at.blade.cache.entries ≡ Some frame → (asked.write ≡ true → frame.writable ≡ true) → (image : Image) (pc : ℕ)
-      → slice_get images at.plan.image ≡ Some image → hart.end ≡ Running pc → Holds setup m at.plan.blade at.blade (resumed_with Filled asked h at.plan (found image hart.regs pc) pc at.blade hart).noted
-  resumes-with asked frame held writable image pc code runs =
-      by (needs_just asked (need_in (found image hart.regs pc) at.plan.domain)) refl (not (drains_first (found image hart.regs pc) hart.queue.stores hart.queue.capacity)) where
-        by : (b : Bool) → needs_just asked (need_in (found image hart.regs pc) at.plan.domain) ≡ b → (r : Bool)
-            → Holds setup m at.plan.blade at.blade (if b && r then performed h at.plan (found image hart.regs pc) pc at.blade hart else only at.blade).noted
-        by true e true = performs-hold image pc code runs (suits-just (found image hart.regs pc) (permission_of m.perms) asked frame held writable e)
-        by true e false = nothing
-        by false e r = nothing
-
-  resumes-at : (asked : Need) (frame : Frame) → frame_of asked.page at.blade.cache.entries ≡ Some frame → (asked.write ≡ true → frame.writable ≡ true) → (end : End) → hart.end ≡ end
-      → Holds setup m at.plan.blade at.blade (resumed_at end Filled asked images h at.plan at.blade hart).noted
-  resumes-at asked frame held writable (Running pc) runs = by (slice_get images at.plan.image) refl where
-    by : (code : Option Image) → slice_get images at.plan.image ≡ code
-        → Holds setup m at.plan.blade at.blade (unwrap_or (option_map (λ image. resumed_with Filled asked h at.plan (found image hart.regs pc) pc at.blade hart) code) (only at.blade)).noted
-    by None e = nothing
-    by (Some image) e = resumes-with asked frame held writable image pc e runs
-  resumes-at asked frame held writable (Exit value) runs = nothing
-  resumes-at asked frame held writable (Fault kind value pc) runs = nothing
-
   pub resumes-hold : (asked : Need) (frame : Frame) → frame_of asked.page at.blade.cache.entries ≡ Some frame → (asked.write ≡ true → frame.writable ≡ true) → (waits : Waits)
       → Holds setup m at.plan.blade at.blade (resumed_by waits Filled asked images h at.plan at.blade hart).noted
-  resumes-hold asked frame held writable Step = resumes-at asked frame held writable hart.end refl
+  resumes-hold asked frame held writable Step =
+      resumes-as (λ e. Holds setup m at.plan.blade at.blade e.noted) Filled asked images h at.plan at.blade hart nothing
+      (λ image pc code runs just ready. performs-hold image pc code runs (suits-just (found image hart.regs pc) (permission_of m.perms) asked frame held writable just))
   resumes-hold asked frame held writable Drain = draining-hold hart.queue.stores refl
 
   -- ---- what waited for a page that is denied
@@ -238,50 +217,24 @@ module _ (images : List Image) (setup : Setup) (old : RackView) (flat : PageView
   refuses-hold : (asked : Need) → allows asked.write (permission_at old.switch.protect asked.page) ≡ false → (image : Image) (pc : ℕ) → slice_get images at.plan.image ≡ Some image → hart.end ≡ Running pc
       → needs_just asked (need_in (found image hart.regs pc) at.plan.domain) ≡ true → drains_first (found image hart.regs pc) hart.queue.stores hart.queue.capacity ≡ false
       → Holds setup m at.plan.blade at.blade (refused_by (denial_in (found image hart.regs pc)) h pc at.blade hart).noted
-  refuses-hold asked off image pc code runs just ready = needed (need_in (found image hart.regs pc) at.plan.domain) refl just where
-    refused : (denial : Option Denial) → FaultsIn denial pc (machine_thread flat hart) (carried_out (found image hart.regs pc) (around_in m h at.plan.domain) pc (machine_thread flat hart))
-        → Holds setup m at.plan.blade at.blade (refused_by denial h pc at.blade hart).noted
-    refused None faults = absurd faults
-    refused (Some denial) faults =
-        let deed : Deed = Alone (faulted denial.kind denial.address pc (machine_thread flat hart)) in
-        λ held holds. (
-          faults-hold image pc code runs held (done_by h at.plan.domain m deed) deed
-              (exec-faults images setup old flat m goes h hart at image pc code runs deed faults) refl refl,
-          tt,
-        )
-
-    needed : (need : Option Need) → need_in (found image hart.regs pc) at.plan.domain ≡ need → needs_just asked need ≡ true
-        → Holds setup m at.plan.blade at.blade (refused_by (denial_in (found image hart.regs pc)) h pc at.blade hart).noted
-    needed None is just = absurd (false≢true just)
-    needed (Some need) is just =
-        let same = just-page asked (Some need) need refl just in
-        let denies : allows need.write (permission_at old.switch.protect need.page) ≡ false =
-        ap (λ b. allows b (permission_at old.switch.protect need.page)) (sym same.1) ∙ ap (λ p. allows asked.write (permission_at old.switch.protect p)) (sym same.0) ∙ off in
-        refused (denial_in (found image hart.regs pc))
-        (found-faults (found image hart.regs pc) (around_in m h at.plan.domain) pc hart.queue.capacity (machine_thread flat hart) need is
-        (ap (λ f. allows need.write (f need.page)) goes.stands.perms ∙ denies) ready)
-
-  denies-with : (asked : Need) → allows asked.write (permission_at old.switch.protect asked.page) ≡ false → (image : Image) (pc : ℕ) → slice_get images at.plan.image ≡ Some image → hart.end ≡ Running pc
-      → Holds setup m at.plan.blade at.blade (resumed_with Denied asked h at.plan (found image hart.regs pc) pc at.blade hart).noted
-  denies-with asked off image pc code runs =
-      by (needs_just asked (need_in (found image hart.regs pc) at.plan.domain)) refl (not (drains_first (found image hart.regs pc) hart.queue.stores hart.queue.capacity)) refl where
-        by : (b : Bool) → needs_just asked (need_in (found image hart.regs pc) at.plan.domain) ≡ b → (r : Bool) → not (drains_first (found image hart.regs pc) hart.queue.stores hart.queue.capacity) ≡ r
-            → Holds setup m at.plan.blade at.blade (if b && r then refused_by (denial_in (found image hart.regs pc)) h pc at.blade hart else only at.blade).noted
-        by true e true f = refuses-hold asked off image pc code runs e (not-true _ f)
-        by true e false f = nothing
-        by false e r f = nothing
-
-  denies-at : (asked : Need) → allows asked.write (permission_at old.switch.protect asked.page) ≡ false → (end : End) → hart.end ≡ end
-      → Holds setup m at.plan.blade at.blade (resumed_at end Denied asked images h at.plan at.blade hart).noted
-  denies-at asked off (Running pc) runs = by (slice_get images at.plan.image) refl where
-    by : (code : Option Image) → slice_get images at.plan.image ≡ code
-        → Holds setup m at.plan.blade at.blade (unwrap_or (option_map (λ image. resumed_with Denied asked h at.plan (found image hart.regs pc) pc at.blade hart) code) (only at.blade)).noted
-    by None e = nothing
-    by (Some image) e = denies-with asked off image pc e runs
-  denies-at asked off (Exit value) runs = nothing
-  denies-at asked off (Fault kind value pc) runs = nothing
+  refuses-hold asked off image pc code runs just ready =
+      refused (denial_in (found image hart.regs pc))
+      (just-faults (found image hart.regs pc) (around_in m h at.plan.domain) pc hart.queue.capacity (machine_thread flat hart) asked (ap (λ f. allows asked.write (f asked.page)) goes.stands.perms ∙ off) just ready)
+    where
+      refused : (denial : Option Denial) → FaultsIn denial pc (machine_thread flat hart) (carried_out (found image hart.regs pc) (around_in m h at.plan.domain) pc (machine_thread flat hart))
+          → Holds setup m at.plan.blade at.blade (refused_by denial h pc at.blade hart).noted
+      refused None faults = absurd faults
+      refused (Some denial) faults =
+          let deed : Deed = Alone (faulted denial.kind denial.address pc (machine_thread flat hart)) in
+          λ held holds. (
+            faults-hold image pc code runs held (done_by h at.plan.domain m deed) deed
+                (exec-faults images setup old flat m goes h hart at image pc code runs deed faults) refl refl,
+            tt,
+          )
 
   pub denies-hold : (asked : Need) → allows asked.write (permission_at old.switch.protect asked.page) ≡ false → (waits : Waits)
       → Holds setup m at.plan.blade at.blade (resumed_by waits Denied asked images h at.plan at.blade hart).noted
-  denies-hold asked off Step = denies-at asked off hart.end refl
+  denies-hold asked off Step =
+      resumes-as (λ e. Holds setup m at.plan.blade at.blade e.noted) Denied asked images h at.plan at.blade hart nothing
+      (λ image pc code runs just ready. refuses-hold asked off image pc code runs just ready)
   denies-hold asked off Drain = draining-hold hart.queue.stores refl

@@ -1,7 +1,6 @@
 -- Whatever an event does, the accesses that it notes are performed by blades that hold their pages.
 use Rattle.std.proofs.Common.{◌≡◌, ℕ, ◌<◌, ap, sym, refl, subst, ◌∙◌, List, [], ◌∷◌, fold, slice_get, Option, Some, None, option_map}
 use Rattle.std.specs.Prelude.{option_and_then}
-use Rattle.std.specs.List.{AllByRecursion}
 use Rattle.std.proofs.lemmas.Option.{none-some, same_Some}
 use Rattle.mind_base.specs.Page.{PageView}
 use Rattle.mind_base.specs.declared.events.Event.{Event}
@@ -17,10 +16,10 @@ use Rattle.mind_base.specs.declared.plans.ThreadPlan.{ThreadPlan}
 use Rattle.page_cache.specs.PageCache.{frame_of}
 use Rattle.page_image.specs.PageImage.{PageImageView}
 use Rattle.wire_msg.specs.declared.msgs.Msg.{Msg}
-use Rattle.compute_blade.specs.Blade.{HartView, BladeView, Effect, hart_of}
+use Rattle.compute_blade.specs.Blade.{HartView, BladeView, BladeEffect, hart_of}
 use Rattle.compute_blade.specs.Messages.{after_message}
 use Rattle.compute_blade.specs.Pages.{given_up}
-use Rattle.compute_blade.specs.Steps.{after_drain, after_step, drain_of, step_at}
+use Rattle.compute_blade.specs.Steps.{blade_after_drain, after_step, drain_of, step_at}
 use Rattle.switch_core.specs.Switch.{place_in}
 use Rattle.coherence.specs.Facts.{IsCoherent}
 use Rattle.coherence.specs.Held.{Holdings, Entries as InForce, held_after, entries_after}
@@ -30,7 +29,7 @@ use Rattle.tso_machine.specs.Replay.{labels}
 use Rattle.tso_machine.specs.State.{Setup, State}
 use Rattle.rack_core.specs.Accesses.{AreAccessesHeld}
 use Rattle.rack_core.specs.Events.{Delivers, HandsAll, HandsTo, HartDoes, Leads}
-use Rattle.rack_core.specs.Handing.{AsksOn, AskOn}
+use Rattle.rack_core.specs.Handing.{AskOn}
 use Rattle.rack_core.specs.Rack.{RackView, with_net}
 use Rattle.rack_core.specs.Safe.{IsOfRack, IsSound}
 use Rattle.rack_core.specs.Seen.{seen}
@@ -45,12 +44,10 @@ use Rattle.rack_core.proofs.BladeHanded.{did}
 use Rattle.rack_core.proofs.BladeSteps.{for_hart-some}
 use Rattle.rack_core.proofs.BladeTold.{HoldsAs}
 use Rattle.rack_core.proofs.Delivering.{gave_on, asks_taken, with_net-sound}
-use Rattle.rack_core.proofs.Handing.{handed_over}
 use Rattle.rack_core.proofs.RackTells.{hand_tells}
-use Rattle.rack_core.proofs.StandCounts.{counted-before, placed-after}
 use Rattle.rack_core.proofs.StandElsewhere.{net-leads}
 use Rattle.rack_core.proofs.StandEvents.{hart-at}
-use Rattle.rack_core.proofs.StandHanded.{front-frames, hands-stay, one-goes, one-stays}
+use Rattle.rack_core.proofs.StandHanded.{goes-first}
 use Rattle.rack_core.proofs.StandPages.{blade-held, given_up-alone}
 use Rattle.rack_core.proofs.StandReplays.{goes-led}
 use Rattle.rack_core.proofs.StandSilent.{receives-silent}
@@ -64,7 +61,7 @@ matched held entries old flat matches c blade there page = matches.frames c page
 
 -- a step of hart h, and a drain
 step-holds : (images : List Image) (setup : Setup) (old : RackView) (flat : PageView → PageImageView) (m : State) → GoesWith images setup old flat m → (h : ℕ) (thread : ThreadPlan)
-    → slice_get old.plan.threads h ≡ Some thread → (blade : BladeView) → slice_get old.blades thread.blade ≡ Some blade → (e : Effect) → after_step images h blade ≡ Some e
+    → slice_get old.plan.threads h ≡ Some thread → (blade : BladeView) → slice_get old.blades thread.blade ≡ Some blade → (e : BladeEffect) → after_step images h blade ≡ Some e
     → Holds setup m thread.blade blade e.noted
 step-holds images setup old flat m goes h thread planned blade there e does =
     let o = for_hart-some blade h (λ plan hart. option_map (λ image. step_at hart.end h plan image blade hart) (slice_get images plan.image)) e does in
@@ -74,21 +71,21 @@ step-holds images setup old flat m goes h thread planned blade there e does =
     by : (hart : HartView) → hart_of blade h ≡ Some hart → (code : Option Image) → slice_get images thread.image ≡ code
         → option_map (λ image. step_at hart.end h thread image blade hart) code ≡ Some e → Holds setup m thread.blade blade e.noted
     by hart own None is d = absurd (none-some e d)
-    by hart own (Some image) is d = subst (λ (x : Effect). Holds setup m thread.blade blade x.noted) (same_Some _ _ d)
+    by hart own (Some image) is d = subst (λ (x : BladeEffect). Holds setup m thread.blade blade x.noted) (same_Some _ _ d)
         (step-hold images setup old flat m goes h hart (record { plan = thread; blade = blade; thread = planned; there = there; own = own }) image is hart.end refl)
 
 drain-holds : (images : List Image) (setup : Setup) (old : RackView) (flat : PageView → PageImageView) (m : State) → GoesWith images setup old flat m → (h : ℕ) (thread : ThreadPlan)
-    → slice_get old.plan.threads h ≡ Some thread → (blade : BladeView) → slice_get old.blades thread.blade ≡ Some blade → (e : Effect) → after_drain h blade ≡ Some e
+    → slice_get old.plan.threads h ≡ Some thread → (blade : BladeView) → slice_get old.blades thread.blade ≡ Some blade → (e : BladeEffect) → blade_after_drain h blade ≡ Some e
     → Holds setup m thread.blade blade e.noted
 drain-holds images setup old flat m goes h thread planned blade there e does =
     let o = for_hart-some blade h (λ plan hart. Some (drain_of h plan blade hart)) e does in
     let its = hart-at images setup old flat m goes h thread planned blade there o.plan o.hart o.thread o.own in
-    subst (λ (x : Effect). Holds setup m thread.blade blade x.noted) (same_Some _ _ (subst (λ (p : ThreadPlan). Some (drain_of h p blade o.hart) ≡ Some e) its.0 o.does))
+    subst (λ (x : BladeEffect). Holds setup m thread.blade blade x.noted) (same_Some _ _ (subst (λ (p : ThreadPlan). Some (drain_of h p blade o.hart) ≡ Some e) its.0 o.does))
     (drain-hold images setup old flat m goes h o.hart (record { plan = thread; blade = blade; thread = planned; there = there; own = o.own }))
 
 -- what a hart's blade does, by the plan
-hart-holds : (setup : Setup) (m : State) (h : ℕ) (act : BladeView → Option Effect) (old new : RackView) (noted : List Note)
-    → ((thread : ThreadPlan) → slice_get old.plan.threads h ≡ Some thread → (blade : BladeView) → slice_get old.blades thread.blade ≡ Some blade → (e : Effect) → act blade ≡ Some e
+hart-holds : (setup : Setup) (m : State) (h : ℕ) (act : BladeView → Option BladeEffect) (old new : RackView) (noted : List Note)
+    → ((thread : ThreadPlan) → slice_get old.plan.threads h ≡ Some thread → (blade : BladeView) → slice_get old.blades thread.blade ≡ Some blade → (e : BladeEffect) → act blade ≡ Some e
     → Holds setup m thread.blade blade e.noted)
     → HartDoes (slice_get old.plan.threads h) act old new noted → (held : Holdings) → ((c : ℕ) (blade : BladeView) → slice_get old.blades c ≡ Some blade → HoldsAs c blade held)
     → AreAccessesHeld setup m held noted
@@ -106,7 +103,7 @@ one-holds : (images : List Image) (setup : Setup) (plan : RackPlan) (kind : Link
     → (held : Holdings) → ((c : ℕ) (blade : BladeView) → slice_get old.blades c ≡ Some blade → HoldsAs c blade held) → AreAccessesHeld setup m held noted
 one-holds images setup plan Down number message rest old new flat noted m coherent goes placed room hands held matches =
     let d = did number (λ blade. Some (after_message images message blade)) old new noted hands in
-    subst (AreAccessesHeld setup m held) (sym d.acts.notes) (subst (λ (e : Effect). AreAccessesHeld setup m held e.noted) (same_Some _ _ d.does)
+    subst (AreAccessesHeld setup m held) (sym d.acts.notes) (subst (λ (e : BladeEffect). AreAccessesHeld setup m held e.noted) (same_Some _ _ d.does)
     (message-hold images setup old flat m goes placed number d.blade d.there (room.frames number d.blade d.there).0 message rest coherent held (matches number d.blade d.there)))
 one-holds images setup plan Up number message rest old new flat noted m coherent goes placed room hands held matches =
     silent-held setup m held noted (ap labels hands.notes ∙ (receives-silent (record { kind = Up; number = number }) message old.switch hands.effect hands.heard).silent)
@@ -121,18 +118,13 @@ all-hold : (images : List Image) (setup : Setup) (plan : RackPlan) (kind : LinkK
 all-hold images setup plan kind number [] old new flat noted m coherent sound lt asks goes placed room hands counted held entries matches = silent-held setup m held noted (ap labels hands.1)
 all-hold images setup plan kind number (message ∷ rest) old new flat noted m coherent sound lt asks goes placed room hands counted held entries matches =
     let mid = hands.0 in
-    let after = handed_over images kind number message rest old mid flat hands.1 coherent sound lt asks.0 hands.3 in
-    let asks_later = subst (λ f. AllByRecursion (AsksOn kind f number) rest) (sym after.places) asks.1 in
-    let stay = one-stays images kind number message rest old mid flat hands.1 coherent sound hands.3 in
-    let stays = hands-stay images kind number rest mid new after.flat hands.2 after.coherent after.sound lt asks_later hands.4 in
-    let on = one-goes images setup kind number message rest old mid flat hands.1 m coherent sound lt asks.0 goes placed hands.3 (counted-before mid new stays counted) in
-    let goes_mid = goes-led images setup m hands.1 old mid flat on.flat goes stay.plan (front-frames kind number rest (seen mid on.flat) on.coherent.frames) after.sound.blades on.machine in
+    let first = goes-first images setup kind number message rest old new flat noted m coherent sound lt asks goes placed hands counted in
     let tells = hand_tells images plan kind number lt message rest old mid flat hands.1 coherent sound room hands.3 in
     let one = one-holds images setup plan kind number message rest old mid flat hands.1 m coherent goes placed room hands.3 held (matched held entries old flat matches) in
-    let later = all-hold images setup plan kind number rest mid new on.flat hands.2 on.machine.next on.coherent after.sound lt asks_later goes_mid (placed-after old mid stay placed) tells.room hands.4 counted
-    (fold held_after held hands.1) (fold entries_after entries hands.1) (tells.told flat on.flat held entries matches).1 in
+    let later = all-hold images setup plan kind number rest mid new first.on.flat hands.2 first.on.machine.next first.on.coherent first.after.sound lt first.asks first.goes first.placed tells.room hands.4 counted
+    (fold held_after held hands.1) (fold entries_after entries hands.1) (tells.told flat first.on.flat held entries matches).1 in
     subst (AreAccessesHeld setup m held) (sym hands.5) (accesses-then setup m held hands.1 hands.2 one
-    (subst (λ s. AreAccessesHeld setup s (fold held_after held hands.1) hands.2) (sym (states-led setup m on.machine.next hands.1 on.machine.run)) later))
+    (subst (λ s. AreAccessesHeld setup s (fold held_after held hands.1) hands.2) (sym (states-led setup m first.on.machine.next hands.1 first.on.machine.run)) later))
 
 deliver-holds : (images : List Image) (setup : Setup) (plan : RackPlan) (name : LinkName) (side : Side) (k : ℕ) (old new : RackView) (flat : PageView → PageImageView) (noted : List Note) (m : State)
     → name.number < 8 → IsCoherent (seen old flat) → IsSound old → GoesWith images setup old flat m → AreHartsPlaced old → HasRoom plan old → Delivers images name side k old new noted → AreCounted new
@@ -155,10 +147,10 @@ pub event-holds : (images : List Image) (setup : Setup) (plan : RackPlan) (event
 event-holds images setup plan (Step hart) old new noted flat m fits coherent sound placed goes room given counted held entries matches =
     hart-holds setup m hart (after_step images hart) old new noted (step-holds images setup old flat m goes hart) given held (matched held entries old flat matches)
 event-holds images setup plan (Drain hart) old new noted flat m fits coherent sound placed goes room given counted held entries matches =
-    hart-holds setup m hart (after_drain hart) old new noted (drain-holds images setup old flat m goes hart) given held (matched held entries old flat matches)
+    hart-holds setup m hart (blade_after_drain hart) old new noted (drain-holds images setup old flat m goes hart) given held (matched held entries old flat matches)
 event-holds images setup plan (Evict c page) old new noted flat m fits coherent sound placed goes room given counted held entries matches =
     let d = did c (λ blade. Some (given_up page blade)) old new noted given in
-    silent-held setup m held noted (ap labels d.acts.notes ∙ sym (ap (λ (e : Effect). labels e.noted) (same_Some _ _ d.does))
+    silent-held setup m held noted (ap labels d.acts.notes ∙ sym (ap (λ (e : BladeEffect). labels e.noted) (same_Some _ _ d.does))
     ∙ (given_up-alone flat page d.blade (goes.sound c d.blade d.there).cache (blade-held old flat goes.frames c d.blade d.there)).silent)
 event-holds images setup plan (Deliver link side k) old new noted flat m fits coherent sound placed goes room given counted held entries matches =
     deliver-holds images setup plan link side k old new flat noted m fits coherent sound goes placed room given counted held entries matches

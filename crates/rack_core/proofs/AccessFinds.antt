@@ -9,11 +9,13 @@ use Rattle.mind_base.specs.declared.commands.Perm.{Perm}
 use Rattle.mind_base.specs.declared.ends.End.{End}
 use Rattle.mind_base.specs.declared.ends.FaultKind.{FaultKind}
 use Rattle.mind_base.specs.declared.ends.FaultKind.TheVariants as fault
+use Rattle.mind_base.specs.Permission.{may_read, may_write}
+use Rattle.page_cache.specs.PageCache.{is_writable}
 use Rattle.hart_core.specs.Memory.{load_size}
 use Rattle.hart_core.specs.declared.outcome.Act.{Act}
 use Rattle.hart_core.specs.declared.outcome.Act.TheVariants as act
 use Rattle.hart_core.specs.declared.outcome.LockedKind.TheVariants as locked
-use Rattle.hart_effect.specs.Access.{AccessView, Around, denied, may_read, may_write}
+use Rattle.hart_effect.specs.Access.{AccessView, Around, denied}
 use Rattle.hart_effect.specs.Deed.{Deed, Alone, Storing, acted, carried_out, must_wait, unless_denied}
 use Rattle.hart_effect.specs.Thread.{Thread}
 use Rattle.hart_effect.specs.declared.finds.Found.{Found}
@@ -21,7 +23,6 @@ use Rattle.hart_effect.specs.declared.finds.Found.TheVariants.{Outside, Unknown,
 use Rattle.page_cache.specs.declared.frames.Frame.{Frame}
 use Rattle.compute_blade.specs.Steps.{need_in, serves, writes_at_once}
 use Rattle.compute_blade.specs.declared.kept.Need.{Need}
-use Rattle.coherence.specs.Facts.{is_writable}
 use Rattle.rack_core.specs.Accesses.{is_fault}
 use Rattle.rack_core.specs.AtOnce.{access_in}
 use Rattle.rack_core.proofs.AtHand.{is_held_for}

@@ -9,8 +9,8 @@ use Rattle.tso_machine.specs.State.{Setup, State, start_state}
 use Rattle.tso_machine.specs.Step.{after}
 use Rattle.tso_machine.specs.declared.labels.Label.{Label}
 use Rattle.tso_machine.specs.declared.labels.Label.TheVariants as label
+use Rattle.tso_machine.proofs.LawsRuns.{enabled}
 use Rattle.rack_core.specs.Accesses.{AreAccessesHeld, HoldsAt, state_after}
-use Rattle.rack_core.proofs.StandReplays.{enabled}
 
 -- ---- where the machine stands
 

@@ -5,18 +5,19 @@ use Rattle.mind_base.specs.declared.commands.Perm.{Perm}
 use Rattle.mind_base.specs.declared.images.Image.{Image}
 use Rattle.mind_base.specs.declared.links.LinkKind.TheVariants.{Down}
 use Rattle.mind_base.specs.declared.notes.Note.{Note}
+use Rattle.mind_base.specs.Permission.{allows}
 use Rattle.page_cache.specs.PageCache.{frame_of, entries_after_put, put_of}
 use Rattle.page_cache.specs.declared.frames.Frame.{Frame}
 use Rattle.page_image.specs.PageImage.{PageImageView}
 use Rattle.wire_msg.specs.declared.msgs.Msg.{Msg}
 use Rattle.wire_msg.specs.declared.msgs.Msg.TheVariants.{Fill, Deny, Inv, Lower}
-use Rattle.compute_blade.specs.Blade.{BladeView, Effect, with_entries, request_for}
+use Rattle.compute_blade.specs.Blade.{BladeView, BladeEffect, with_frames, request_for}
 use Rattle.compute_blade.specs.Messages.{after_message, need_asked, resumed_by, resumed_for}
 use Rattle.compute_blade.specs.Pages.{taken}
 use Rattle.compute_blade.specs.declared.kept.Answer.{Answer}
 use Rattle.compute_blade.specs.declared.kept.Answer.TheVariants.{Filled, Denied}
 use Rattle.compute_blade.specs.declared.kept.Asked.{Asked}
-use Rattle.coherence.specs.Facts.{AreDowns, IsCoherent, IsDown, allows}
+use Rattle.coherence.specs.Facts.{AreDowns, IsCoherent, IsDown}
 use Rattle.coherence.specs.Held.{held_after}
 use Rattle.coherence.proofs.Keys.{put-here}
 use Rattle.coherence.proofs.Lists.{downs-cons}
@@ -45,15 +46,15 @@ use Rattle.rack_core.proofs.StandPages.{blade-held, invalidate-alone, lower-alon
 answers-hold : (answer : Answer) (images : List Image) (setup : Setup) (old : RackView) (flat : PageView → PageImageView) (m : State) (c : ℕ) (blade : BladeView) (entries : Entries) (page : PageView) (asked : Asked)
     → (b : Between answer images setup old flat m c blade entries page asked)
     → Holds setup m b.at.plan.blade b.at.blade (resumed_by asked.waits answer (need_asked asked) images asked.hart b.at.plan b.at.blade b.hart).noted
-    → Holds setup m c (with_entries blade entries) (resumed_for answer images (request_for page blade.requests) (with_entries blade entries)).noted
+    → Holds setup m c (with_frames blade entries) (resumed_for answer images (request_for page blade.requests) (with_frames blade entries)).noted
 answers-hold answer images setup old flat m c blade entries page asked b goes held holds =
-    subst (λ (e : Effect). AreAccessesHeld setup m held e.noted) (sym b.goes_on)
+    subst (λ (e : BladeEffect). AreAccessesHeld setup m held e.noted) (sym b.goes_on)
     (goes held (λ q. ap (λ k. held k q) b.here ∙ holds q ∙ ap (λ es. writable_of (frame_of q es)) (sym b.holds)))
 
 -- where the page that came is held, and to write where it was asked for to be written
 filled-hold : (images : List Image) (setup : Setup) (old : RackView) (flat : PageView → PageImageView) (m : State) (c : ℕ) (blade : BladeView) (entries : Entries) (page : PageView) (asked : Asked) (frame : Frame)
     → Between Filled images setup old flat m c blade entries page asked → frame_of asked.page entries ≡ Some frame → (asked.write ≡ true → frame.writable ≡ true)
-    → Holds setup m c (with_entries blade entries) (resumed_for Filled images (request_for page blade.requests) (with_entries blade entries)).noted
+    → Holds setup m c (with_frames blade entries) (resumed_for Filled images (request_for page blade.requests) (with_frames blade entries)).noted
 filled-hold images setup old flat m c blade entries page asked frame b holds writable = answers-hold Filled images setup old flat m c blade entries page asked b
     (resumes-hold images setup b.mid flat m b.goes asked.hart b.hart b.at (need_asked asked) frame (ap (frame_of asked.page) b.holds ∙ holds) writable asked.waits)
 
@@ -70,12 +71,12 @@ fill-hold images setup old flat m goes placed c blade there number page perm wri
     let goes_on = filled-hold images setup old flat m c blade entries page f.asked frame b f.held (λ write. f.agrees ∙ write) in
     let noted : List Note = (taken page perm writable image blade).noted in
     let silent = taken-silent blade.number page writable (put_of blade.cache page) in
-    let after : HoldsAs c (with_entries blade entries) (fold held_after held noted) =
-    subst (λ k. HoldsAs c (with_entries blade entries) (fold held_after held (taking k page writable (put_of blade.cache page)))) (sym number)
+    let after : HoldsAs c (with_frames blade entries) (fold held_after held noted) =
+    subst (λ k. HoldsAs c (with_frames blade entries) (fold held_after held (taking k page writable (put_of blade.cache page)))) (sym number)
     (taken-holds c held page perm writable image blade sound.cache holds (put_of blade.cache page) refl) in
-    accesses-then setup m held noted (resumed_for Filled images (request_for page blade.requests) (with_entries blade entries)).noted
+    accesses-then setup m held noted (resumed_for Filled images (request_for page blade.requests) (with_frames blade entries)).noted
     (silent-held setup m held noted silent)
-    (subst (λ s. AreAccessesHeld setup s (fold held_after held noted) (resumed_for Filled images (request_for page blade.requests) (with_entries blade entries)).noted)
+    (subst (λ s. AreAccessesHeld setup s (fold held_after held noted) (resumed_for Filled images (request_for page blade.requests) (with_frames blade entries)).noted)
     (sym (silent-stays setup m noted silent)) (goes_on (fold held_after held noted) after))
 
 deny-hold : (images : List Image) (setup : Setup) (old : RackView) (flat : PageView → PageImageView) (m : State) → GoesWith images setup old flat m → AreHartsPlaced old

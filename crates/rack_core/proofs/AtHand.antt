@@ -5,13 +5,12 @@ use Rattle.mind_base.specs.Page.{PageView}
 use Rattle.mind_base.specs.Pending.{PendingView}
 use Rattle.mind_base.specs.Place.{place_of, page_at}
 use Rattle.mind_base.specs.declared.plans.ThreadPlan.{ThreadPlan}
+use Rattle.page_cache.specs.PageCache.{is_writable}
 use Rattle.hart_effect.specs.Access.{AccessView, is_aligned}
 use Rattle.hart_effect.specs.Thread.{Thread}
 use Rattle.hart_effect.specs.declared.accesses.AccessKind.{AccessKind}
 use Rattle.hart_effect.specs.declared.accesses.AccessKind.TheVariants.{Reads, WritesLater, WritesAtOnce}
 use Rattle.page_cache.specs.declared.frames.Frame.{Frame}
-use Rattle.page_image.specs.PageImage.{PageImageView}
-use Rattle.coherence.specs.Facts.{is_writable}
 use Rattle.coherence.specs.Held.{Holdings}
 use Rattle.coherence.proofs.TellingNotes.{writable_of}
 use Rattle.tso_machine.specs.Scheduled.{step_label}

@@ -13,14 +13,13 @@ use Rattle.mind_base.specs.declared.notes.Note.TheVariants as note
 use Rattle.mind_base.specs.declared.plans.ThreadPlan.{ThreadPlan}
 use Rattle.hart_effect.specs.Deed.{found, drains_first}
 use Rattle.hart_effect.specs.Thread.{Thread}
-use Rattle.page_cache.specs.PageCache.{frame_of}
+use Rattle.page_cache.specs.PageCache.{frame_of, is_writable}
 use Rattle.page_cache.specs.declared.frames.Frame.{Frame}
 use Rattle.page_image.specs.PageImage.{PageImageView}
 use Rattle.protect_table.specs.Protect.{permission_at}
-use Rattle.compute_blade.specs.Blade.{HartView, BladeView, Effect, request_for}
-use Rattle.compute_blade.specs.Steps.{step_at, drain_of, after_step, after_drain}
+use Rattle.compute_blade.specs.Blade.{HartView, BladeView, BladeEffect, request_for}
+use Rattle.compute_blade.specs.Steps.{step_at, drain_of, after_step, blade_after_drain}
 use Rattle.compute_blade.specs.declared.kept.Asked.{Asked}
-use Rattle.coherence.specs.Facts.{is_writable}
 use Rattle.tso_machine.specs.Replay.{labels}
 use Rattle.tso_machine.specs.Scheduled.{label_at, running_label, step_label}
 use Rattle.tso_machine.specs.State.{Setup, State}
@@ -48,14 +47,14 @@ label-one h noted (inr (inl e)) = inr (inl (ap labels e))
 label-one h noted (inr (inr e)) = inr (inr (ap labels e))
 
 -- of what a hart's blade does, where what the hart does notes at most one
-one_of : (h : ℕ) (act : BladeView → Option Effect) (thread : Option ThreadPlan) (old new : RackView) (noted : List Note)
-    → ((blade : BladeView) (e : Effect) → act blade ≡ Some e → NotesOne h e.noted) → HartDoes thread act old new noted → IsAtMostOne h (labels noted)
+one_of : (h : ℕ) (act : BladeView → Option BladeEffect) (thread : Option ThreadPlan) (old new : RackView) (noted : List Note)
+    → ((blade : BladeView) (e : BladeEffect) → act blade ≡ Some e → NotesOne h e.noted) → HartDoes thread act old new noted → IsAtMostOne h (labels noted)
 one_of h act None old new noted each does = absurd does
 one_of h act (Some thread) old new noted each does =
     let d = did thread.blade act old new noted does in
     label-one h noted (subst (NotesOne h) (sym d.acts.notes) (each d.blade d.effect d.does))
 
-pub step-one : (images : List Image) (h : ℕ) (blade : BladeView) (e : Effect) → after_step images h blade ≡ Some e → NotesOne h e.noted
+pub step-one : (images : List Image) (h : ℕ) (blade : BladeView) (e : BladeEffect) → after_step images h blade ≡ Some e → NotesOne h e.noted
 step-one images h blade e given =
     let o = for_hart-some blade h (λ plan hart. option_map (λ image. step_at hart.end h plan image blade hart) (slice_get images plan.image)) e given in
     by o (slice_get images o.plan.image) o.does
@@ -63,18 +62,18 @@ step-one images h blade e given =
     by : (o : OfHart blade h (λ plan hart. option_map (λ image. step_at hart.end h plan image blade hart) (slice_get images plan.image)) e)
         → (code : Option Image) → option_map (λ image. step_at o.hart.end h o.plan image blade o.hart) code ≡ Some e → NotesOne h e.noted
     by o None d = let never : ⊥ = cc in absurd never
-    by o (Some image) d = subst (λ (x : Effect). NotesOne h x.noted) (same_Some _ _ d) (step-notes o.hart.end h o.plan image blade o.hart)
+    by o (Some image) d = subst (λ (x : BladeEffect). NotesOne h x.noted) (same_Some _ _ d) (step-notes o.hart.end h o.plan image blade o.hart)
 
-pub drain-one : (h : ℕ) (blade : BladeView) (e : Effect) → after_drain h blade ≡ Some e → NotesDrain h e.noted
+pub drain-one : (h : ℕ) (blade : BladeView) (e : BladeEffect) → blade_after_drain h blade ≡ Some e → NotesDrain h e.noted
 drain-one h blade e given =
     let o = for_hart-some blade h (λ plan hart. Some (drain_of h plan blade hart)) e given in
-    subst (λ (x : Effect). NotesDrain h x.noted) (same_Some _ _ o.does) (drain-notes h o.plan blade o.hart)
+    subst (λ (x : BladeEffect). NotesDrain h x.noted) (same_Some _ _ o.does) (drain-notes h o.plan blade o.hart)
 
 pub one_of_step : (images : List Image) (h : ℕ) (old new : RackView) (noted : List Note) → Leads images (Step h) old new noted → IsAtMostOne h (labels noted)
 one_of_step images h old new noted given = one_of h (after_step images h) (slice_get old.plan.threads h) old new noted (step-one images h) given
 
 pub one_of_drain : (images : List Image) (h : ℕ) (old new : RackView) (noted : List Note) → Leads images (Drain h) old new noted → IsAtMostOne h (labels noted)
-one_of_drain images h old new noted given = one_of h (after_drain h) (slice_get old.plan.threads h) old new noted
+one_of_drain images h old new noted given = one_of h (blade_after_drain h) (slice_get old.plan.threads h) old new noted
     (λ blade e does. drain-alone h e.noted (drain-one h blade e does)) given
 
 -- ---- the hart of an event
@@ -120,20 +119,20 @@ step_is images setup h old new noted flat m goes plan planned given =
     by d.blade d.effect o.hart its.1 d.acts.notes (slice_get images plan.image) refl
     (subst (λ (p : ThreadPlan). option_map (λ image. step_at o.hart.end h p image d.blade o.hart) (slice_get images p.image) ≡ Some d.effect) its.0 o.does)
   where
-    by : (blade : BladeView) (e : Effect) (hart : HartView) → IsAtBlade old flat m h plan blade hart → noted ≡ e.noted → (code : Option Image) → slice_get images plan.image ≡ code
+    by : (blade : BladeView) (e : BladeEffect) (hart : HartView) → IsAtBlade old flat m h plan blade hart → noted ≡ e.noted → (code : Option Image) → slice_get images plan.image ≡ code
         → option_map (λ image. step_at hart.end h plan image blade hart) code ≡ Some e → StepIs images old flat m h plan noted
     by blade e hart at notes None is d = let never : ⊥ = cc in absurd never
     by blade e hart at notes (Some image) is d =
-        record { blade = blade; hart = hart; image = image; at = at; code = is; notes = notes ∙ ap (λ (x : Effect). x.noted) (sym (same_Some _ _ d)) }
+        record { blade = blade; hart = hart; image = image; at = at; code = is; notes = notes ∙ ap (λ (x : BladeEffect). x.noted) (sym (same_Some _ _ d)) }
 
 drain_is : (images : List Image) (setup : Setup) (h : ℕ) (old new : RackView) (noted : List Note) (flat : PageView → PageImageView) (m : State) → GoesWith images setup old flat m
     → (plan : ThreadPlan) → slice_get old.plan.threads h ≡ Some plan → Leads images (Drain h) old new noted → DrainIs old flat m h plan noted
 drain_is images setup h old new noted flat m goes plan planned given =
-    let d = did plan.blade (after_drain h) old new noted (subst (λ t. HartDoes t (after_drain h) old new noted) planned given) in
+    let d = did plan.blade (blade_after_drain h) old new noted (subst (λ t. HartDoes t (blade_after_drain h) old new noted) planned given) in
     let o = for_hart-some d.blade h (λ plan hart. Some (drain_of h plan d.blade hart)) d.effect d.does in
     let its = at-blade images setup old flat m goes h plan planned d.blade d.there o.plan o.hart o.thread o.own in
     let does = subst (λ (p : ThreadPlan). Some (drain_of h p d.blade o.hart) ≡ Some d.effect) its.0 o.does in
-    record { blade = d.blade; hart = o.hart; at = its.1; notes = d.acts.notes ∙ ap (λ (x : Effect). x.noted) (sym (same_Some _ _ does)) }
+    record { blade = d.blade; hart = o.hart; at = its.1; notes = d.acts.notes ∙ ap (λ (x : BladeEffect). x.noted) (sym (same_Some _ _ does)) }
 
 -- ---- what the machine's rule says of it
 

@@ -5,22 +5,21 @@ use Rattle.std.specs.List.{AllByRecursion}
 use Rattle.std.proofs.lemmas.Option.{same_Some}
 use Rattle.mind_base.specs.Page.{PageView}
 use Rattle.mind_base.specs.Place.{place_of, page_at}
+use Rattle.mind_base.specs.Permission.{may_write}
 use Rattle.hart_core.specs.Memory.{load_size}
 use Rattle.hart_core.specs.declared.outcome.Act.{Act}
 use Rattle.hart_core.specs.declared.outcome.Act.TheVariants as act
 use Rattle.hart_core.specs.declared.outcome.LockedKind.TheVariants as locked
-use Rattle.hart_effect.specs.Access.{may_write}
 use Rattle.hart_effect.specs.declared.finds.Found.{Found}
 use Rattle.hart_effect.specs.declared.finds.Found.TheVariants.{Outside, Unknown, Asks}
 use Rattle.page_cache.proofs.Laws.{same_page-refl}
-use Rattle.page_cache.specs.PageCache.{same_page}
+use Rattle.page_cache.specs.PageCache.{same_page, is_writable}
 use Rattle.page_cache.specs.declared.frames.Frame.{Frame}
 use Rattle.compute_blade.specs.Blade.{request_for}
 use Rattle.compute_blade.specs.Steps.{need_in, serves, writes_at_once}
 use Rattle.compute_blade.specs.declared.kept.Asked.{Asked}
 use Rattle.compute_blade.specs.declared.kept.Need.{Need}
 use Rattle.compute_blade.specs.declared.kept.Waits.{Waits}
-use Rattle.coherence.specs.Facts.{is_writable}
 use Rattle.rack_core.specs.AtOnce.{access_in}
 use Rattle.rack_core.proofs.AtHand.{frames_at_hand}
 use Rattle.rack_core.specs.BladeMoves.{IsOut}

@@ -15,19 +15,16 @@ use Rattle.mind_base.specs.declared.notes.Note.TheVariants as note
 use Rattle.mind_base.specs.declared.plans.ThreadPlan.{ThreadPlan}
 use Rattle.hart_effect.specs.Deed.{Deed, found, carried_out, drains_first}
 use Rattle.hart_effect.specs.declared.finds.Found.{Found}
-use Rattle.page_cache.specs.PageCache.{frame_of}
-use Rattle.page_cache.specs.declared.frames.Frame.{Frame}
+use Rattle.page_cache.specs.PageCache.{frame_of, is_writable}
 use Rattle.wire_msg.specs.declared.msgs.Msg.TheVariants.{Get}
 use Rattle.compute_blade.specs.Blade.{HartView, BladeView, with_hart, is_asked, request_for, only}
 use Rattle.compute_blade.specs.Frames.{around_held, thread_of}
 use Rattle.compute_blade.specs.Messages.{need_asked}
-use Rattle.compute_blade.specs.Steps as steps
 use Rattle.compute_blade.specs.Steps.{need_in, serves, performed, performed_by, waiting, asking, drained, draining_by, drain_of, stepping_at, stepping_by, step_at}
 use Rattle.compute_blade.specs.declared.kept.Asked.{Asked}
 use Rattle.compute_blade.specs.declared.kept.Need.{Need}
 use Rattle.compute_blade.specs.declared.kept.Waits.{Waits}
 use Rattle.compute_blade.specs.declared.kept.Waits.TheVariants.{Step, Drain}
-use Rattle.coherence.specs.Facts.{is_writable}
 use Rattle.rack_core.specs.AtOnce.{access_in}
 use Rattle.rack_core.proofs.AtHand.{frames_at_hand}
 use Rattle.rack_core.specs.BladeMoves.{hart_in, IsDrainRequest, IsRequest, IsRequestBy, IsSoundBlade}
@@ -70,7 +67,7 @@ drain-alone h noted (inr e) = inr (inr e)
 
 draining-notes : (h : ℕ) (plan : ThreadPlan) (stores : List PendingView) (blade : BladeView) (hart : HartView) → NotesDrain h (draining_by h plan stores blade hart).noted
 draining-notes h plan [] blade hart = inl refl
-draining-notes h plan (oldest ∷ newer) blade hart = by (steps.is_writable (frame_of (page_at (place_of plan.domain oldest.address)) blade.cache.entries)) where
+draining-notes h plan (oldest ∷ newer) blade hart = by (is_writable (frame_of (page_at (place_of plan.domain oldest.address)) blade.cache.entries)) where
   by : (b : Bool) → NotesDrain h (if b then drained h plan oldest newer blade hart
       else asking h Drain (record { page = page_at (place_of plan.domain oldest.address); write = true }) blade hart).noted
   by true = inr refl
@@ -189,10 +186,6 @@ not-draining perms blade h plan hart oldest newer sound planned own free waits =
     let page : f.asked.page ≡ page_at (place_of plan.domain oldest.address) = sym r.page ∙ (λ i. page_at (place_of (plan_is i).domain (oldest_is i).address)) in
     some_none f.other (sym f.out ∙ ap (λ q. request_for q blade.requests) page ∙ free.unasked)
 
-to-write : (held : Option Frame) → is_writable held ≡ true → steps.is_writable held ≡ true
-to-write None e = e
-to-write (Some frame) e = e
-
 pub drains : (perms : PageView → Perm) (blade : BladeView) (h : ℕ) (plan : ThreadPlan) (hart : HartView) (oldest : PendingView) (newer : List PendingView) → IsSoundBlade perms blade
     → slice_get blade.plan.threads h ≡ Some plan → hart_in blade.harts h ≡ Some hart → IsFreeToDrain blade plan hart oldest newer
     → (drain_of h plan blade hart).noted ≡ note.Drain h ∷ []
@@ -201,7 +194,7 @@ drains perms blade h plan hart oldest newer sound planned own free = by hart.dra
   by true waits = absurd (not-draining perms blade h plan hart oldest newer sound planned own free waits)
   by false w = ap (λ stores. (draining_by h plan stores blade hart).noted) free.queue
       ∙ ap (λ b. (if b then drained h plan oldest newer blade hart else asking h Drain (record { page = page_at (place_of plan.domain oldest.address); write = true }) blade hart).noted)
-      (to-write (frame_of (page_at (place_of plan.domain oldest.address)) blade.cache.entries) free.held)
+      free.held
 
 -- a step in which a store must drain first is its drain
 pub step_drains : (images : List Image) (perms : PageView → Perm) (blade : BladeView) (h : ℕ) (plan : ThreadPlan) (image : Image) (pc : ℕ) (hart : HartView) (oldest : PendingView) (newer : List PendingView)

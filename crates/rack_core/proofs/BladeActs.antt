@@ -4,15 +4,14 @@ use Rattle.std.specs.Prelude.{if◌then◌else◌}
 use Rattle.mind_base.specs.Page.{PageView}
 use Rattle.mind_base.specs.Range.{RangeView, in_range}
 use Rattle.mind_base.specs.declared.commands.Perm.{Perm}
-use Rattle.page_cache.specs.PageCache.{IsPageCache, same_page, frame_of, without, with_change, lowered_frame}
+use Rattle.page_cache.specs.PageCache.{IsPageCache, same_page, frame_of, without_page, with_change, lowered_frame, is_writable}
 use Rattle.page_cache.specs.declared.frames.Frame.{Frame}
 use Rattle.page_image.specs.PageImage.{PageImageView}
 use Rattle.wire_msg.specs.declared.msgs.Msg.{Msg}
 use Rattle.wire_msg.specs.declared.msgs.Msg.TheVariants.{Get, Fill, Deny, Inv, Lower, Ack}
-use Rattle.compute_blade.specs.Blade.{BladeView, with_entries, is_asked, request_for, answered}
+use Rattle.compute_blade.specs.Blade.{BladeView, with_frames, is_asked, request_for, requests_without}
 use Rattle.compute_blade.specs.Pages.{back_of}
 use Rattle.compute_blade.specs.declared.kept.Asked.{Asked}
-use Rattle.coherence.specs.Facts.{is_writable}
 use Rattle.coherence.specs.Moves.{Asks, Stores, GivesUp, Lowers, TakesFill, TakesDeny, AnswersInv, AnswersLower, answers, took}
 use Rattle.coherence.specs.World.{World, put, put_page, put_both}
 use Rattle.coherence.proofs.Keys.{put-here, put-other, put_both-other}
@@ -27,7 +26,7 @@ at_page : {X : Type 0} (c : ℕ) (page : PageView) (x : X) (f : ℕ → PageView
 at_page c page x f old new was is other = at_blade c page x f other ∙ ap (λ y. if same_page other page then x else y) (was other) ∙ sym (is other)
 
 asked-answered : (page : PageView) (requests : List Asked) (other : PageView)
-    → asked_in (answered page requests) other ≡ (if same_page other page then None else asked_in requests other)
+    → asked_in (requests_without page requests) other ≡ (if same_page other page then None else asked_in requests other)
 asked-answered page requests other = ap (option_map (λ asked. asked.write)) (request-answered page requests other) ∙ by (same_page other page) where
   by : (b : Bool) → option_map (λ asked. asked.write) (if b then None else request_for other requests) ≡ (if b then None else asked_in requests other)
   by true = refl
@@ -42,12 +41,12 @@ asked-more requests asked h other = ap (option_map (λ asked. asked.write)) (req
 
 -- a page that is held is given up
 pub gives : (c : ℕ) (blade : BladeView) (w : World) (page : PageView) (frame : Frame) → HasBlade c blade w → IsPageCache blade.cache
-    → frame_of page blade.cache.entries ≡ Some frame → LeadsTo w w c (with_entries blade (without page blade.cache.entries)) (back_of page frame) w.flat
+    → frame_of page blade.cache.entries ≡ Some frame → LeadsTo w w c (with_frames blade (without_page page blade.cache.entries)) (back_of page frame) w.flat
 gives c blade w page frame h is held = record {
   moves = GivesUp c page frame ∷ [];
-  run = one_move w (GivesUp c page frame) _ (h.frames page ∙ held) (seen_as c (with_entries blade (without page blade.cache.entries)) (back_of page frame) w
+  run = one_move w (GivesUp c page frame) _ (h.frames page ∙ held) (seen_as c (with_frames blade (without_page page blade.cache.entries)) (back_of page frame) w
       (put_both c page None w.frames) w.asks (put c (w.ups c ++ back_of page frame) w.ups) w.flat (record {
-        frames_here = at_page c page None w.frames (λ q. frame_of q blade.cache.entries) (λ q. frame_of q (without page blade.cache.entries)) h.frames (found-without page blade.cache.entries is.distinct);
+        frames_here = at_page c page None w.frames (λ q. frame_of q blade.cache.entries) (λ q. frame_of q (without_page page blade.cache.entries)) h.frames (found-without page blade.cache.entries is.distinct);
         frames_away = λ n e q. put_both-other c page None w.frames n q e;
         asks_here = h.asks;
         asks_away = λ n e q. refl;
@@ -58,10 +57,10 @@ gives c blade w page frame h is held = record {
 
 -- a page that is held may be written no longer
 pub lowers : (c : ℕ) (blade : BladeView) (w : World) (page : PageView) (frame : Frame) → HasBlade c blade w
-    → frame_of page blade.cache.entries ≡ Some frame → LeadsTo w w c (with_entries blade (with_change lowered_frame page blade.cache.entries)) (back_of page frame) w.flat
+    → frame_of page blade.cache.entries ≡ Some frame → LeadsTo w w c (with_frames blade (with_change lowered_frame page blade.cache.entries)) (back_of page frame) w.flat
 lowers c blade w page frame h held = record {
   moves = Lowers c page frame ∷ [];
-  run = one_move w (Lowers c page frame) _ (h.frames page ∙ held) (seen_as c (with_entries blade (with_change lowered_frame page blade.cache.entries)) (back_of page frame) w
+  run = one_move w (Lowers c page frame) _ (h.frames page ∙ held) (seen_as c (with_frames blade (with_change lowered_frame page blade.cache.entries)) (back_of page frame) w
       (put_both c page (Some (lowered_frame frame)) w.frames) w.asks (put c (w.ups c ++ back_of page frame) w.ups) w.flat (record {
         frames_here = at_page c page (Some (lowered_frame frame)) w.frames (λ q. frame_of q blade.cache.entries) (λ q. frame_of q (with_change lowered_frame page blade.cache.entries)) h.frames
             (found-with_change lowered_frame page frame blade.cache.entries held);
@@ -98,10 +97,10 @@ asks c blade w asked h free unwritable =
 pub stores : (c : ℕ) (blade : BladeView) (w : World) (page : PageView) (frame : Frame) (image : PageImageView) (entries : Entries) → HasBlade c blade w
     → frame_of page blade.cache.entries ≡ Some frame → frame.writable ≡ true
     → ((other : PageView) → frame_of other entries ≡ (if same_page other page then Some (record frame { image = image; dirty = true }) else frame_of other blade.cache.entries))
-    → LeadsTo w w c (with_entries blade entries) [] (put_page page image w.flat)
+    → LeadsTo w w c (with_frames blade entries) [] (put_page page image w.flat)
 stores c blade w page frame image entries h held writable found = record {
   moves = Stores c page frame image ∷ [];
-  run = one_move w (Stores c page frame image) _ (h.frames page ∙ held, writable) (seen_as c (with_entries blade entries) [] w
+  run = one_move w (Stores c page frame image) _ (h.frames page ∙ held, writable) (seen_as c (with_frames blade entries) [] w
       (put_both c page (Some (record frame { image = image; dirty = true })) w.frames) w.asks w.ups (put_page page image w.flat) (record {
         frames_here = at_page c page (Some (record frame { image = image; dirty = true })) w.frames (λ q. frame_of q blade.cache.entries) (λ q. frame_of q entries) h.frames found;
         frames_away = λ n e q. put_both-other c page (Some (record frame { image = image; dirty = true })) w.frames n q e;
@@ -114,22 +113,22 @@ stores c blade w page frame image entries h held writable found = record {
 
 -- pages are used
 pub uses : (c : ℕ) (blade : BladeView) (w : World) (entries : Entries) → HasBlade c blade w
-    → ((other : PageView) → frame_of other entries ≡ frame_of other blade.cache.entries) → HasBlade c (with_entries blade entries) w
+    → ((other : PageView) → frame_of other entries ≡ frame_of other blade.cache.entries) → HasBlade c (with_frames blade entries) w
 uses c blade w entries h found = record { frames = λ page. h.frames page ∙ sym (found page); asks = h.asks }
 
 -- a page comes, and its request ends
 pub takes : (c : ℕ) (blade : BladeView) (w : World) (page : PageView) (perm : Perm) (writable : Bool) (image : PageImageView) (behind : List Msg) (entries : Entries)
     → HasBlade c blade w → w.downs c ≡ Fill page perm writable image ∷ behind
     → ((other : PageView) → frame_of other entries ≡ (if same_page other page then Some (record { image = image; writable = writable; dirty = false; perm = perm }) else frame_of other blade.cache.entries))
-    → LeadsTo w (took c behind w) c (record (with_entries blade entries) { requests = answered page blade.requests }) [] w.flat
+    → LeadsTo w (took c behind w) c (record (with_frames blade entries) { requests = requests_without page blade.requests }) [] w.flat
 takes c blade w page perm writable image behind entries h head found = record {
   moves = TakesFill c page perm writable image behind ∷ [];
   run = one_move w (TakesFill c page perm writable image behind) _ head
-      (seen_as c (record (with_entries blade entries) { requests = answered page blade.requests }) [] (took c behind w)
+      (seen_as c (record (with_frames blade entries) { requests = requests_without page blade.requests }) [] (took c behind w)
       (put_both c page (Some (record { image = image; writable = writable; dirty = false; perm = perm })) w.frames) (put_both c page None w.asks) w.ups w.flat (record {
         frames_here = at_page c page (Some (record { image = image; writable = writable; dirty = false; perm = perm })) w.frames (λ q. frame_of q blade.cache.entries) (λ q. frame_of q entries) h.frames found;
         frames_away = λ n e q. put_both-other c page (Some (record { image = image; writable = writable; dirty = false; perm = perm })) w.frames n q e;
-        asks_here = at_page c page None w.asks (asked_in blade.requests) (asked_in (answered page blade.requests)) h.asks (asked-answered page blade.requests);
+        asks_here = at_page c page None w.asks (asked_in blade.requests) (asked_in (requests_without page blade.requests)) h.asks (asked-answered page blade.requests);
         asks_away = λ n e q. put_both-other c page None w.asks n q e;
         ups_here = sym (append-nil (w.ups c));
         ups_away = λ n e. refl;
@@ -138,15 +137,15 @@ takes c blade w page perm writable image behind entries h head found = record {
 
 -- a page is denied, and its request ends
 pub denied : (c : ℕ) (blade : BladeView) (w : World) (page : PageView) (behind : List Msg) → HasBlade c blade w → w.downs c ≡ Deny page ∷ behind
-    → LeadsTo w (took c behind w) c (record blade { requests = answered page blade.requests }) [] w.flat
+    → LeadsTo w (took c behind w) c (record blade { requests = requests_without page blade.requests }) [] w.flat
 denied c blade w page behind h head = record {
   moves = TakesDeny c page behind ∷ [];
   run = one_move w (TakesDeny c page behind) _ head
-      (seen_as c (record blade { requests = answered page blade.requests }) [] (took c behind w)
+      (seen_as c (record blade { requests = requests_without page blade.requests }) [] (took c behind w)
       w.frames (put_both c page None w.asks) w.ups w.flat (record {
         frames_here = h.frames;
         frames_away = λ n e q. refl;
-        asks_here = at_page c page None w.asks (asked_in blade.requests) (asked_in (answered page blade.requests)) h.asks (asked-answered page blade.requests);
+        asks_here = at_page c page None w.asks (asked_in blade.requests) (asked_in (requests_without page blade.requests)) h.asks (asked-answered page blade.requests);
         asks_away = λ n e q. put_both-other c page None w.asks n q e;
         ups_here = sym (append-nil (w.ups c));
         ups_away = λ n e. refl;

@@ -9,15 +9,14 @@ use Rattle.mind_base.specs.Page.{PageView}
 use Rattle.mind_base.specs.Range.{RangeView}
 use Rattle.mind_base.specs.declared.commands.Perm.{Perm}
 use Rattle.mind_base.specs.declared.images.Image.{Image}
-use Rattle.page_cache.specs.PageCache.{IsPageCache, same_page, frame_of, without, with_change, lowered_frame, newest_first, oldest_first, stands_in, stands_writable_in}
+use Rattle.page_cache.specs.PageCache.{IsPageCache, same_page, frame_of, without_page, with_change, lowered_frame, newest_first, oldest_first, stands_in, stands_writable_in, is_writable}
 use Rattle.page_cache.specs.declared.frames.Frame.{Frame}
 use Rattle.page_cache.proofs.Laws.{same_page-true}
 use Rattle.wire_msg.specs.declared.msgs.Msg.{Msg}
 use Rattle.wire_msg.specs.declared.msgs.Msg.TheVariants.{Inv, Lower}
-use Rattle.compute_blade.specs.Blade.{BladeView, Effect, with_entries, and_then}
+use Rattle.compute_blade.specs.Blade.{BladeView, BladeEffect, with_frames, and_then}
 use Rattle.compute_blade.specs.Messages.{after_message}
-use Rattle.compute_blade.specs.Pages.{given_up, giving_up, lowered, lowering, each_in, held_in, writable_in, span_of, spared}
-use Rattle.coherence.specs.Facts.{is_writable}
+use Rattle.compute_blade.specs.Pages.{given_up, giving_up, lowered, lowering, each_in, held_in, writable_in, run_of_block, spared}
 use Rattle.coherence.specs.Moves.{took}
 use Rattle.coherence.specs.World.{World}
 use Rattle.rack_core.specs.BladeMoves.{with_seen_blade, HasBlade, LeadsTo, IsSoundBlade, DoesMoves}
@@ -28,8 +27,8 @@ use Rattle.rack_core.proofs.Lookups.{Entries, found-without, found-with_change, 
 -- ---- one page after another
 
 -- only the pages of a blade change, and by moves; of these pages none passes a test of frames any more
-pub record ChangesPages (on : Option Frame → Bool) (blade : BladeView) (pages : List PageView) (e : Effect) : Type 0 where
-  pub only : e.blade ≡ with_entries blade e.blade.cache.entries
+pub record ChangesPages (on : Option Frame → Bool) (blade : BladeView) (pages : List PageView) (e : BladeEffect) : Type 0 where
+  pub only : e.blade ≡ with_frames blade e.blade.cache.entries
   pub shape : IsPageCache e.blade.cache
   pub gone : (page : PageView) → on (frame_of page e.blade.cache.entries) ≡ (if list_any (same_page page) pages then false else on (frame_of page blade.cache.entries))
   pub leads : (c : ℕ) (w : World) → HasBlade c blade w → LeadsTo w w c e.blade e.sent w.flat
@@ -37,10 +36,10 @@ pub record ChangesPages (on : Option Frame → Bool) (blade : BladeView) (pages 
 changes_none : (on : Option Frame → Bool) (blade : BladeView) → IsPageCache blade.cache → ChangesPages on blade [] (record { blade = blade; sent = []; noted = [] })
 changes_none on blade is = record { only = refl; shape = is; gone = λ page. refl; leads = λ c w h. stays c blade w h }
 
-changes_more : (on : Option Frame → Bool) (blade : BladeView) (page : PageView) (pages : List PageView) (first : Effect) (next : BladeView → Effect)
+changes_more : (on : Option Frame → Bool) (blade : BladeView) (page : PageView) (pages : List PageView) (first : BladeEffect) (next : BladeView → BladeEffect)
     → ChangesPages on blade (page ∷ []) first → ChangesPages on first.blade pages (next first.blade) → ChangesPages on blade (page ∷ pages) (and_then first next)
 changes_more on blade page pages first next one more = record {
-  only = more.only ∙ ap (λ b. with_entries b (next first.blade).blade.cache.entries) one.only;
+  only = more.only ∙ ap (λ b. with_frames b (next first.blade).blade.cache.entries) one.only;
   shape = more.shape;
   gone = λ q. more.gone q ∙ ap (λ b. if list_any (same_page q) pages then false else b) (one.gone q) ∙ by (same_page q page) (list_any (same_page q) pages) (on (frame_of q blade.cache.entries));
   leads = λ c w h. let one = one.leads c w h in leads_on w w c first.blade (next first.blade).blade first.sent (next first.blade).sent w.flat w.flat one
@@ -52,7 +51,7 @@ changes_more on blade page pages first next one more = record {
   by false true x = refl
   by false false x = refl
 
-pub each : (on : Option Frame → Bool) (change : PageView → BladeView → Effect)
+pub each : (on : Option Frame → Bool) (change : PageView → BladeView → BladeEffect)
     → ((page : PageView) (blade : BladeView) → IsPageCache blade.cache → ChangesPages on blade (page ∷ []) (change page blade))
     → (pages : List PageView) (blade : BladeView) → IsPageCache blade.cache → ChangesPages on blade pages (each_in change pages blade)
 each on change one [] blade is = changes_none on blade is
@@ -84,7 +83,7 @@ given_up-changes page blade is = by (frame_of page blade.cache.entries) refl whe
   by (Some frame) e = record {
     only = refl;
     shape = cache-without page blade.cache is;
-    gone = here_or_away is_some page None blade.cache.entries (without page blade.cache.entries) refl (found-without page blade.cache.entries is.distinct);
+    gone = here_or_away is_some page None blade.cache.entries (without_page page blade.cache.entries) refl (found-without page blade.cache.entries is.distinct);
     leads = λ c w h. gives c blade w page frame h is e;
   }
 
@@ -132,7 +131,7 @@ reversed page (first ∷ pages) =
 -- ---- the calls
 
 -- a blade whose pages alone changed is sound
-pub sound_entries : (perms : PageView → Perm) (blade new : BladeView) → IsSoundBlade perms blade → new ≡ with_entries blade new.cache.entries → IsPageCache new.cache → IsSoundBlade perms new
+pub sound_entries : (perms : PageView → Perm) (blade new : BladeView) → IsSoundBlade perms blade → new ≡ with_frames blade new.cache.entries → IsPageCache new.cache → IsSoundBlade perms new
 sound_entries perms blade new sound only shape = subst (IsSoundBlade perms) (sym only)
     (record { cache = subst (λ b. IsPageCache b.cache) only shape; apart = sound.apart; waiters = sound.waiters; requests = sound.requests; waiting = sound.waiting; stores = sound.stores })
 
@@ -143,7 +142,7 @@ evict w c blade page h sound =
     record { flat = w.flat; leads = changes.leads c w h; kept = λ page e. refl; sound = sound_entries w.perms blade (given_up page blade).blade sound changes.only changes.shape }
 
 -- pages are changed, and the switch is answered
-acknowledges : (w : World) (c : ℕ) (blade : BladeView) (on : Option Frame → Bool) (change : PageView → BladeView → Effect) (pages : List PageView) (behind : List Msg) (answer : List Msg)
+acknowledges : (w : World) (c : ℕ) (blade : BladeView) (on : Option Frame → Bool) (change : PageView → BladeView → BladeEffect) (pages : List PageView) (behind : List Msg) (answer : List Msg)
     → HasBlade c blade w → IsSoundBlade w.perms blade
     → ChangesPages on blade pages (each_in change pages blade)
     → ((v : World) → HasBlade c (each_in change pages blade).blade v → v.downs ≡ w.downs → LeadsTo v (took c behind v) c (each_in change pages blade).blade answer v.flat)
@@ -192,7 +191,7 @@ invalidate images w c blade number range asked behind h sound head =
     let after = (each_in given_up pages blade).blade in
     acknowledges w c blade is_some given_up pages behind _ h sound changes
     (λ v has downs. answers_inv c after v number range asked (spared asked pages) behind has (ap (λ f. f c) downs ∙ head)
-    (λ page inside. not_some (frame_of page after.cache.entries) (block_gone is_some (stands_in (span_of range)) page blade.cache.entries after.cache.entries (λ frame o. inside) refl (changes.gone page))))
+    (λ page inside. not_some (frame_of page after.cache.entries) (block_gone is_some (stands_in (run_of_block range)) page blade.cache.entries after.cache.entries (λ frame o. inside) refl (changes.gone page))))
 
 pub lower : (images : List Image) (w : World) (c : ℕ) (blade : BladeView) (number : ℕ) (range : RangeView) (asked : PageView) (behind : List Msg)
     → HasBlade c blade w → IsSoundBlade w.perms blade → w.downs c ≡ Lower number range asked ∷ behind
@@ -203,4 +202,4 @@ lower images w c blade number range asked behind h sound head =
     let after = (each_in lowered pages blade).blade in
     acknowledges w c blade is_writable lowered pages behind _ h sound changes
     (λ v has downs. answers_lower c after v number range asked (spared (Some asked) pages) behind has (ap (λ f. f c) downs ∙ head)
-    (λ page inside. block_gone is_writable (stands_writable_in (span_of range)) page blade.cache.entries after.cache.entries (λ frame o. and_from _ _ inside o) refl (changes.gone page)))
+    (λ page inside. block_gone is_writable (stands_writable_in (run_of_block range)) page blade.cache.entries after.cache.entries (λ frame o. and_from _ _ inside o) refl (changes.gone page)))

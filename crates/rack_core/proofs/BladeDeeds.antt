@@ -15,9 +15,10 @@ use Rattle.hart_core.specs.declared.outcome.Act.{Act}
 use Rattle.hart_core.specs.declared.outcome.Act.TheVariants as act
 use Rattle.hart_core.specs.declared.outcome.LockedKind.{LockedKind}
 use Rattle.hart_core.specs.declared.outcome.LockedKind.TheVariants as locked
-use Rattle.hart_effect.specs.Access.{Around, may_write, read_denied, write_denied}
+use Rattle.hart_effect.specs.Access.{Around, read_denied, write_denied}
 use Rattle.hart_effect.specs.Deed.{Deed, Alone, Storing, acted, carried_out, called, faulted, put_out, continued, unless_denied, stored_if, holds_reservation, must_wait}
 use Rattle.mind_base.specs.Place.{place_of, page_at, granule_at}
+use Rattle.mind_base.specs.Permission.{may_write}
 use Rattle.hart_effect.specs.Thread.{Thread}
 use Rattle.hart_effect.specs.declared.finds.Found.{Found}
 use Rattle.hart_effect.specs.declared.finds.Found.TheVariants.{Outside, Unknown, Asks}

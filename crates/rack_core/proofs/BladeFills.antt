@@ -1,19 +1,17 @@
 -- A page that comes, or is denied, is moves, with what waited for it.
-use Rattle.std.proofs.Common.{◌≡◌, ℕ, ◌+◌, Bool, true, false, not, ◌&&◌, ap, sym, refl, subst, List, [], ◌∷◌, slice_get, Option, Some, None, is_some, option_map, ◌∙◌, arith, append-nil}
+use Rattle.std.proofs.Common.{◌≡◌, ℕ, ◌+◌, Bool, true, false, ap, sym, refl, subst, List, [], ◌∷◌, slice_get, Option, Some, None, is_some, option_map, ◌∙◌, arith, append-nil}
 use Rattle.std.specs.Prelude.{if◌then◌else◌, option_and_then, unwrap_or}
 use Rattle.std.specs.Bool.{beq}
 use Rattle.std.proofs.lemmas.Bool.{and_parts}
 use Rattle.std.proofs.lemmas.Option.{same_Some}
 use Rattle.mind_base.specs.Page.{PageView}
 use Rattle.mind_base.specs.declared.commands.Perm.{Perm}
-use Rattle.mind_base.specs.declared.ends.End.{End}
-use Rattle.mind_base.specs.declared.ends.End.TheVariants.{Running, Exit, Fault}
 use Rattle.mind_base.specs.declared.images.Image.{Image}
 use Rattle.mind_base.specs.declared.plans.ThreadPlan.{ThreadPlan}
-use Rattle.hart_effect.specs.Deed.{found, drains_first}
+use Rattle.hart_effect.specs.Deed.{found}
 use Rattle.hart_effect.specs.declared.finds.Found.{Found}
 use Rattle.mind_base.specs.Place.{place_of, page_at}
-use Rattle.page_cache.specs.PageCache.{IsPageCache, same_page, frame_of, without, entries_after_put, put_of}
+use Rattle.page_cache.specs.PageCache.{IsPageCache, same_page, frame_of, without_page, entries_after_put, put_of}
 use Rattle.page_cache.specs.declared.frames.Frame.{Frame}
 use Rattle.page_cache.specs.declared.frames.Put.{Put}
 use Rattle.page_cache.specs.declared.frames.Put.TheVariants.{Fresh, Replaced, Pushed}
@@ -21,10 +19,10 @@ use Rattle.page_cache.proofs.Laws.{same_page-refl, same_page-true}
 use Rattle.page_image.specs.PageImage.{PageImageView}
 use Rattle.wire_msg.specs.declared.msgs.Msg.{Msg}
 use Rattle.wire_msg.specs.declared.msgs.Msg.TheVariants.{Fill, Deny}
-use Rattle.compute_blade.specs.Blade.{HartView, BladeView, Effect, hart_of, with_hart, with_entries, request_for, answered, only, and_then}
+use Rattle.compute_blade.specs.Blade.{HartView, BladeView, BladeEffect, hart_of, with_hart, with_frames, request_for, requests_without, only, and_then}
 use Rattle.compute_blade.specs.Frames.{around_held, thread_of}
 use Rattle.compute_blade.specs.Denials.{denial_in, faulting, refused_by}
-use Rattle.compute_blade.specs.Messages.{after_message, awake, needs_just, need_asked, answered_by, resumed, resumed_for, resumed_by, resumed_at, resumed_with}
+use Rattle.compute_blade.specs.Messages.{after_message, awake, needs_just, need_asked, answered_by, resumed, resumed_for, resumed_by}
 use Rattle.compute_blade.specs.Pages.{sent_out, back_of}
 use Rattle.compute_blade.specs.Steps.{need_in, for_hart}
 use Rattle.compute_blade.specs.declared.kept.Denial.{Denial}
@@ -48,6 +46,7 @@ use Rattle.rack_core.proofs.BladeSound.{hart_in-set, of_found, awakes, allowed-h
 use Rattle.rack_core.proofs.BladeWaits.{IsAwake, apart-answered, waiters-answered, waiting-answered}
 use Rattle.rack_core.proofs.BladeSteps.{HoldsToWrite, FindsAllowed, finds_allowed, of_harts, idle, sound-hart, performs, drains}
 use Rattle.rack_core.proofs.Lookups.{Entries, found-without, found-put_fresh, found-put_replaced, found-put_pushed, cache-put}
+use Rattle.rack_core.proofs.Resuming.{resumes-as}
 
 -- ---- what waited is performed
 
@@ -64,9 +63,9 @@ ends-by blade asked Drain r = (r.plan, r.hart, r.thread, r.own)
 
 -- the blade when the request for its page has ended
 unfoldable pub awaking : Asked → HartView → BladeView → BladeView
-awaking asked hart blade = with_hart asked.hart (awake asked.waits hart) (record blade { requests = answered asked.page blade.requests })
+awaking asked hart blade = with_hart asked.hart (awake asked.waits hart) (record blade { requests = requests_without asked.page blade.requests })
 
-for_hart-is : (blade : BladeView) (h : ℕ) (act : ThreadPlan → HartView → Option Effect) (plan : ThreadPlan) (hart : HartView)
+for_hart-is : (blade : BladeView) (h : ℕ) (act : ThreadPlan → HartView → Option BladeEffect) (plan : ThreadPlan) (hart : HartView)
     → slice_get blade.plan.threads h ≡ Some plan → hart_of blade h ≡ Some hart → for_hart blade h act ≡ act plan hart
 for_hart-is blade h act plan hart thread own =
     ap (option_and_then (λ plan. option_and_then (λ hart. act plan hart) (hart_of blade h))) thread
@@ -77,7 +76,7 @@ pub resumed-is : (answer : Answer) (images : List Image) (asked : Asked) (blade 
 unfolding awaking
 resumed-is answer images asked blade plan hart ends = ap (λ e. unwrap_or e (only blade)) (for_hart-is blade asked.hart
     (λ plan hart. Some (resumed_by asked.waits answer (need_asked asked) images asked.hart plan
-    (with_hart asked.hart (awake asked.waits hart) (record blade { requests = answered asked.page blade.requests })) (awake asked.waits hart)))
+    (with_hart asked.hart (awake asked.waits hart) (record blade { requests = requests_without asked.page blade.requests })) (awake asked.waits hart)))
     plan hart ends.thread ends.own)
 
 -- a page that came is held to be written where it was asked for to be written
@@ -134,31 +133,17 @@ resumes : (answer : Answer) (images : List Image) (v : World) (c : ℕ) (blade :
     → DoesMoves v v c (resumed_by waits answer asked images h plan blade hart)
 resumes answer images v c blade h plan asked Drain hart has sound thread own awake holds finds =
     drains v c blade h plan hart.queue.stores hart has sound thread own awake refl
-resumes answer images v c blade h plan asked Step hart has sound thread own awake holds finds = at hart.end where
-  with_found : (image : Image) (pc : ℕ) → DoesMoves v v c (resumed_with answer asked h plan (found image hart.regs pc) pc blade hart)
-  with_found image pc = by (needs_just asked (need_in (found image hart.regs pc) plan.domain)) refl (not (drains_first (found image hart.regs pc) hart.queue.stores hart.queue.capacity)) where
-    by : (b : Bool) → needs_just asked (need_in (found image hart.regs pc) plan.domain) ≡ b → (r : Bool)
-        → DoesMoves v v c (if b && r then answered_by answer h plan (found image hart.regs pc) pc blade hart else only blade)
-    by true e true = answers-step answer v c blade h plan asked (found image hart.regs pc) pc hart has sound thread own awake holds finds e
-    by true e false = idle v c blade has sound
-    by false e r = idle v c blade has sound
-
-  code : (pc : ℕ) (image : Option Image) → DoesMoves v v c (unwrap_or (option_map (λ image. resumed_with answer asked h plan (found image hart.regs pc) pc blade hart) image) (only blade))
-  code pc None = idle v c blade has sound
-  code pc (Some image) = with_found image pc
-
-  at : (end : End) → DoesMoves v v c (resumed_at end answer asked images h plan blade hart)
-  at (Running pc) = code pc (slice_get images plan.image)
-  at (Exit value) = idle v c blade has sound
-  at (Fault kind value pc) = idle v c blade has sound
+resumes answer images v c blade h plan asked Step hart has sound thread own awake holds finds =
+    resumes-as (DoesMoves v v c) answer asked images h plan blade hart (idle v c blade has sound)
+    (λ image pc code runs just ready. answers-step answer v c blade h plan asked (found image hart.regs pc) pc hart has sound thread own awake holds finds just)
 
 -- ---- the answer to a request
 
-awake-awake : (waits : Waits) (hart : HartView) → IsAwake waits (awake waits hart)
+pub awake-awake : (waits : Waits) (hart : HartView) → IsAwake waits (awake waits hart)
 awake-awake Step hart = refl
 awake-awake Drain hart = refl
 
-awake-queue : (waits : Waits) (hart : HartView) → (awake waits hart).queue.stores ≡ hart.queue.stores
+pub awake-queue : (waits : Waits) (hart : HartView) → (awake waits hart).queue ≡ hart.queue
 awake-queue Step hart = refl
 awake-queue Drain hart = refl
 
@@ -172,7 +157,7 @@ awaking-sound perms blade asked hart sound own is = record {
   waiters = waiters-answered asked.page blade.requests sound.waiters;
   waiting = waiting-answered blade.harts hart asked blade.requests own sound.apart is sound.waiting;
   stores = allowed-hart perms blade.plan.threads blade.harts asked.hart hart (awake asked.waits hart) own sound.stores
-      (λ plan thread all. subst (MayWriteAll perms plan.domain) (sym (awake-queue asked.waits hart)) all);
+      (λ plan thread all. subst (λ queue. MayWriteAll perms plan.domain queue.stores) (sym (awake-queue asked.waits hart)) all);
   requests = awakes blade.plan.threads blade.harts asked hart own blade.requests sound.waiters is sound.requests;
 }
 
@@ -180,7 +165,7 @@ awaking-sound perms blade asked hart sound own is = record {
 answers : (answer : Answer) (images : List Image) (w other : World) (c : ℕ) (blade : BladeView) (page : PageView) (asked : Asked) (sent : List Msg)
     → IsSoundBlade w.perms blade → request_for page blade.requests ≡ Some asked → HoldsAsked answer (need_asked asked) blade.cache.entries → FindsOnly blade.cache.entries w.perms
     → other.perms ≡ w.perms
-    → LeadsTo w other c (record blade { requests = answered page blade.requests }) sent w.flat
+    → LeadsTo w other c (record blade { requests = requests_without page blade.requests }) sent w.flat
     → (noted : List Rattle.mind_base.specs.declared.notes.Note.Note)
     → DoesMoves w other c (and_then (record { blade = blade; sent = sent; noted = noted }) (λ after. resumed_for answer images (request_for page after.requests) after))
 unfolding awaking FindsOnly
@@ -191,10 +176,10 @@ answers answer images w other c blade page asked sent sound is holds finds same_
     let hart = ends.1 in
     let e : Ends blade asked plan hart = record { thread = ends.2; own = ends.3; request = found_it.0 } in
     let new = awaking asked hart blade in
-    let mid_blade : BladeView = record blade { requests = answered page blade.requests } in
+    let mid_blade : BladeView = record blade { requests = requests_without page blade.requests } in
     let mid = with_seen_blade c mid_blade sent w.flat other in
     let mid_has = has_blade c mid_blade sent w.flat other in
-    let same_requests : answered asked.page blade.requests ≡ answered page blade.requests = ap (λ q. answered q blade.requests) found_it.1 in
+    let same_requests : requests_without asked.page blade.requests ≡ requests_without page blade.requests = ap (λ q. requests_without q blade.requests) found_it.1 in
     let has : HasBlade c new mid = record { frames = mid_has.frames; asks = λ q. mid_has.asks q ∙ sym (ap (λ rs. asked_in rs q) same_requests) } in
     let does = resumes answer images mid c new asked.hart plan (need_asked asked) asked.waits (awake asked.waits hart) has
     (subst (λ p. IsSoundBlade p new) (sym same_perms) (awaking-sound w.perms blade asked hart sound ends.3 (ap (λ q. request_for q blade.requests) found_it.1 ∙ is)))
@@ -225,7 +210,7 @@ came page perm writable image = record { image = image; writable = writable; dir
 pub fills : (w : World) (c : ℕ) (blade : BladeView) (page : PageView) (perm : Perm) (writable : Bool) (image : PageImageView) (behind : List Msg)
     → HasBlade c blade w → IsPageCache blade.cache → w.downs c ≡ Fill page perm writable image ∷ behind
     → (put : Put) → put_of blade.cache page ≡ put
-    → LeadsTo w (took c behind w) c (record (with_entries blade (entries_after_put blade.cache page (came page perm writable image))) { requests = answered page blade.requests }) (sent_out put) w.flat
+    → LeadsTo w (took c behind w) c (record (with_frames blade (entries_after_put blade.cache page (came page perm writable image))) { requests = requests_without page blade.requests }) (sent_out put) w.flat
 unfolding came
 fills w c blade page perm writable image behind has is head Fresh e =
     takes c blade w page perm writable image behind (entries_after_put blade.cache page (came page perm writable image)) has head
@@ -235,15 +220,15 @@ fills w c blade page perm writable image behind has is head (Replaced old) e =
     (found-put_replaced blade.cache page (came page perm writable image) old is e)
 fills w c blade page perm writable image behind has is head (Pushed out old) e =
     let pushed = found-put_pushed blade.cache page (came page perm writable image) out old is e in
-    let left = without out blade.cache.entries in
-    let mid_blade = with_entries blade left in
+    let left = without_page out blade.cache.entries in
+    let mid_blade = with_frames blade left in
     let first = gives c blade w out old has is pushed.held in
     let entries = entries_after_put blade.cache page (came page perm writable image) in
     let second = takes c mid_blade (with_seen_blade c mid_blade (back_of out old) w.flat w) page perm writable image behind entries
     (has_blade c mid_blade (back_of out old) w.flat w) head
     (λ other. pushed.found other ∙ ap (λ f. if same_page other page then Some (came page perm writable image) else f) (sym (found-without out blade.cache.entries is.distinct other))) in
-    subst (λ sent. LeadsTo w (took c behind w) c (record (with_entries blade entries) { requests = answered page blade.requests }) sent w.flat) (append-nil (back_of out old))
-    (leads_taking w c behind mid_blade (record (with_entries blade entries) { requests = answered page blade.requests }) (back_of out old) [] w.flat w.flat first second)
+    subst (λ sent. LeadsTo w (took c behind w) c (record (with_frames blade entries) { requests = requests_without page blade.requests }) sent w.flat) (append-nil (back_of out old))
+    (leads_taking w c behind mid_blade (record (with_frames blade entries) { requests = requests_without page blade.requests }) (back_of out old) [] w.flat w.flat first second)
 
 -- the page that came is held as it came
 pub came-held : (blade : BladeView) (page : PageView) (frame : Frame) → IsPageCache blade.cache → (put : Put) → put_of blade.cache page ≡ put
@@ -263,12 +248,12 @@ fill images w c blade page perm writable image behind coherent has sound head =
     let asked = asked_for blade.requests page writable (sym (has.asks page) ∙ out) in
     let frame = came page perm writable image in
     let entries = entries_after_put blade.cache page frame in
-    let after = with_entries blade entries in
+    let after = with_frames blade entries in
     let held = came-held blade page frame sound.cache (put_of blade.cache page) refl in
     let own_page = (of_found (IsRequest blade.plan.threads blade.harts) page blade.requests asked.0 sound.requests asked.1).1 in
     let after_sound : IsSoundBlade w.perms after = record { cache = cache-put blade.cache page frame sound.cache; apart = sound.apart; waiters = sound.waiters; requests = sound.requests; waiting = sound.waiting; stores = sound.stores } in
     let sent = sent_out (put_of blade.cache page) in
-    let left : BladeView = record after { requests = answered page blade.requests } in
+    let left : BladeView = record after { requests = requests_without page blade.requests } in
     let first = fills w c blade page perm writable image behind has sound.cache head (put_of blade.cache page) refl in
     let mid = with_seen_blade c left sent w.flat (took c behind w) in
     let mid_coherent : IsCoherent mid = run_keeps w mid first.moves coherent first.run in

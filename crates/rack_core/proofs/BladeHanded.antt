@@ -15,10 +15,10 @@ use Rattle.page_image.specs.PageImage.{PageImageView}
 use Rattle.protect_table.specs.Protect.{permission_at}
 use Rattle.wire_msg.specs.declared.msgs.Msg.{Msg}
 use Rattle.wire_msg.specs.declared.msgs.Msg.TheVariants.{Fill, Deny, Inv, Lower}
-use Rattle.compute_blade.specs.Blade.{BladeView, Effect}
-use Rattle.compute_blade.specs.Messages.{MayCome, after_message}
+use Rattle.compute_blade.specs.Blade.{BladeView, BladeEffect}
+use Rattle.compute_blade.specs.Messages.{MayComeToBlade, after_message}
 use Rattle.compute_blade.specs.Pages.{given_up}
-use Rattle.compute_blade.specs.Steps.{after_step, after_drain}
+use Rattle.compute_blade.specs.Steps.{after_step, blade_after_drain}
 use Rattle.coherence.specs.Facts.{IsCoherent, IsDown, AreDowns}
 use Rattle.coherence.specs.Moves.{took}
 use Rattle.coherence.specs.Runs.{Run}
@@ -28,7 +28,7 @@ use Rattle.coherence.proofs.Keys.{put-here}
 use Rattle.coherence.proofs.Lists.{downs-cons}
 use Rattle.rack_core.specs.BladeMoves.{with_seen_blade, HasBlade, IsSoundBlade, DoesMoves, handing, AreBladesSound, BladeLeads, image_or}
 use Rattle.rack_core.specs.Events.{BladeActs, Acts, ActsWith, BladeDoes, HartDoes, HandsTo, Leads}
-use Rattle.rack_core.specs.Rack.{RackView, with_blade, with_net}
+use Rattle.rack_core.specs.Rack.{RackView, with_blade_at, with_net}
 use Rattle.rack_core.specs.Seen.{pending_on, frame_at, seen}
 use Rattle.rack_core.proofs.BladeCalls.{evict, invalidate, lower}
 use Rattle.rack_core.proofs.BladeFills.{fill, deny}
@@ -41,16 +41,16 @@ use Rattle.rack_core.proofs.Lookups.{slice_get-set, slice_get-set_other}
 -- ---- all blades
 
 -- a blade of the rack did this
-pub record Did (c : ℕ) (act : BladeView → Option Effect) (old new : RackView) (noted : List Note) : Type 0 where
+pub record Did (c : ℕ) (act : BladeView → Option BladeEffect) (old new : RackView) (noted : List Note) : Type 0 where
   pub blade : BladeView
-  pub effect : Effect
+  pub effect : BladeEffect
   pub there : slice_get old.blades c ≡ Some blade
   pub does : act blade ≡ Some effect
   pub acts : BladeActs c effect old new noted
 
-pub did : (c : ℕ) (act : BladeView → Option Effect) (old new : RackView) (noted : List Note) → BladeDoes c act old new noted → Did c act old new noted
+pub did : (c : ℕ) (act : BladeView → Option BladeEffect) (old new : RackView) (noted : List Note) → BladeDoes c act old new noted → Did c act old new noted
 did c act old new noted given = by (slice_get old.blades c) refl given where
-  its : (blade : BladeView) → slice_get old.blades c ≡ Some blade → (e : Option Effect) → act blade ≡ e → Acts c e old new noted → Did c act old new noted
+  its : (blade : BladeView) → slice_get old.blades c ≡ Some blade → (e : Option BladeEffect) → act blade ≡ e → Acts c e old new noted → Did c act old new noted
   its blade there None does g = absurd g
   its blade there (Some effect) does g = record { blade = blade; effect = effect; there = there; does = does; acts = g }
 
@@ -59,10 +59,10 @@ did c act old new noted given = by (slice_get old.blades c) refl given where
   by (Some blade) there g = its blade there (act blade) refl g
 
 -- all blades are sound when one that did something is
-pub still_sound : (c : ℕ) (blade : BladeView) (e : Effect) (old new : RackView) (noted : List Note) → slice_get old.blades c ≡ Some blade → BladeActs c e old new noted
+pub still_sound : (c : ℕ) (blade : BladeView) (e : BladeEffect) (old new : RackView) (noted : List Note) → slice_get old.blades c ≡ Some blade → BladeActs c e old new noted
     → AreBladesSound old → IsSoundBlade (permission_at old.switch.protect) e.blade → AreBladesSound new
 still_sound c blade e old new noted there acts all its = subst AreBladesSound (sym acts.after) each where
-  each : AreBladesSound (with_net acts.net (with_blade c e.blade old))
+  each : AreBladesSound (with_net acts.net (with_blade_at c e.blade old))
   each n other is = by (n == c) refl where
     by : (b : Bool) → (n == c) ≡ b → IsSoundBlade (permission_at old.switch.protect) other
     by true s =
@@ -73,7 +73,7 @@ still_sound c blade e old new noted there acts all its = subst AreBladesSound (s
 -- ---- events
 
 -- the newest image of a page is the one that the blade holds, or what it was
-newest_after : (c : ℕ) (blade : BladeView) (e : Effect) (old new : RackView) (noted : List Note) (flat newer : PageView → PageImageView)
+newest_after : (c : ℕ) (blade : BladeView) (e : BladeEffect) (old new : RackView) (noted : List Note) (flat newer : PageView → PageImageView)
     → slice_get old.blades c ≡ Some blade → BladeActs c e old new noted
     → ((page : PageView) → frame_of page e.blade.cache.entries ≡ None → newer page ≡ flat page)
     → ((page : PageView) (frame : Frame) → frame_at new.blades c page ≡ Some frame → frame.image ≡ newer page)
@@ -87,8 +87,8 @@ newest_after c blade e old new noted flat newer there acts kept held page = by (
   by None e = kept page (sym now ∙ e)
   by (Some frame) e = sym (held page frame e)
 
-leads : (c : ℕ) (act : BladeView → Option Effect) (old new : RackView) (noted : List Note) (flat : PageView → PageImageView)
-    → ((blade : BladeView) (e : Effect) → HasBlade c blade (seen old flat) → IsSoundBlade (permission_at old.switch.protect) blade → act blade ≡ Some e → DoesMoves (seen old flat) (seen old flat) c e)
+leads : (c : ℕ) (act : BladeView → Option BladeEffect) (old new : RackView) (noted : List Note) (flat : PageView → PageImageView)
+    → ((blade : BladeView) (e : BladeEffect) → HasBlade c blade (seen old flat) → IsSoundBlade (permission_at old.switch.protect) blade → act blade ≡ Some e → DoesMoves (seen old flat) (seen old flat) c e)
     → IsCoherent (seen old flat) → AreBladesSound old → BladeDoes c act old new noted → BladeLeads c (seen old flat) (seen new) new
 leads c act old new noted flat moves safe all given =
     let d = did c act old new noted given in
@@ -106,7 +106,7 @@ pub record OfHart (hart : ℕ) (old : RackView) (P : ℕ → Type 0) : Type 0 wh
   pub planned : slice_get old.plan.threads hart ≡ Some thread
   pub does : P thread.blade
 
-of_hart : (P : ℕ → Type 0) (hart : ℕ) (act : BladeView → Option Effect) (old new : RackView) (noted : List Note)
+of_hart : (P : ℕ → Type 0) (hart : ℕ) (act : BladeView → Option BladeEffect) (old new : RackView) (noted : List Note)
     → ((blade : ℕ) → BladeDoes blade act old new noted → P blade) → HartDoes (slice_get old.plan.threads hart) act old new noted → OfHart hart old P
 of_hart P hart act old new noted given does = by (slice_get old.plan.threads hart) refl does where
   by : (thread : Option ThreadPlan) → slice_get old.plan.threads hart ≡ thread → HartDoes thread act old new noted → OfHart hart old P
@@ -120,8 +120,8 @@ step_leads images hart old new noted flat safe all = of_hart (λ c. BladeLeads c
 
 pub drain_leads : (images : List Image) (hart : ℕ) (old new : RackView) (noted : List Note) (flat : PageView → PageImageView) → IsCoherent (seen old flat) → AreBladesSound old
     → Leads images (Drain hart) old new noted → OfHart hart old (λ c. BladeLeads c (seen old flat) (seen new) new)
-drain_leads images hart old new noted flat safe all = of_hart (λ c. BladeLeads c (seen old flat) (seen new) new) hart (after_drain hart) old new noted
-    (λ c. leads c (after_drain hart) old new noted flat (λ blade e has sound is. drain (seen old flat) c blade hart e has sound is) safe all)
+drain_leads images hart old new noted flat safe all = of_hart (λ c. BladeLeads c (seen old flat) (seen new) new) hart (blade_after_drain hart) old new noted
+    (λ c. leads c (blade_after_drain hart) old new noted flat (λ blade e has sound is. drain (seen old flat) c blade hart e has sound is) safe all)
 
 pub evict_leads : (images : List Image) (c : ℕ) (page : PageView) (old new : RackView) (noted : List Note) (flat : PageView → PageImageView) → IsCoherent (seen old flat) → AreBladesSound old
     → Leads images (Evict c page) old new noted → BladeLeads c (seen old flat) (seen new) new
@@ -165,7 +165,7 @@ blade_handed images old new flat c message rest noted safe all given =
 
 -- and it may come to that blade
 pub handed_may_come : (images : List Image) (old : RackView) (flat : PageView → PageImageView) (c : ℕ) (blade : BladeView) (message : Msg) (rest : List Msg)
-    → IsCoherent (handing c (message ∷ rest) (seen old flat)) → AreBladesSound old → slice_get old.blades c ≡ Some blade → MayCome blade message
+    → IsCoherent (handing c (message ∷ rest) (seen old flat)) → AreBladesSound old → slice_get old.blades c ≡ Some blade → MayComeToBlade blade message
 handed_may_come images old flat c blade message rest safe all there =
     let w = handing c (message ∷ rest) (seen old flat) in
     let behind = rest ++ pending_on old.net Down c in

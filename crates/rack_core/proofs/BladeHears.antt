@@ -4,15 +4,15 @@ use Rattle.std.specs.Prelude.{IsSomeAnd, IfSome}
 use Rattle.mind_base.specs.Page.{PageView}
 use Rattle.mind_base.specs.declared.commands.Perm.{Perm}
 use Rattle.mind_base.specs.declared.commands.Perm.TheVariants.{No, R, Rw}
-use Rattle.hart_effect.specs.Access.{may_write}
+use Rattle.mind_base.specs.Permission.{allows, may_write}
 use Rattle.wire_msg.specs.declared.msgs.Msg.{Msg}
 use Rattle.wire_msg.specs.declared.msgs.Msg.TheVariants.{Fill, Deny, Inv, Lower}
 use Rattle.compute_blade.specs.Blade.{BladeView, request_for}
-use Rattle.compute_blade.specs.Messages.{MayCome, FitsFill}
+use Rattle.compute_blade.specs.Messages.{MayComeToBlade, FitsFill}
 use Rattle.compute_blade.specs.declared.kept.Asked.{Asked}
 use Rattle.compute_blade.specs.declared.kept.Waits.{Waits}
 use Rattle.compute_blade.specs.declared.kept.Waits.TheVariants.{Step, Drain}
-use Rattle.coherence.specs.Facts.{IsCoherent, IsDown, AreDowns, allows}
+use Rattle.coherence.specs.Facts.{IsCoherent, IsDown, AreDowns}
 use Rattle.coherence.specs.World.{World}
 use Rattle.coherence.proofs.Lists.{downs-cons}
 use Rattle.rack_core.specs.BladeMoves.{HasBlade, IsRequest, IsRequestBy, IsSoundBlade, MayWriteAll}
@@ -38,11 +38,11 @@ denied-waits w c blade page asked sound is off Drain r =
     never Rw m a = cc
 
 pub may_come : (w : World) (c : ℕ) (blade : BladeView) (message : Msg) (behind : List Msg)
-    → IsCoherent w → HasBlade c blade w → IsSoundBlade w.perms blade → w.downs c ≡ message ∷ behind → MayCome blade message
+    → IsCoherent w → HasBlade c blade w → IsSoundBlade w.perms blade → w.downs c ≡ message ∷ behind → MayComeToBlade blade message
 may_come w c blade message behind coherent has sound head =
     by message head (downs-cons w c message behind (subst (AreDowns w c) head (coherent.downs c))).0
   where
-    by : (m : Msg) → w.downs c ≡ m ∷ behind → IsDown w c m behind → MayCome blade m
+    by : (m : Msg) → w.downs c ≡ m ∷ behind → IsDown w c m behind → MayComeToBlade blade m
     by (Fill page perm writable image) head down =
         let asked = asked_for blade.requests page writable (sym (has.asks page) ∙ down.asked) in
         of_request blade.requests page (FitsFill writable) asked.0 asked.1 (λ write. sym asked.2 ∙ write)

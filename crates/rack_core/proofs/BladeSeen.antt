@@ -9,12 +9,12 @@ use Rattle.mind_base.specs.declared.notes.Note.{Note}
 use Rattle.page_cache.specs.PageCache.{frame_of}
 use Rattle.page_image.specs.PageImage.{PageImageView}
 use Rattle.wire_msg.specs.declared.msgs.Msg.{Msg}
-use Rattle.compute_blade.specs.Blade.{BladeView, Effect}
+use Rattle.compute_blade.specs.Blade.{BladeView, BladeEffect}
 use Rattle.rack_net.specs.Net.{NetView, same_link, kind_number}
 use Rattle.coherence.specs.World.{put}
 use Rattle.rack_core.specs.BladeMoves.{asked_in, with_seen_blade, HasBlade}
 use Rattle.rack_core.specs.Events.{SendsAll, on, BladeActs}
-use Rattle.rack_core.specs.Rack.{RackView, with_blade, with_net}
+use Rattle.rack_core.specs.Rack.{RackView, with_blade_at, with_net}
 use Rattle.rack_core.specs.Seen.{pending_on, frame_at, asked_at, seen, sent_on}
 use Rattle.rack_core.proofs.SwitchSent.{sends_all}
 use Rattle.rack_core.proofs.Lookups.{slice_get-set, slice_get-set_other}
@@ -64,7 +64,7 @@ read-set {X} {Y} read blades c old new e n y = by (n == c) refl where
   by false s = ap (option_and_then (λ b. read b y)) (slice_get-set_other blades c new n s)
 
 -- the rack after a blade did something and sent
-pub seen-acted : (c : ℕ) (blade : BladeView) (e : Effect) (old new : RackView) (noted : List Note) (flat newer : PageView → PageImageView)
+pub seen-acted : (c : ℕ) (blade : BladeView) (e : BladeEffect) (old new : RackView) (noted : List Note) (flat newer : PageView → PageImageView)
     → slice_get old.blades c ≡ Some blade → BladeActs c e old new noted → seen new newer ≡ with_seen_blade c e.blade e.sent newer (seen old flat)
 seen-acted c blade e old new noted flat newer is acts = ap (λ rack. seen rack newer) acts.after ∙ same where
   net : NetView
@@ -91,7 +91,7 @@ seen-acted c blade e old new noted flat newer is acts = ap (λ rack. seen rack n
   froms : (n : ℕ) → pending_on acts.net From n ≡ pending_on old.net From n
   froms n = pending-away c e.sent old.net acts.net acts.sent From n refl
 
-  same : seen (with_net acts.net (with_blade c e.blade old)) newer ≡ with_seen_blade c e.blade e.sent newer (seen old flat)
+  same : seen (with_net acts.net (with_blade_at c e.blade old)) newer ≡ with_seen_blade c e.blade e.sent newer (seen old flat)
   same = λ i. record (seen old newer) {
     frames = λ n page. frames n page i;
     asks = λ n page. asks n page i;

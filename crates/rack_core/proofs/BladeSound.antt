@@ -10,13 +10,14 @@ use Rattle.mind_base.specs.declared.commands.Perm.{Perm}
 use Rattle.mind_base.specs.declared.plans.ThreadPlan.{ThreadPlan}
 use Rattle.page_cache.specs.PageCache.{same_page}
 use Rattle.page_cache.proofs.Laws.{same_page-true}
-use Rattle.compute_blade.specs.Blade.{HartView, request_for, answered}
+use Rattle.compute_blade.specs.Blade.{HartView, request_for, requests_without}
 use Rattle.compute_blade.specs.Messages.{awake}
 use Rattle.compute_blade.specs.declared.kept.Asked.{Asked}
 use Rattle.compute_blade.specs.declared.kept.Waits.{Waits}
 use Rattle.compute_blade.specs.declared.kept.Waits.TheVariants.{Step, Drain}
 use Rattle.rack_core.specs.BladeMoves.{hart_in, IsStepRequest, IsDrainRequest, IsRequestBy, IsRequest, AreWaitersApart, MayWriteAll, AreStoresAllowed}
 use Rattle.rack_core.proofs.Lookups.{slice_get-set, slice_get-set_other}
+use Rattle.rack_core.proofs.Lists.{all-same}
 
 abbrev pub Harts : Type 0
 Harts = List (Option HartView)
@@ -127,10 +128,6 @@ goes_on threads harts h old new own goes (asked ∷ requests) all = (
 
 -- ---- a request is added
 
-pub all-more : (P : Asked → Type 0) (requests : List Asked) (asked : Asked) → AllByRecursion P requests → P asked → AllByRecursion P (requests ++ asked ∷ [])
-all-more P [] asked all more = (more, tt)
-all-more P (first ∷ requests) asked all more = (all.0, all-more P requests asked all.1 more)
-
 -- ---- a request ends
 
 -- what is true of each request is true of the one that is found
@@ -146,10 +143,10 @@ of_found P page (first ∷ requests) asked all e = by (of_found P page requests 
 
 -- what is true of each request of another page is true of those that are left
 pub of_others : (P Q : Asked → Type 0) (page : PageView) → ((asked : Asked) → same_page page asked.page ≡ false → P asked → Q asked)
-    → (requests : List Asked) → AllByRecursion P requests → AllByRecursion Q (answered page requests)
+    → (requests : List Asked) → AllByRecursion P requests → AllByRecursion Q (requests_without page requests)
 of_others P Q page step [] all = tt
 of_others P Q page step (asked ∷ requests) all = by (of_others P Q page step requests all.1) (same_page page asked.page) refl where
-  by : AllByRecursion Q (answered page requests) → (b : Bool) → same_page page asked.page ≡ b → AllByRecursion Q (cond (not b) (asked ∷ answered page requests) (answered page requests))
+  by : AllByRecursion Q (requests_without page requests) → (b : Bool) → same_page page asked.page ≡ b → AllByRecursion Q (cond (not b) (asked ∷ requests_without page requests) (requests_without page requests))
   by rest true e = rest
   by rest false e = (step asked e all.0, rest)
 
@@ -157,10 +154,6 @@ of_others P Q page step (asked ∷ requests) all = by (of_others P Q page step r
 all-both : (P Q : Asked → Type 0) (requests : List Asked) → AllByRecursion P requests → AllByRecursion Q requests → AllByRecursion (λ asked. P asked × Q asked) requests
 all-both P Q [] all more = tt
 all-both P Q (asked ∷ requests) all more = ((all.0, more.0), all-both P Q requests all.1 more.1)
-
-pub all-map : (P Q : Asked → Type 0) (requests : List Asked) → ((asked : Asked) → P asked → Q asked) → AllByRecursion P requests → AllByRecursion Q requests
-all-map P Q [] step all = tt
-all-map P Q (asked ∷ requests) step all = (step asked all.0, all-map P Q requests step all.1)
 
 -- another request is waited for by something else
 abbrev pub WaitsElse : Asked → Asked → Type 0
@@ -177,8 +170,8 @@ waiters-of page asked (first ∷ requests) apart e = by (λ e. waiters-of page a
   by rest true s e =
       let is : first ≡ asked = same_Some _ _ e in (
         λ other. let never : false ≡ true = sym other ∙ s in absurd (false≢true never),
-        all-map (WaitsElse first) (λ other. same_page page other.page ≡ false → WaitsElse asked other) requests
-            (λ other else away. subst (λ a. WaitsElse a other) is else) apart.0,
+        all-same (WaitsElse first) (λ other. same_page page other.page ≡ false → WaitsElse asked other)
+            (λ other else away. subst (λ a. WaitsElse a other) is else) requests apart.0,
       )
   by rest false s e =
       let here : WaitsElse first asked = (of_found (WaitsElse first) page requests asked apart.0 e).0 in
@@ -198,7 +191,7 @@ still threads harts asked hart own Drain other same Drain else s = absurd (else 
 
 pub awakes : (threads : List ThreadPlan) (harts : Harts) (asked : Asked) (hart : HartView) → hart_in harts asked.hart ≡ Some hart
     → (requests : List Asked) → AreWaitersApart requests → request_for asked.page requests ≡ Some asked → AllByRecursion (IsRequest threads harts) requests
-    → AllByRecursion (IsRequest threads (slice_set harts asked.hart (Some (awake asked.waits hart)))) (answered asked.page requests)
+    → AllByRecursion (IsRequest threads (slice_set harts asked.hart (Some (awake asked.waits hart)))) (requests_without asked.page requests)
 awakes threads harts asked hart own requests apart is all =
     of_others (λ other. IsRequest threads harts other × (same_page asked.page other.page ≡ false → WaitsElse asked other))
     (IsRequest threads (slice_set harts asked.hart (Some (awake asked.waits hart)))) asked.page

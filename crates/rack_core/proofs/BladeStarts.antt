@@ -7,9 +7,10 @@ use Rattle.mind_base.specs.Page.{PageView}
 use Rattle.mind_base.specs.declared.commands.Perm.{Perm}
 use Rattle.mind_base.specs.declared.plans.RackPlan.{RackPlan}
 use Rattle.mind_base.specs.declared.plans.ThreadPlan.{ThreadPlan}
+use Rattle.mind_base.specs.Plan.{image_place}
 use Rattle.compute_blade.specs.Blade.{HartView}
 use Rattle.compute_blade.specs.Harts.{first_hart}
-use Rattle.compute_blade.specs.Start.{first_blade, hart_for, image_place}
+use Rattle.compute_blade.specs.Start.{first_blade, hart_for}
 use Rattle.rack_core.specs.BladeMoves.{hart_in, IsSoundBlade, MayWriteAll}
 
 -- a hart that starts has an empty queue

@@ -9,33 +9,34 @@ use Rattle.mind_base.specs.declared.ends.End.{End}
 use Rattle.mind_base.specs.declared.ends.End.TheVariants.{Running, Exit, Fault}
 use Rattle.mind_base.specs.declared.images.Image.{Image}
 use Rattle.mind_base.specs.declared.plans.ThreadPlan.{ThreadPlan}
-use Rattle.hart_effect.specs.Access.{Around, may_write}
+use Rattle.hart_effect.specs.Access.{Around}
 use Rattle.hart_effect.specs.Deed.{Deed, Alone, Storing, found, carried_out, drains_first}
 use Rattle.mind_base.specs.Place.{place_of, page_at}
+use Rattle.mind_base.specs.Permission.{may_write}
 use Rattle.hart_effect.specs.Thread.{Thread}
 use Rattle.hart_effect.specs.declared.finds.Found.{Found}
-use Rattle.page_cache.specs.PageCache.{IsPageCache, same_page, frame_of, written_frame}
+use Rattle.page_cache.specs.PageCache.{IsPageCache, same_page, frame_of, written_frame, is_writable}
 use Rattle.page_cache.specs.declared.frames.Frame.{Frame}
 use Rattle.page_image.specs.PageImage.{PageImageView, image_after}
 use Rattle.wire_msg.specs.declared.msgs.Msg.{Msg}
-use Rattle.compute_blade.specs.Blade.{HartView, BladeView, Effect, hart_of, with_hart, with_entries, is_asked, request_for, only}
+use Rattle.compute_blade.specs.Blade.{HartView, BladeView, BladeEffect, hart_of, with_hart, with_frames, is_asked, request_for, only}
 use Rattle.compute_blade.specs.Frames.{perm_in, around_held, thread_of}
 use Rattle.compute_blade.specs.Harts.{holding}
-use Rattle.compute_blade.specs.Steps as steps
-use Rattle.compute_blade.specs.Steps.{need_in, serves, writes_at_once, frames_with, frames_after, used_by, hart_after, entries_after, done_by, performed_by, performed_in, performed, next_tag, one_more, waiting, asking, drained, draining_by, drain_of, stepping_at, stepping_by, step_at, for_hart, after_step, after_drain}
+use Rattle.compute_blade.specs.Steps.{need_in, serves, writes_at_once, frames_with, frames_after, hart_after, performed_by, performed_in, performed, next_tag, one_more_store, waiting, asking, drained, draining_by, drain_of, stepping_at, stepping_by, step_at, for_hart, after_step, blade_after_drain}
 use Rattle.compute_blade.specs.declared.kept.Asked.{Asked}
 use Rattle.compute_blade.specs.declared.kept.Need.{Need}
 use Rattle.compute_blade.specs.declared.kept.Waits.{Waits}
 use Rattle.compute_blade.specs.declared.kept.Waits.TheVariants.{Step, Drain}
-use Rattle.coherence.specs.Facts.{IsCoherent, is_writable}
+use Rattle.coherence.specs.Facts.{IsCoherent}
 use Rattle.coherence.specs.World.{World, put_page}
 use Rattle.rack_core.specs.BladeMoves.{HasBlade, LeadsTo, IsRequest, IsSoundBlade, DoesMoves, MayWriteAll, AreWaitersApart, AreWaiting}
 use Rattle.rack_core.proofs.BladeWorlds.{stays}
 use Rattle.rack_core.proofs.BladeActs.{asks, stores, uses}
 use Rattle.rack_core.proofs.BladeDeeds.{buffer_of, Allowed, Grows, grows, storing}
 use Rattle.rack_core.proofs.BladeWaits.{IsAwake, apart-more, waiters-more, waiting-kept, waiting-asked}
-use Rattle.rack_core.proofs.BladeSound.{Continues, HasOldest, goes_on, hart_in-set, all-more, allowed-hart, allowed-more}
+use Rattle.rack_core.proofs.BladeSound.{Continues, HasOldest, goes_on, hart_in-set, allowed-hart, allowed-more}
 use Rattle.rack_core.proofs.Lookups.{Entries, unasked, found-with_first, found-used, cache-with_first}
+use Rattle.rack_core.proofs.Lists.{all-last}
 
 -- what a blade's harts are plays no part in a world
 pub of_harts : (w other : World) (c : ℕ) (blade : BladeView) (sent : List Msg) (flat : PageView → PageImageView) (h : ℕ) (hart : HartView) → LeadsTo w other c blade sent flat → LeadsTo w other c (with_hart h hart blade) sent flat
@@ -49,7 +50,7 @@ idle w c blade has sound = record { flat = w.flat; leads = stays c blade w has; 
 pub sound-hart : (perms : PageView → Perm) (blade : BladeView) (h : ℕ) (hart new : HartView) (entries : Entries) → IsSoundBlade perms blade → hart_of blade h ≡ Some hart
     → Continues hart new → new.stepping ≡ hart.stepping → new.draining ≡ hart.draining
     → ((plan : ThreadPlan) → slice_get blade.plan.threads h ≡ Some plan → MayWriteAll perms plan.domain hart.queue.stores → MayWriteAll perms plan.domain new.queue.stores)
-    → IsPageCache (holding blade.cache entries) → IsSoundBlade perms (with_hart h new (with_entries blade entries))
+    → IsPageCache (holding blade.cache entries) → IsSoundBlade perms (with_hart h new (with_frames blade entries))
 sound-hart perms blade h hart new entries sound own goes steps drains allowed shape = record {
   cache = shape;
   apart = sound.apart;
@@ -68,7 +69,7 @@ HoldsToWrite entries page = (frame : Frame) × (frame_of page entries ≡ Some f
 -- moves to a blade with these pages, by which the newest image changes of no page but one that is held
 record Effects (w : World) (c : ℕ) (blade : BladeView) (entries : Entries) : Type 0 where
   flat : PageView → PageImageView
-  leads : LeadsTo w w c (with_entries blade entries) [] flat
+  leads : LeadsTo w w c (with_frames blade entries) [] flat
   kept : (page : PageView) → frame_of page entries ≡ None → flat page ≡ w.flat page
 
 -- a page that is not held is not the one that changed
@@ -151,7 +152,7 @@ performs w c blade around h plan found pc hart has sound thread_is own awake dom
       let grown = grows found around pc (thread_of blade.cache.entries hart) (Alone thread) e in
       record {
         flat = w.flat;
-        leads = of_harts w w c (with_entries blade entries) [] w.flat h new (stays c (with_entries blade entries) w (uses c blade w entries has used.0));
+        leads = of_harts w w c (with_frames blade entries) [] w.flat h new (stays c (with_frames blade entries) w (uses c blade w entries has used.0));
         kept = λ page e. refl;
         sound = sound-hart w.perms blade h hart new entries sound own (performed-goes around hart new awake refl grown) refl refl
             (λ other its. performed-allowed around w.perms other.domain hart.queue.stores new.queue.stores (domain ∙ ap (λ (p : ThreadPlan). p.domain) (same_Some _ _ (sym thread_is ∙ its))) finds grown) used.1;
@@ -163,7 +164,7 @@ performs w c blade around h plan found pc hart has sound thread_is own awake dom
       let effects = effect-leads w c blade plan.domain (next_tag h hart.stores) store has sound.cache (held thread store e) in
       record {
         flat = effects.flat;
-        leads = of_harts w w c (with_entries blade entries) [] effects.flat h new effects.leads;
+        leads = of_harts w w c (with_frames blade entries) [] effects.flat h new effects.leads;
         kept = effects.kept;
         sound = sound-hart w.perms blade h hart new entries sound own (performed-goes around hart new awake refl grown) refl refl
             (λ other its. performed-allowed around w.perms other.domain hart.queue.stores new.queue.stores (domain ∙ ap (λ (p : ThreadPlan). p.domain) (same_Some _ _ (sym thread_is ∙ its))) finds grown)
@@ -184,7 +185,7 @@ asked-sound perms blade h hart new asked sound own goes same free waiters waitin
   waiters = waiters;
   waiting = waiting;
   stores = allowed-hart perms blade.plan.threads blade.harts h hart new own sound.stores (λ plan thread all. subst (MayWriteAll perms plan.domain) (sym same) all);
-  requests = all-more (IsRequest blade.plan.threads (slice_set blade.harts h (Some new))) blade.requests asked
+  requests = all-last (IsRequest blade.plan.threads (slice_set blade.harts h (Some new))) blade.requests asked
       (goes_on blade.plan.threads blade.harts h hart new own goes blade.requests sound.requests) request;
 }
 
@@ -219,41 +220,37 @@ asks_for w c blade h waits need hart has sound own unwritable awake goes request
 
 -- ---- a drain
 
-held-to-write : (entries : Entries) (page : PageView) → steps.is_writable (frame_of page entries) ≡ true → HoldsToWrite entries page
+held-to-write : (entries : Entries) (page : PageView) → is_writable (frame_of page entries) ≡ true → HoldsToWrite entries page
 unfolding HoldsToWrite
 held-to-write entries page e = by (frame_of page entries) refl e where
-  by : (f : Option Frame) → frame_of page entries ≡ f → steps.is_writable f ≡ true → (frame : Frame) × (frame_of page entries ≡ Some frame) × (frame.writable ≡ true)
+  by : (f : Option Frame) → frame_of page entries ≡ f → is_writable f ≡ true → (frame : Frame) × (frame_of page entries ≡ Some frame) × (frame.writable ≡ true)
   by None f e = let never : ⊥ = cc in absurd never
   by (Some frame) f e = (frame, f, e)
-
-not_to_write : (f : Option Frame) → steps.is_writable f ≡ false → is_writable f ≡ false
-not_to_write None e = refl
-not_to_write (Some frame) e = e
 
 -- a drain of a hart whose drain does not wait
 pub drains : (w : World) (c : ℕ) (blade : BladeView) (h : ℕ) (plan : ThreadPlan) (queue : List PendingView) (hart : HartView)
     → HasBlade c blade w → IsSoundBlade w.perms blade → slice_get blade.plan.threads h ≡ Some plan → hart_of blade h ≡ Some hart → hart.draining ≡ false
     → hart.queue.stores ≡ queue → DoesMoves w w c (draining_by h plan queue blade hart)
 drains w c blade h plan [] hart has sound thread own awake queue = idle w c blade has sound
-drains w c blade h plan (oldest ∷ newer) hart has sound thread own awake queue = by (steps.is_writable (frame_of page blade.cache.entries)) refl where
+drains w c blade h plan (oldest ∷ newer) hart has sound thread own awake queue = by (is_writable (frame_of page blade.cache.entries)) refl where
   page : PageView
   page = page_at (place_of plan.domain oldest.address)
 
-  by : (b : Bool) → steps.is_writable (frame_of (page_at (place_of plan.domain oldest.address)) blade.cache.entries) ≡ b
+  by : (b : Bool) → is_writable (frame_of (page_at (place_of plan.domain oldest.address)) blade.cache.entries) ≡ b
       → DoesMoves w w c (if b then drained h plan oldest newer blade hart else asking h Drain (record { page = page_at (place_of plan.domain oldest.address); write = true }) blade hart)
   by true e =
       let entries = frames_with plan.domain oldest (next_tag h hart.stores) blade.cache.entries in
-      let new = one_more (record hart { queue = record hart.queue { stores = newer } }) in
+      let new = one_more_store (record hart { queue = record hart.queue { stores = newer } }) in
       let effects = effect-leads w c blade plan.domain (next_tag h hart.stores) oldest has sound.cache (held-to-write blade.cache.entries page e) in
       record {
         flat = effects.flat;
-        leads = of_harts w w c (with_entries blade entries) [] effects.flat h new effects.leads;
+        leads = of_harts w w c (with_frames blade entries) [] effects.flat h new effects.leads;
         kept = effects.kept;
         sound = sound-hart w.perms blade h hart new entries sound own (record { steps = λ s. s; drains = λ d. let never : ⊥ = cc in absurd never }) refl refl
             (λ other its all. (subst (MayWriteAll w.perms other.domain) queue all).1)
             (effect-shape blade plan.domain (next_tag h hart.stores) oldest sound.cache);
       }
-  by false e = asks_for w c blade h Drain (record { page = page; write = true }) hart has sound own (not_to_write (frame_of page blade.cache.entries) e) awake
+  by false e = asks_for w c blade h Drain (record { page = page; write = true }) hart has sound own e awake
       (record { steps = λ s. s; drains = λ d. (refl, λ oldest q. q) })
       (record {
         plan = plan;
@@ -352,14 +349,14 @@ steps-at images w c blade h plan hart image has sound finds thread own code (Fau
 -- ---- the calls
 
 -- what a blade's hart does is done with its plan
-pub record OfHart (blade : BladeView) (h : ℕ) (act : ThreadPlan → HartView → Option Effect) (e : Effect) : Type 0 where
+pub record OfHart (blade : BladeView) (h : ℕ) (act : ThreadPlan → HartView → Option BladeEffect) (e : BladeEffect) : Type 0 where
   pub plan : ThreadPlan
   pub hart : HartView
   pub thread : slice_get blade.plan.threads h ≡ Some plan
   pub own : hart_of blade h ≡ Some hart
   pub does : act plan hart ≡ Some e
 
-pub for_hart-some : (blade : BladeView) (h : ℕ) (act : ThreadPlan → HartView → Option Effect) (e : Effect) → for_hart blade h act ≡ Some e → OfHart blade h act e
+pub for_hart-some : (blade : BladeView) (h : ℕ) (act : ThreadPlan → HartView → Option BladeEffect) (e : BladeEffect) → for_hart blade h act ≡ Some e → OfHart blade h act e
 for_hart-some blade h act e given = by (slice_get blade.plan.threads h) refl (hart_of blade h) refl given where
   by : (p : Option ThreadPlan) → slice_get blade.plan.threads h ≡ p → (x : Option HartView) → hart_of blade h ≡ x
       → option_and_then (λ plan. option_and_then (λ hart. act plan hart) x) p ≡ Some e → OfHart blade h act e
@@ -374,7 +371,7 @@ finds_allowed w c blade h domain coherent has page = by (frame_of page blade.cac
   by None e allowed = let never : ⊥ = cc in absurd never
   by (Some frame) e allowed = ap may_write (sym (coherent.frames c page frame (has.frames page ∙ e)).perm) ∙ allowed
 
-pub step : (images : List Image) (w : World) (c : ℕ) (blade : BladeView) (h : ℕ) (e : Effect) → IsCoherent w → HasBlade c blade w → IsSoundBlade w.perms blade
+pub step : (images : List Image) (w : World) (c : ℕ) (blade : BladeView) (h : ℕ) (e : BladeEffect) → IsCoherent w → HasBlade c blade w → IsSoundBlade w.perms blade
     → after_step images h blade ≡ Some e → DoesMoves w w c e
 step images w c blade h e coherent has sound given =
     let o = for_hart-some blade h (λ plan hart. option_map (λ image. step_at hart.end h plan image blade hart) (slice_get images plan.image)) e given in
@@ -385,8 +382,8 @@ step images w c blade h e coherent has sound given =
     by o None f d = let never : ⊥ = cc in absurd never
     by o (Some image) f d = subst (DoesMoves w w c) (same_Some _ _ d) (steps-at images w c blade h o.plan o.hart image has sound (finds_allowed w c blade h o.plan.domain coherent has) o.thread o.own f o.hart.end refl)
 
-pub drain : (w : World) (c : ℕ) (blade : BladeView) (h : ℕ) (e : Effect) → HasBlade c blade w → IsSoundBlade w.perms blade
-    → after_drain h blade ≡ Some e → DoesMoves w w c e
+pub drain : (w : World) (c : ℕ) (blade : BladeView) (h : ℕ) (e : BladeEffect) → HasBlade c blade w → IsSoundBlade w.perms blade
+    → blade_after_drain h blade ≡ Some e → DoesMoves w w c e
 drain w c blade h e has sound given =
     let o = for_hart-some blade h (λ plan hart. Some (drain_of h plan blade hart)) e given in
     subst (DoesMoves w w c) (same_Some _ _ o.does) (drains_of w c blade h o.plan o.hart has sound o.thread o.own)

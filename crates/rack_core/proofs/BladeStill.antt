@@ -1,5 +1,5 @@
 -- Steps, drains and what goes on when a request is answered leave what a blade holds, and whether to write.
-use Rattle.std.proofs.Common.{◌≡◌, ℕ, Bool, true, false, cond, not, ◌&&◌, ap, refl, ◌∙◌, List, [], ◌∷◌, slice_get, Option, Some, None, IfSome, option_map, option_and_then, unwrap_or}
+use Rattle.std.proofs.Common.{◌≡◌, ℕ, Bool, true, false, cond, ap, refl, ◌∙◌, List, [], ◌∷◌, slice_get, Option, Some, None, IfSome, option_map, option_and_then, unwrap_or}
 use Rattle.std.specs.Prelude.{if◌then◌else◌}
 use Rattle.std.specs.List.{AllByRecursion, IsDistinct}
 use Rattle.std.specs.Map.{keys_of}
@@ -14,16 +14,16 @@ use Rattle.mind_base.specs.declared.notes.Note.TheVariants as note
 use Rattle.mind_base.specs.declared.plans.ThreadPlan.{ThreadPlan}
 use Rattle.hart_effect.specs.Deed.{Deed, Alone, Storing, carried_out, drains_first, found}
 use Rattle.hart_effect.specs.declared.finds.Found.{Found}
-use Rattle.page_cache.specs.PageCache.{same_page, frame_of, with_first}
+use Rattle.page_cache.specs.PageCache.{same_page, frame_of, with_first, is_writable}
 use Rattle.page_cache.specs.declared.frames.Frame.{Frame}
 use Rattle.page_cache.proofs.CallerLemmas.{frame_of-with_first}
 use Rattle.page_cache.proofs.Laws.{same_page-true}
 use Rattle.compute_blade.specs.Actions.{Asks, after_action}
-use Rattle.compute_blade.specs.Blade.{HartView, BladeView, Effect, hart_of, is_asked, only}
+use Rattle.compute_blade.specs.Blade.{HartView, BladeView, BladeEffect, hart_of, is_asked, only}
 use Rattle.compute_blade.specs.Denials.{denial_in, refused_by}
 use Rattle.compute_blade.specs.Frames.{around_held, thread_of}
-use Rattle.compute_blade.specs.Messages.{awake, answered_by, need_asked, needs_just, resumed_at, resumed_by, resumed_for, resumed_with}
-use Rattle.compute_blade.specs.Steps.{after_drain, after_step, asking, drain_of, drained, draining_by, entries_after, for_hart, frames_after, is_writable, need_in, performed, performed_by, serves, step_at, stepping_at, stepping_by, used_by}
+use Rattle.compute_blade.specs.Messages.{awake, answered_by, need_asked, resumed_by, resumed_for}
+use Rattle.compute_blade.specs.Steps.{blade_after_drain, after_step, asking, drain_of, drained, draining_by, frames_after_deed, for_hart, frames_after, need_in, performed, performed_by, serves, step_at, stepping_at, stepping_by, used_by}
 use Rattle.compute_blade.specs.declared.kept.Answer.{Answer}
 use Rattle.compute_blade.specs.declared.kept.Answer.TheVariants.{Filled, Denied}
 use Rattle.compute_blade.specs.declared.kept.Asked.{Asked}
@@ -34,6 +34,7 @@ use Rattle.compute_blade.specs.declared.kept.Waits.TheVariants.{Step, Drain}
 use Rattle.compute_blade.proofs.Resuming.{woken}
 use Rattle.coherence.proofs.TellingNotes.{writable_of}
 use Rattle.rack_core.proofs.Lookups.{Entries}
+use Rattle.rack_core.proofs.Resuming.{resumes-as}
 
 -- an instruction was performed, or a store drained
 abbrev pub IsLabel : Note → Type 0
@@ -42,14 +43,14 @@ IsLabel (note.Drain hart) = Unit {0}
 IsLabel n = ⊥
 
 -- nothing else is noted, and each page is held as it was
-pub record IsStill (blade : BladeView) (e : Effect) : Type 0 where
+pub record IsStill (blade : BladeView) (e : BladeEffect) : Type 0 where
   pub notes : AllByRecursion IsLabel e.noted
   pub pages : (page : PageView) → writable_of (frame_of page e.blade.cache.entries) ≡ writable_of (frame_of page blade.cache.entries)
 
 still-only : (blade : BladeView) → IsStill blade (only blade)
 still-only blade = record { notes = tt; pages = λ page. refl }
 
-either : (blade : BladeView) (b : Bool) (x y : Effect) → IsStill blade x → IsStill blade y → IsStill blade (if b then x else y)
+either : (blade : BladeView) (b : Bool) (x y : BladeEffect) → IsStill blade x → IsStill blade y → IsStill blade (if b then x else y)
 either blade true x y p q = p
 either blade false x y p q = q
 
@@ -77,7 +78,7 @@ ended-still need (Exit value) entries apart q = refl
 ended-still need (Fault kind value pc) entries apart q = refl
 
 deed-still : (h domain : ℕ) (found : Found) (entries : Entries) (hart : HartView) (deed : Deed) → IsDistinct same_page (keys_of entries)
-    → (q : PageView) → writable_of (frame_of q (entries_after h domain found entries hart deed)) ≡ writable_of (frame_of q entries)
+    → (q : PageView) → writable_of (frame_of q (frames_after_deed h domain found entries hart deed)) ≡ writable_of (frame_of q entries)
 deed-still h domain found entries hart (Alone thread) apart q = ended-still (need_in found domain) thread.end entries apart q
 deed-still h domain found entries hart (Storing thread store) apart q = first-still _ (λ f. refl) (page_at (place_of domain store.address)) entries apart q
 
@@ -119,14 +120,14 @@ module _ (blade : BladeView) (apart : IsDistinct same_page (keys_of blade.cache.
   still-at (Exit value) h plan image hart = still-only blade
   still-at (Fault kind value pc) h plan image hart = still-only blade
 
-  of_hart : (h : ℕ) (act : ThreadPlan → HartView → Option Effect) → ((plan : ThreadPlan) (hart : HartView) → IfSome (act plan hart) (IsStill blade)) → IfSome (for_hart blade h act) (IsStill blade)
+  of_hart : (h : ℕ) (act : ThreadPlan → HartView → Option BladeEffect) → ((plan : ThreadPlan) (hart : HartView) → IfSome (act plan hart) (IsStill blade)) → IfSome (for_hart blade h act) (IsStill blade)
   of_hart h act each = by (slice_get blade.plan.threads h) (hart_of blade h) where
     by : (p : Option ThreadPlan) (o : Option HartView) → IfSome (option_and_then (λ plan. option_and_then (λ hart. act plan hart) o) p) (IsStill blade)
     by None o = tt
     by (Some plan) None = tt
     by (Some plan) (Some hart) = each plan hart
 
-  of_image : (o : Option Image) (act : Image → Effect) → ((image : Image) → IsStill blade (act image)) → IfSome (option_map act o) (IsStill blade)
+  of_image : (o : Option Image) (act : Image → BladeEffect) → ((image : Image) → IsStill blade (act image)) → IfSome (option_map act o) (IsStill blade)
   of_image None act each = tt
   of_image (Some image) act each = each image
 
@@ -134,7 +135,7 @@ module _ (blade : BladeView) (apart : IsDistinct same_page (keys_of blade.cache.
   step-still images h = of_hart h (λ plan hart. option_map (λ image. step_at hart.end h plan image blade hart) (slice_get images plan.image))
       (λ plan hart. of_image (slice_get images plan.image) (λ image. step_at hart.end h plan image blade hart) (λ image. still-at hart.end h plan image hart))
 
-  pub drain-still : (h : ℕ) → IfSome (after_drain h blade) (IsStill blade)
+  pub drain-still : (h : ℕ) → IfSome (blade_after_drain h blade) (IsStill blade)
   drain-still h = of_hart h (λ plan hart. Some (drain_of h plan blade hart)) (λ plan hart. still-drain h plan hart)
 
   -- ---- what waited goes on
@@ -147,17 +148,9 @@ module _ (blade : BladeView) (apart : IsDistinct same_page (keys_of blade.cache.
   still-answer Filled h plan found pc hart = still-performed h plan found pc hart
   still-answer Denied h plan found pc hart = still-denial (denial_in found) h pc hart
 
-  still-resumed : (end : End) (answer : Answer) (asked : Need) (images : List Image) (h : ℕ) (plan : ThreadPlan) (hart : HartView) → IsStill blade (resumed_at end answer asked images h plan blade hart)
-  still-resumed (Running pc) answer asked images h plan hart = by (slice_get images plan.image) where
-    by : (o : Option Image) → IsStill blade (unwrap_or (option_map (λ image. resumed_with answer asked h plan (found image hart.regs pc) pc blade hart) o) (only blade))
-    by None = still-only blade
-    by (Some image) = either blade (needs_just asked (need_in (found image hart.regs pc) plan.domain) && not (drains_first (found image hart.regs pc) hart.queue.stores hart.queue.capacity))
-        (answered_by answer h plan (found image hart.regs pc) pc blade hart) (only blade) (still-answer answer h plan (found image hart.regs pc) pc hart) (still-only blade)
-  still-resumed (Exit value) answer asked images h plan hart = still-only blade
-  still-resumed (Fault kind value pc) answer asked images h plan hart = still-only blade
-
   still-waits : (waits : Waits) (answer : Answer) (asked : Need) (images : List Image) (h : ℕ) (plan : ThreadPlan) (hart : HartView) → IsStill blade (resumed_by waits answer asked images h plan blade hart)
-  still-waits Step answer asked images h plan hart = still-resumed hart.end answer asked images h plan hart
+  still-waits Step answer asked images h plan hart =
+      resumes-as (IsStill blade) answer asked images h plan blade hart (still-only blade) (λ image pc code runs just ready. still-answer answer h plan (found image hart.regs pc) pc hart)
   still-waits Drain answer asked images h plan hart = still-drains h plan hart.queue.stores hart
 
 pub resumed-still : (answer : Answer) (images : List Image) (asked : Option Asked) (blade : BladeView) → IsDistinct same_page (keys_of blade.cache.entries) → IsStill blade (resumed_for answer images asked blade)

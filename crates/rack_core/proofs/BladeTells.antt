@@ -21,10 +21,10 @@ use Rattle.page_cache.proofs.Laws.{same_page-true}
 use Rattle.page_image.specs.PageImage.{PageImageView}
 use Rattle.wire_msg.specs.declared.msgs.Msg.{Msg}
 use Rattle.compute_blade.specs.Actions.{Action, GivesUp, Lowers, Takes, Asks, Wakes, Performs, Refuses, Drains, Acks, IsActions, after_action, after_actions}
-use Rattle.compute_blade.specs.Blade.{BladeView, Effect}
-use Rattle.compute_blade.specs.Messages.{MayCome, after_message}
+use Rattle.compute_blade.specs.Blade.{BladeView, BladeEffect}
+use Rattle.compute_blade.specs.Messages.{MayComeToBlade, after_message}
 use Rattle.compute_blade.specs.Pages.{given_up}
-use Rattle.compute_blade.specs.Steps.{after_step, after_drain}
+use Rattle.compute_blade.specs.Steps.{after_step, blade_after_drain}
 use Rattle.compute_blade.proofs.Acting.{step_acts, drain_acts, gives, message_acts}
 use Rattle.switch_core.specs.Switch.{SwitchView}
 use Rattle.coherence.specs.Facts.{IsCoherent}
@@ -38,14 +38,14 @@ use Rattle.coherence.proofs.Whole.{run_keeps}
 use Rattle.rack_core.specs.BladeMoves.{AreBladesSound, handing, with_seen_blade}
 use Rattle.rack_core.specs.Events.{BladeActs, BladeDoes, HartDoes, HandsTo, Leads}
 use Rattle.rack_core.specs.Frames.{HaveFrames}
-use Rattle.rack_core.specs.Rack.{RackView, with_blade, with_net}
+use Rattle.rack_core.specs.Rack.{RackView, with_blade_at, with_net}
 use Rattle.rack_core.specs.Seen.{frame_at, region_at, seen}
 use Rattle.rack_core.proofs.BladeHanded.{did, blade_handed, handed_may_come}
 use Rattle.rack_core.proofs.BladeSeen.{seen-has, seen-acted}
 use Rattle.rack_core.proofs.BladeStill.{IsStill, step-still, drain-still}
 use Rattle.rack_core.proofs.BladeTold.{HoldsAs, AreOthers, IsToldBy, still-told, evict-told, message-told}
 use Rattle.rack_core.proofs.Lookups.{Entries, slice_get-set, slice_get-set_other}
-use Rattle.rack_core.proofs.SwitchLookups.{all-member}
+use Rattle.rack_core.proofs.Lists.{all-member}
 
 -- ---- frames
 
@@ -100,19 +100,19 @@ actions-same (action ∷ actions) blade =
     let more = actions-same actions (after_action action blade).blade in
     record { number = more.number ∙ one.number; frames = more.frames ∙ one.frames }
 
-acts-same : (blade : BladeView) (e : Effect) → IsActions blade e → IsSameBlade blade e.blade
-acts-same blade e is = subst (λ (x : Effect). IsSameBlade blade x.blade) (sym is.done) (actions-same is.actions blade)
+acts-same : (blade : BladeView) (e : BladeEffect) → IsActions blade e → IsSameBlade blade e.blade
+acts-same blade e is = subst (λ (x : BladeEffect). IsSameBlade blade x.blade) (sym is.done) (actions-same is.actions blade)
 
 -- of what a call does where it does something
-some-so : (P : Effect → Type 0) (act : Option Effect) (e : Effect) → IfSome act P → act ≡ Some e → P e
+some-so : (P : BladeEffect → Type 0) (act : Option BladeEffect) (e : BladeEffect) → IfSome act P → act ≡ Some e → P e
 some-so P None e given is = let never : ⊥ = cc in absurd never
 some-so P (Some x) e given is = subst P (same_Some x e is) given
 
 -- all blades have their frames when one did something
-have_frames : (plan : RackPlan) (c : ℕ) (blade : BladeView) (e : Effect) (old new : RackView) (noted : List Note) → slice_get old.blades c ≡ Some blade → BladeActs c e old new noted
+have_frames : (plan : RackPlan) (c : ℕ) (blade : BladeView) (e : BladeEffect) (old new : RackView) (noted : List Note) → slice_get old.blades c ≡ Some blade → BladeActs c e old new noted
     → HaveFrames plan old.blades → IsSameBlade blade e.blade → HaveFrames plan new.blades
 have_frames plan c blade e old new noted there acts frames same = subst (λ (r : RackView). HaveFrames plan r.blades) (sym acts.after) each where
-  each : HaveFrames plan (with_net acts.net (with_blade c e.blade old)).blades
+  each : HaveFrames plan (with_net acts.net (with_blade_at c e.blade old)).blades
   each n other is = at_number (λ n. slice_get (slice_set old.blades c e.blade) n ≡ Some other → (other.number ≡ n) × (other.cache.frames ≡ frames_of plan n)) c
       (λ is. let its : e.blade ≡ other = same_Some _ _ (sym (slice_get-set old.blades c blade e.blade there) ∙ is) in
       (sym (ap (λ (b : BladeView). b.number) its) ∙ same.number ∙ (frames c blade there).0, sym (ap (λ (b : BladeView). b.cache.frames) its) ∙ same.frames ∙ (frames c blade there).1))
@@ -127,7 +127,7 @@ acted-here c blade sent newer w page = ap (λ f. writable_of (f page)) (put-here
 acted-away : (c : ℕ) (blade : BladeView) (sent : List Msg) (newer : PageView → PageImageView) (w : World) → AreOthers c (held_in w) (held_in (with_seen_blade c blade sent newer w))
 acted-away c blade sent newer w n e page = ap (λ f. writable_of (f page)) (put-other c (λ q. frame_of q blade.cache.entries) w.frames n e)
 
-told-tells : (plan : RackPlan) (c : ℕ) (w : World) (e : Effect) (newer : PageView → PageImageView) → IsToldBy plan c (held_in w) (entries_in w) e
+told-tells : (plan : RackPlan) (c : ℕ) (w : World) (e : BladeEffect) (newer : PageView → PageImageView) → IsToldBy plan c (held_in w) (entries_in w) e
     → Tells plan w e.noted (with_seen_blade c e.blade e.sent newer w)
 told-tells plan c w e newer told =
     let v : World = with_seen_blade c e.blade e.sent newer w in
@@ -150,9 +150,9 @@ pub record IsToldOf (plan : RackPlan) (old new : RackView) (noted : List Note) (
 abbrev pub IsLawfulAt : RackPlan → World → Type 0
 IsLawfulAt plan w = IsLawful plan (held_in w) (entries_in w)
 
-module _ (plan : RackPlan) (c : ℕ) (act : BladeView → Option Effect) (old new : RackView) (noted : List Note) (flat newer : PageView → PageImageView) where
+module _ (plan : RackPlan) (c : ℕ) (act : BladeView → Option BladeEffect) (old new : RackView) (noted : List Note) (flat newer : PageView → PageImageView) where
   does-told : HaveFrames plan old.blades
-      → ((blade : BladeView) (e : Effect) → slice_get old.blades c ≡ Some blade → blade.number ≡ c → HoldsAs c blade (held_in (seen old flat)) → act blade ≡ Some e
+      → ((blade : BladeView) (e : BladeEffect) → slice_get old.blades c ≡ Some blade → blade.number ≡ c → HoldsAs c blade (held_in (seen old flat)) → act blade ≡ Some e
       → BladeActs c e old new noted → IsToldBy plan c (held_in (seen old flat)) (entries_in (seen old flat)) e × IsActions blade e)
       → BladeDoes c act old new noted → IsToldOf plan old new noted flat newer
   does-told frames told given =
@@ -166,7 +166,7 @@ module _ (plan : RackPlan) (c : ℕ) (act : BladeView → Option Effect) (old ne
       }
 
 -- what a hart's blade does
-hart-told : (plan : RackPlan) (hart : ℕ) (act : BladeView → Option Effect) (old new : RackView) (noted : List Note) (flat newer : PageView → PageImageView)
+hart-told : (plan : RackPlan) (hart : ℕ) (act : BladeView → Option BladeEffect) (old new : RackView) (noted : List Note) (flat newer : PageView → PageImageView)
     → ((c : ℕ) → BladeDoes c act old new noted → IsToldOf plan old new noted flat newer)
     → HartDoes (slice_get old.plan.threads hart) act old new noted → IsToldOf plan old new noted flat newer
 hart-told plan hart act old new noted flat newer told does = by (slice_get old.plan.threads hart) does where
@@ -186,12 +186,12 @@ step_tells images hart plan old new noted flat newer lawful sound frames = hart-
 
 pub drain_tells : (images : List Image) (hart : ℕ) (plan : RackPlan) (old new : RackView) (noted : List Note) (flat newer : PageView → PageImageView)
     → IsLawfulAt plan (seen old flat) → AreBladesSound old → HaveFrames plan old.blades → Leads images (Drain hart) old new noted → IsToldOf plan old new noted flat newer
-drain_tells images hart plan old new noted flat newer lawful sound frames = hart-told plan hart (after_drain hart) old new noted flat newer
-    (λ c. does-told plan c (after_drain hart) old new noted flat newer frames
+drain_tells images hart plan old new noted flat newer lawful sound frames = hart-told plan hart (blade_after_drain hart) old new noted flat newer
+    (λ c. does-told plan c (blade_after_drain hart) old new noted flat newer frames
     (λ blade e there number holds does acts. (
       still-told plan c (entries_in (seen old flat)) (held_in (seen old flat)) blade e lawful holds
-          (some-so (IsStill blade) (after_drain hart blade) e (drain-still blade (sound c blade there).cache.distinct hart) does),
-      some-so (IsActions blade) (after_drain hart blade) e (drain_acts hart blade) does,
+          (some-so (IsStill blade) (blade_after_drain hart blade) e (drain-still blade (sound c blade there).cache.distinct hart) does),
+      some-so (IsActions blade) (blade_after_drain hart blade) e (drain_acts hart blade) does,
     )))
 
 pub evict_tells : (images : List Image) (c : ℕ) (page : PageView) (plan : RackPlan) (old new : RackView) (noted : List Note) (flat newer : PageView → PageImageView)
@@ -207,7 +207,7 @@ evict_tells images c page plan old new noted flat newer lawful sound frames =
 -- a message, where it may come, and where what is held then is lawful too
 pub message_tells : (images : List Image) (c : ℕ) (message : Msg) (plan : RackPlan) (old new : RackView) (noted : List Note) (flat newer : PageView → PageImageView)
     → IsLawfulAt plan (seen old flat) → IsLawfulAt plan (seen new newer) → AreBladesSound old → HaveFrames plan old.blades
-    → ((blade : BladeView) → slice_get old.blades c ≡ Some blade → MayCome blade message)
+    → ((blade : BladeView) → slice_get old.blades c ≡ Some blade → MayComeToBlade blade message)
     → HandsTo Down images c message old new noted → IsToldOf plan old new noted flat newer
 message_tells images c message plan old new noted flat newer lawful lawful_then sound frames may =
     does-told plan c (λ blade. Some (after_message images message blade)) old new noted flat newer frames
@@ -216,9 +216,9 @@ message_tells images c message plan old new noted flat newer lawful lawful_then 
     let is : after_message images message blade ≡ e = same_Some _ _ does in
     let v : World = with_seen_blade c e.blade e.sent newer w in
     let shown : seen new newer ≡ v = seen-acted c blade e old new noted flat newer there acts in
-    let effect : Effect = after_message images message blade in
+    let effect : BladeEffect = after_message images message blade in
     let told = message-told plan c (entries_in w) images message blade (held_in w) (held_in v) (sound c blade there).cache number holds lawful
-    (subst (λ (x : Effect). HoldsAs c x.blade (held_in v)) (sym is) (acted-here c e.blade e.sent newer w))
+    (subst (λ (x : BladeEffect). HoldsAs c x.blade (held_in v)) (sym is) (acted-here c e.blade e.sent newer w))
     (acted-away c e.blade e.sent newer w) (subst (IsLawfulAt plan) shown lawful_then) in (
       subst (IsToldBy plan c (held_in w) (entries_in w)) is told,
       subst (IsActions blade) is (message_acts images message blade (sound c blade there).cache (may blade there)),
@@ -255,7 +255,7 @@ pub handed_tells : (images : List Image) (c : ℕ) (message : Msg) (rest : List 
 handed_tells images c message rest plan old new noted flat newer coherent within sound frames hands =
     let led = blade_handed images old new flat c message rest noted coherent sound hands in
     let last : PageView → PageImageView = led.leads.flat in
-    let may : (blade : BladeView) → slice_get old.blades c ≡ Some blade → MayCome blade message = λ blade there. handed_may_come images old flat c blade message rest coherent sound there in
+    let may : (blade : BladeView) → slice_get old.blades c ≡ Some blade → MayComeToBlade blade message = λ blade there. handed_may_come images old flat c blade message rest coherent sound there in
     let d = did c (λ blade. Some (after_message images message blade)) old new noted hands in
     let acts : IsActions d.blade d.effect = subst (IsActions d.blade) (same_Some _ _ d.does) (message_acts images message d.blade (sound c d.blade d.there).cache (may d.blade d.there)) in
     let frames_then : HaveFrames plan new.blades = have_frames plan c d.blade d.effect old new noted d.there d.acts frames (acts-same d.blade d.effect acts) in

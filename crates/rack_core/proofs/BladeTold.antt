@@ -12,14 +12,14 @@ use Rattle.mind_base.specs.declared.images.Image.{Image}
 use Rattle.mind_base.specs.declared.notes.Note.{Note}
 use Rattle.mind_base.specs.declared.notes.Note.TheVariants as note
 use Rattle.mind_base.specs.declared.plans.RackPlan.{RackPlan}
-use Rattle.page_cache.specs.PageCache.{IsPageCache, same_page, frame_of, without, with_change, lowered_frame, entries_after_put, put_of}
+use Rattle.page_cache.specs.PageCache.{IsPageCache, same_page, frame_of, without_page, with_change, lowered_frame, entries_after_put, put_of}
 use Rattle.page_cache.specs.declared.frames.Frame.{Frame}
 use Rattle.page_cache.specs.declared.frames.Put.{Put}
 use Rattle.page_cache.specs.declared.frames.Put.TheVariants.{Fresh, Replaced, Pushed}
 use Rattle.page_image.specs.PageImage.{PageImageView}
 use Rattle.wire_msg.specs.declared.msgs.Msg.{Msg}
-use Rattle.wire_msg.specs.declared.msgs.Msg.TheVariants.{Get, Fill, Deny, Back, Inv, Lower, Ack, Close, Closed, Reopen, Read, Image as image_message, Write, Zero}
-use Rattle.compute_blade.specs.Blade.{BladeView, Effect, request_for, with_entries, only, and_then}
+use Rattle.wire_msg.specs.declared.msgs.Msg.TheVariants.{Fill, Deny, Inv, Lower, Ack}
+use Rattle.compute_blade.specs.Blade.{BladeView, BladeEffect, request_for, with_frames, only, and_then}
 use Rattle.compute_blade.specs.Messages.{acknowledging, after_message, resumed_for}
 use Rattle.compute_blade.specs.Pages.{back_of, each_in, given_up, giving_up, held_in, lowered, lowering, noted_out, spared, taken, writable_in}
 use Rattle.compute_blade.specs.declared.kept.Answer.TheVariants.{Filled, Denied}
@@ -90,7 +90,7 @@ abbrev pub AreOthers : ℕ → Holdings → Holdings → Type 0
 AreOthers c old new = (n : ℕ) → (n == c) ≡ false → (page : PageView) → new n page ≡ old n page
 
 -- The notes of something that blade c does are lawful where this is held and these entries are in force, and tell what it holds then.
-pub record IsToldBy (plan : RackPlan) (c : ℕ) (held : Holdings) (entries : Entries) (e : Effect) : Type 0 where
+pub record IsToldBy (plan : RackPlan) (c : ℕ) (held : Holdings) (entries : Entries) (e : BladeEffect) : Type 0 where
   pub lawful : AreLawful plan held entries e.noted
   pub here : HoldsAs c e.blade (fold held_after held e.noted)
   pub away : AreOthers c held (fold held_after held e.noted)
@@ -99,7 +99,7 @@ pub record IsToldBy (plan : RackPlan) (c : ℕ) (held : Holdings) (entries : Ent
 -- one page is changed, at blade c
 put-here : (c : ℕ) (page : PageView) (o : Option Bool) (x : Option Frame) (held : Holdings) (blade : BladeView) (entries : Frames) → HoldsAs c blade held → o ≡ writable_of x
     → ((q : PageView) → frame_of q entries ≡ (if same_page q page then x else frame_of q blade.cache.entries))
-    → HoldsAs c (with_entries blade entries) (put_both c page o held)
+    → HoldsAs c (with_frames blade entries) (put_both c page o held)
 put-here c page o x held blade entries h is found q = at_blade c page o held q ∙ by (same_page q page) ∙ sym (ap writable_of (found q)) where
   by : (b : Bool) → (if b then o else held c q) ≡ writable_of (if b then x else frame_of q blade.cache.entries)
   by true = is
@@ -122,14 +122,14 @@ taken-holds c held page perm writable image blade shape h put is = by put is whe
   frames : Frames
   frames = entries_after_put blade.cache page frame
 
-  by : (put : Put) → put_of blade.cache page ≡ put → HoldsAs c (with_entries blade frames) (fold held_after held (taking c page writable put))
+  by : (put : Put) → put_of blade.cache page ≡ put → HoldsAs c (with_frames blade frames) (fold held_after held (taking c page writable put))
   by Fresh e = put-here c page (Some writable) (Some frame) held blade frames h refl (found-put_fresh blade.cache page frame e)
   by (Replaced old) e = put-here c page (Some writable) (Some frame) held blade frames h refl (found-put_replaced blade.cache page frame old shape e)
   by (Pushed out old) e =
       let pushed = found-put_pushed blade.cache page frame out old shape e in
       let found = found-without out blade.cache.entries shape.distinct in
-      put-here c page (Some writable) (Some frame) (put_both c out None held) (with_entries blade (without out blade.cache.entries)) frames
-      (put-here c out None None held blade (without out blade.cache.entries) h refl found) refl
+      put-here c page (Some writable) (Some frame) (put_both c out None held) (with_frames blade (without_page out blade.cache.entries)) frames
+      (put-here c out None None held blade (without_page out blade.cache.entries) h refl found) refl
       (λ q. pushed.found q ∙ ap (λ f. if same_page q page then Some frame else f) (sym (found q)))
 
 taken-away : (c : ℕ) (held : Holdings) (page : PageView) (writable : Bool) (put : Put) → AreOthers c held (fold held_after held (taking c page writable put))
@@ -143,21 +143,21 @@ same-holdings c blade held one two here_one here_two away_one away_two =
     fun_ext (λ n. fun_ext (λ page. at_number (λ n. one n page ≡ two n page) c (here_one page ∙ sym (here_two page)) (λ n e. away_one n e page ∙ sym (away_two n e page)) n))
 
 -- Pages are given up or lowered: the notes tell it, what is held then is less than what was held at some point, and the blade is one still.
-record Sheds (plan : RackPlan) (c : ℕ) (entries : Entries) (top held : Holdings) (e : Effect) : Type 0 where
+record Sheds (plan : RackPlan) (c : ℕ) (entries : Entries) (top held : Holdings) (e : BladeEffect) : Type 0 where
   told : IsToldBy plan c held entries e
   less : IsLess (fold held_after held e.noted) top
   number : e.blade.number ≡ c
   shape : IsPageCache e.blade.cache
 
 -- so it is whatever less is held when it is done
-abbrev ShedsFrom : RackPlan → ℕ → Entries → Holdings → (BladeView → Effect) → Type 0
+abbrev ShedsFrom : RackPlan → ℕ → Entries → Holdings → (BladeView → BladeEffect) → Type 0
 ShedsFrom plan c entries top act = (blade : BladeView) (held : Holdings) → HoldsAs c blade held → IsLess held top → blade.number ≡ c → IsPageCache blade.cache
     → Sheds plan c entries top held (act blade)
 
 module _ (plan : RackPlan) (c : ℕ) (entries : Entries) where
   -- ---- one thing after another
 
-  told-then : (held : Holdings) (first : Effect) (next : BladeView → Effect) → IsToldBy plan c held entries first
+  told-then : (held : Holdings) (first : BladeEffect) (next : BladeView → BladeEffect) → IsToldBy plan c held entries first
       → IsToldBy plan c (fold held_after held first.noted) entries (next first.blade) → IsToldBy plan c held entries (and_then first next)
   told-then held first next one two =
       let later : List Note = (next first.blade).noted in
@@ -177,7 +177,7 @@ module _ (plan : RackPlan) (c : ℕ) (entries : Entries) where
   told-one : (held : Holdings) (n : Note) (page : PageView) (o : Option Bool) (x : Option Frame) (blade : BladeView) (frames : Frames) (sent : List Msg)
       → AreLawful plan held entries (n ∷ []) → held_after held n ≡ put_both c page o held → entries_after entries n ≡ entries
       → HoldsAs c blade held → o ≡ writable_of x → ((q : PageView) → frame_of q frames ≡ (if same_page q page then x else frame_of q blade.cache.entries))
-      → IsToldBy plan c held entries (record { blade = with_entries blade frames; sent = sent; noted = n ∷ [] })
+      → IsToldBy plan c held entries (record { blade = with_frames blade frames; sent = sent; noted = n ∷ [] })
   told-one held n page o x blade frames sent lawful changes states h is found = record {
     lawful = lawful;
     here = λ q. ap (λ k. k c q) changes ∙ put-here c page o x held blade frames h is found q;
@@ -205,7 +205,7 @@ module _ (plan : RackPlan) (c : ℕ) (entries : Entries) where
   labels-lawful held (note.Drain hart ∷ notes) lawful all = (tt, lawful, labels-lawful held notes lawful all.1)
   labels-lawful held (n ∷ notes) lawful all = absurd all.0
 
-  pub still-told : (held : Holdings) (blade : BladeView) (e : Effect) → IsLawful plan held entries → HoldsAs c blade held → IsStill blade e → IsToldBy plan c held entries e
+  pub still-told : (held : Holdings) (blade : BladeView) (e : BladeEffect) → IsLawful plan held entries → HoldsAs c blade held → IsStill blade e → IsToldBy plan c held entries e
   still-told held blade e lawful h still =
       let same = labels-hold held e.noted still.notes in
       record {
@@ -227,8 +227,8 @@ module _ (plan : RackPlan) (c : ℕ) (entries : Entries) where
 
     by : (o : Option Frame) → Sheds plan c entries top held (giving_up page o blade)
     by None = sheds-none top held blade h less number shape
-    by (Some frame) = subst (λ k. Sheds plan c entries top held (record { blade = with_entries blade (without page blade.cache.entries); sent = back_of page frame; noted = note.Give k page ∷ [] })) (sym number) (record {
-      told = told-one held (note.Give c page) page None None blade (without page blade.cache.entries) (back_of page frame)
+    by (Some frame) = subst (λ k. Sheds plan c entries top held (record { blade = with_frames blade (without_page page blade.cache.entries); sent = back_of page frame; noted = note.Give k page ∷ [] })) (sym number) (record {
+      told = told-one held (note.Give c page) page None None blade (without_page page blade.cache.entries) (back_of page frame)
           (tt, lawful_when_less plan (put_both c page None held) top entries below lawful, tt) refl refl h refl (found-without page blade.cache.entries shape.distinct);
       less = below;
       number = number;
@@ -249,7 +249,7 @@ module _ (plan : RackPlan) (c : ℕ) (entries : Entries) where
 
     by : (o : Option Frame) → frame_of page blade.cache.entries ≡ o → Sheds plan c entries top held (lowering page o blade)
     by None e = sheds-none top held blade h less number shape
-    by (Some frame) e = subst (λ k. Sheds plan c entries top held (record { blade = with_entries blade (with_change lowered_frame page blade.cache.entries); sent = back_of page frame; noted = note.Down k page ∷ [] })) (sym number) (record {
+    by (Some frame) e = subst (λ k. Sheds plan c entries top held (record { blade = with_frames blade (with_change lowered_frame page blade.cache.entries); sent = back_of page frame; noted = note.Down k page ∷ [] })) (sym number) (record {
       told = told-one held (note.Down c page) page read (Some (lowered_frame frame)) blade (with_change lowered_frame page blade.cache.entries) (back_of page frame)
           (tt, lawful_when_less plan (put_both c page read held) top entries below lawful, tt) refl refl h
           (ap (option_map (λ writable. false)) (h page ∙ ap writable_of e)) (found-with_change lowered_frame page frame blade.cache.entries e);
@@ -258,7 +258,7 @@ module _ (plan : RackPlan) (c : ℕ) (entries : Entries) where
       shape = cache-with_change lowered_frame page blade.cache shape;
     })
 
-  sheds-each : (top : Holdings) (change : PageView → BladeView → Effect) → ((page : PageView) → ShedsFrom plan c entries top (change page)) → (pages : List PageView) → ShedsFrom plan c entries top (each_in change pages)
+  sheds-each : (top : Holdings) (change : PageView → BladeView → BladeEffect) → ((page : PageView) → ShedsFrom plan c entries top (change page)) → (pages : List PageView) → ShedsFrom plan c entries top (each_in change pages)
   sheds-each top change each [] blade held h less number shape = sheds-none top held blade h less number shape
   sheds-each top change each (page ∷ pages) blade held h less number shape =
       let first = each page blade held h less number shape in
@@ -277,11 +277,11 @@ module _ (plan : RackPlan) (c : ℕ) (entries : Entries) where
       → IsToldBy plan c held entries (given_up page blade)
   evict-told held page blade lawful h number shape = (gives-up held lawful page blade held h (less-itself held) number shape).told
 
-  obeys-told : (held : Holdings) (change : PageView → BladeView → Effect) → ((page : PageView) → ShedsFrom plan c entries held (change page)) → (pages : List PageView) (number : ℕ) (asked : Option PageView) (blade : BladeView)
+  obeys-told : (held : Holdings) (change : PageView → BladeView → BladeEffect) → ((page : PageView) → ShedsFrom plan c entries held (change page)) → (pages : List PageView) (number : ℕ) (asked : Option PageView) (blade : BladeView)
       → HoldsAs c blade held → blade.number ≡ c → IsPageCache blade.cache → IsToldBy plan c held entries (acknowledging change pages number asked blade)
   obeys-told held change each pages number asked blade h own shape =
       let sheds = sheds-each held change each pages blade held h (less-itself held) own shape in
-      let answer : BladeView → Effect = λ after. record { blade = after; sent = Ack number (spared asked pages) ∷ []; noted = [] } in
+      let answer : BladeView → BladeEffect = λ after. record { blade = after; sent = Ack number (spared asked pages) ∷ []; noted = [] } in
       told-then held (each_in change pages blade) answer sheds.told
       (told-silent (fold held_after held (each_in change pages blade).noted) (each_in change pages blade).blade (Ack number (spared asked pages) ∷ []) sheds.told.here)
 
@@ -319,8 +319,8 @@ module _ (plan : RackPlan) (c : ℕ) (entries : Entries) where
       → HoldsAs c blade held → IsLawful plan held entries → HoldsAs c (after_message images message blade).blade last → AreOthers c held last → IsLawful plan last entries
       → IsToldBy plan c held entries (after_message images message blade)
   message-told images (Fill page perm writable image) blade held last shape number h lawful here away lawful_then =
-      let first : Effect = taken page perm writable image blade in
-      let goes : Effect = resumed_for Filled images (request_for page first.blade.requests) first.blade in
+      let first : BladeEffect = taken page perm writable image blade in
+      let goes : BladeEffect = resumed_for Filled images (request_for page first.blade.requests) first.blade in
       let still = resumed-still Filled images (request_for page first.blade.requests) first.blade (cache-put blade.cache page (record { image = image; writable = writable; dirty = false; perm = perm }) shape).distinct in
       let took : IsToldBy plan c held entries first = subst (λ k. IsToldBy plan c held entries (record first { noted = taking k page writable (put_of blade.cache page) })) (sym number)
       (taken-told held last page perm writable image blade shape h lawful (λ q. here q ∙ still.pages q) away lawful_then (put_of blade.cache page) refl first.sent) in
@@ -334,13 +334,4 @@ module _ (plan : RackPlan) (c : ℕ) (entries : Entries) where
       obeys-told held given_up (λ page. gives-up held lawful page) (held_in range blade) order asked blade h number shape
   message-told images (Lower order range asked) blade held last shape number h lawful here away lawful_then =
       obeys-told held lowered (λ page. lowers-it held lawful page) (writable_in range blade) order (Some asked) blade h number shape
-  message-told images (Get page write) blade held last shape number h lawful here away lawful_then = told-silent held blade [] h
-  message-told images (Back page image) blade held last shape number h lawful here away lawful_then = told-silent held blade [] h
-  message-told images (Ack order count) blade held last shape number h lawful here away lawful_then = told-silent held blade [] h
-  message-told images (Close order span ends) blade held last shape number h lawful here away lawful_then = told-silent held blade [] h
-  message-told images (Closed order) blade held last shape number h lawful here away lawful_then = told-silent held blade [] h
-  message-told images (Reopen order) blade held last shape number h lawful here away lawful_then = told-silent held blade [] h
-  message-told images (Read phys for page) blade held last shape number h lawful here away lawful_then = told-silent held blade [] h
-  message-told images (image_message for page image) blade held last shape number h lawful here away lawful_then = told-silent held blade [] h
-  message-told images (Write phys image) blade held last shape number h lawful here away lawful_then = told-silent held blade [] h
-  message-told images (Zero phys pages) blade held last shape number h lawful here away lawful_then = told-silent held blade [] h
+  message-told images message blade held last shape number h lawful here away lawful_then = told-silent held blade [] h

@@ -7,7 +7,7 @@ use Rattle.mind_base.specs.Page.{PageView}
 use Rattle.page_cache.specs.PageCache.{same_page}
 use Rattle.page_cache.proofs.CallerLemmas.{same_page-is_equivalence}
 use Rattle.page_cache.proofs.Laws.{same_page-true}
-use Rattle.compute_blade.specs.Blade.{HartView, request_for, answered}
+use Rattle.compute_blade.specs.Blade.{HartView, request_for, requests_without}
 use Rattle.compute_blade.specs.Messages.{awake}
 use Rattle.compute_blade.specs.Steps.{waiting}
 use Rattle.compute_blade.specs.declared.kept.Asked.{Asked}
@@ -15,7 +15,8 @@ use Rattle.compute_blade.specs.declared.kept.Waits.{Waits}
 use Rattle.compute_blade.specs.declared.kept.Waits.TheVariants.{Step, Drain}
 use Rattle.mind_base.specs.declared.plans.ThreadPlan.{ThreadPlan}
 use Rattle.rack_core.specs.BladeMoves.{hart_in, IsRequestBy, IsRequest, AreRequestsApart, AreWaitersApart, IsOut, HasAsked, AreWaiting}
-use Rattle.rack_core.proofs.BladeSound.{Harts, hart_in-set, hart_in-other, all-more, all-map, of_others, WaitsElse}
+use Rattle.rack_core.proofs.BladeSound.{Harts, hart_in-set, hart_in-other, of_others, WaitsElse}
+use Rattle.rack_core.proofs.Lists.{all-last, all-same}
 
 -- ---- requests stay apart
 
@@ -31,17 +32,17 @@ unfound page (first ∷ requests) e = by (unfound page requests) (same_page page
 apart-joined : (requests : List Asked) (asked : Asked) → AreRequestsApart requests → AllByRecursion (λ other. same_page asked.page other.page ≡ false) requests → AreRequestsApart (requests ++ asked ∷ [])
 apart-joined [] asked apart all = (tt, tt)
 apart-joined (first ∷ requests) asked apart all = (
-  all-more (λ other. same_page first.page other.page ≡ false) requests asked apart.0 (same_page-is_equivalence.symm first.page asked.page ∙ all.0),
+  all-last (λ other. same_page first.page other.page ≡ false) requests asked apart.0 (same_page-is_equivalence.symm first.page asked.page ∙ all.0),
   apart-joined requests asked apart.1 all.1,
 )
 
 pub apart-more : (requests : List Asked) (asked : Asked) → AreRequestsApart requests → request_for asked.page requests ≡ None → AreRequestsApart (requests ++ asked ∷ [])
 apart-more requests asked apart e = apart-joined requests asked apart (unfound asked.page requests e)
 
-pub apart-answered : (page : PageView) (requests : List Asked) → AreRequestsApart requests → AreRequestsApart (answered page requests)
+pub apart-answered : (page : PageView) (requests : List Asked) → AreRequestsApart requests → AreRequestsApart (requests_without page requests)
 apart-answered page [] apart = tt
 apart-answered page (first ∷ requests) apart = by (apart-answered page requests apart.1) (same_page page first.page) where
-  by : AreRequestsApart (answered page requests) → (b : Bool) → AreRequestsApart (cond (not b) (first ∷ answered page requests) (answered page requests))
+  by : AreRequestsApart (requests_without page requests) → (b : Bool) → AreRequestsApart (cond (not b) (first ∷ requests_without page requests) (requests_without page requests))
   by rest true = rest
   by rest false = (of_others (λ other. same_page first.page other.page ≡ false) (λ other. same_page first.page other.page ≡ false) page (λ other away h. h) requests apart.0, rest)
 
@@ -49,7 +50,7 @@ apart-answered page (first ∷ requests) apart = by (apart-answered page request
 
 waiters-joined : (requests : List Asked) (asked : Asked) → AreWaitersApart requests → AllByRecursion (λ other. WaitsElse other asked) requests → AreWaitersApart (requests ++ asked ∷ [])
 waiters-joined [] asked apart all = (tt, tt)
-waiters-joined (first ∷ requests) asked apart all = (all-more (WaitsElse first) requests asked apart.0 all.0, waiters-joined requests asked apart.1 all.1)
+waiters-joined (first ∷ requests) asked apart all = (all-last (WaitsElse first) requests asked apart.0 all.0, waiters-joined requests asked apart.1 all.1)
 
 -- the hart's step, or its drain, does not wait
 abbrev pub IsAwake : Waits → HartView → Type 0
@@ -72,12 +73,12 @@ not-waited threads harts asked hart own awake other r same waits = by asked.wait
 pub waiters-more : (threads : List ThreadPlan) (harts : Harts) (requests : List Asked) (asked : Asked) (hart : HartView) → hart_in harts asked.hart ≡ Some hart → IsAwake asked.waits hart
     → AllByRecursion (IsRequest threads harts) requests → AreWaitersApart requests → AreWaitersApart (requests ++ asked ∷ [])
 waiters-more threads harts requests asked hart own awake all apart =
-    waiters-joined requests asked apart (all-map (IsRequest threads harts) (λ other. WaitsElse other asked) requests (not-waited threads harts asked hart own awake) all)
+    waiters-joined requests asked apart (all-same (IsRequest threads harts) (λ other. WaitsElse other asked) (not-waited threads harts asked hart own awake) requests all)
 
-pub waiters-answered : (page : PageView) (requests : List Asked) → AreWaitersApart requests → AreWaitersApart (answered page requests)
+pub waiters-answered : (page : PageView) (requests : List Asked) → AreWaitersApart requests → AreWaitersApart (requests_without page requests)
 waiters-answered page [] apart = tt
 waiters-answered page (first ∷ requests) apart = by (waiters-answered page requests apart.1) (same_page page first.page) where
-  by : AreWaitersApart (answered page requests) → (b : Bool) → AreWaitersApart (cond (not b) (first ∷ answered page requests) (answered page requests))
+  by : AreWaitersApart (requests_without page requests) → (b : Bool) → AreWaitersApart (cond (not b) (first ∷ requests_without page requests) (requests_without page requests))
   by rest true = rest
   by rest false = (of_others (WaitsElse first) (WaitsElse first) page (λ other away h. h) requests apart.0, rest)
 
@@ -93,22 +94,22 @@ out-last [] asked = inl (refl, refl)
 out-last (first ∷ requests) asked = inr (out-last requests asked)
 
 -- what is out for other pages stays out
-out-kept : (h : ℕ) (waits : Waits) (page : PageView) (requests : List Asked) → AllByRecursion (λ other. same_page page other.page ≡ false) requests → IsOut h waits requests → IsOut h waits (answered page requests)
+out-kept : (h : ℕ) (waits : Waits) (page : PageView) (requests : List Asked) → AllByRecursion (λ other. same_page page other.page ≡ false) requests → IsOut h waits requests → IsOut h waits (requests_without page requests)
 out-kept h waits page [] all out = absurd out
 out-kept h waits page (first ∷ requests) all out =
-    subst (λ b. IsOut h waits (cond (not b) (first ∷ answered page requests) (answered page requests))) (sym all.0) (by out (out-kept h waits page requests all.1)) where
-      by : IsOut h waits (first ∷ requests) → (IsOut h waits requests → IsOut h waits (answered page requests)) → IsOut h waits (first ∷ answered page requests)
+    subst (λ b. IsOut h waits (cond (not b) (first ∷ requests_without page requests) (requests_without page requests))) (sym all.0) (by out (out-kept h waits page requests all.1)) where
+      by : IsOut h waits (first ∷ requests) → (IsOut h waits requests → IsOut h waits (requests_without page requests)) → IsOut h waits (first ∷ requests_without page requests)
       by (inl here) rest = inl here
       by (inr out) rest = inr (rest out)
 
 -- when a request ends, what is out besides stays out
 out-answered : (h : ℕ) (waits : Waits) (page : PageView) (asked : Asked) (requests : List Asked) → AreRequestsApart requests → request_for page requests ≡ Some asked
-    → (asked.hart ≡ h → asked.waits ≡ waits → ⊥) → IsOut h waits requests → IsOut h waits (answered page requests)
+    → (asked.hart ≡ h → asked.waits ≡ waits → ⊥) → IsOut h waits requests → IsOut h waits (requests_without page requests)
 out-answered h waits page asked [] apart e other out = absurd out
 out-answered h waits page asked (first ∷ requests) apart e other out = by (λ e. out-answered h waits page asked requests apart.1 e other) (same_page page first.page) refl e out where
-  by : (request_for page requests ≡ Some asked → IsOut h waits requests → IsOut h waits (answered page requests)) → (b : Bool) → same_page page first.page ≡ b
+  by : (request_for page requests ≡ Some asked → IsOut h waits requests → IsOut h waits (requests_without page requests)) → (b : Bool) → same_page page first.page ≡ b
       → cond b (Some first) (request_for page requests) ≡ Some asked → IsOut h waits (first ∷ requests)
-      → IsOut h waits (cond (not b) (first ∷ answered page requests) (answered page requests))
+      → IsOut h waits (cond (not b) (first ∷ requests_without page requests) (requests_without page requests))
   by rest true s e (inl here) = let is : first ≡ asked = same_Some _ _ e in
       absurd (other (ap (λ a. a.hart) (sym is) ∙ here.0) (ap (λ a. a.waits) (sym is) ∙ here.1))
   by rest true s e (inr out) =
@@ -153,15 +154,15 @@ waiting-asked harts old asked requests own all =
 -- a hart whose request ends is awake
 pub waiting-answered : (harts : Harts) (old : HartView) (asked : Asked) (requests : List Asked) → hart_in harts asked.hart ≡ Some old
     → AreRequestsApart requests → request_for asked.page requests ≡ Some asked
-    → AreWaiting harts requests → AreWaiting (slice_set harts asked.hart (Some (awake asked.waits old))) (answered asked.page requests)
+    → AreWaiting harts requests → AreWaiting (slice_set harts asked.hart (Some (awake asked.waits old))) (requests_without asked.page requests)
 waiting-answered harts old asked requests own apart is all =
-    waiting-set harts asked.hart old (awake asked.waits old) requests (answered asked.page requests) own
+    waiting-set harts asked.hart old (awake asked.waits old) requests (requests_without asked.page requests) own
     (λ n waits e out. out-answered n waits asked.page asked requests apart is (λ same w. no n e same) out) all
     (by asked.waits refl (all asked.hart old own)) where
       no : (n : ℕ) → (n == asked.hart) ≡ false → asked.hart ≡ n → ⊥
       no n e same = let never : true ≡ false = sym (eq-eqb n asked.hart (sym same)) ∙ e in cc
 
-      by : (waits : Waits) → asked.waits ≡ waits → HasAsked asked.hart requests old → HasAsked asked.hart (answered asked.page requests) (awake waits old)
+      by : (waits : Waits) → asked.waits ≡ waits → HasAsked asked.hart requests old → HasAsked asked.hart (requests_without asked.page requests) (awake waits old)
       by Step w was = record {
         step = λ s. let never : ⊥ = cc in absurd never;
         drain = λ d. out-answered asked.hart Drain asked.page asked requests apart is (λ same v. let never : (let x : Waits = Step in x) ≡ Drain = sym w ∙ v in cc) (was.drain d);

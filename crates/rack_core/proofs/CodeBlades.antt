@@ -1,10 +1,10 @@
 -- The code lets a compute blade of the rack act: it does what the definitions say, and the rack keeps its shape.
-use Rattle.std.proofs.Common.{◌≡◌, refl, sym, ap, subst, ◌∙◌, ℕ, ◌<◌, ◌==◌, Bool, true, false, List, [], ◌∷◌, length, slice_get, slice_set, Option, Some, None, arith, eqb-true, zero, suc, get_or}
+use Rattle.std.proofs.Common.{◌≡◌, refl, sym, ap, subst, ◌∙◌, ℕ, ◌<◌, ◌==◌, Bool, true, false, List, [], ◌∷◌, length, slice_get, slice_set, Option, Some, None, eqb-true, zero, suc, get_or}
 use Rattle.std.specs.Prelude.{IfSome, IsSome, IsSomeAnd, OnOk, Result, Ok, Err}
 use Rattle.std.specs.List.{AllByRecursion}
 use Rattle.std.proofs.lemmas.Bool.{eq-eqb}
 use Rattle.std.proofs.lemmas.List.{length-set}
-use Rattle.std.proofs.lemmas.Option.{same_Some, none-some}
+use Rattle.std.proofs.lemmas.Option.{same_Some, none-some, slice_get-get_or}
 use Rattle.mind_base.specs.Fit.{IsFitThread}
 use Rattle.mind_base.specs.declared.links.LinkKind.TheVariants.{Up}
 use Rattle.mind_base.specs.declared.notes.Note.{Note}
@@ -13,12 +13,12 @@ use Rattle.mind_base.specs.declared.plans.ThreadPlan.{ThreadPlan}
 use Rattle.wire_msg.specs.WellFormed.{FieldsAgree}
 use Rattle.wire_msg.specs.declared.msgs.Msg.{Msg}
 use Rattle.compute_blade.specs.Actions.{IsActions}
-use Rattle.compute_blade.specs.Blade.{BladeView, Effect, Did, DidSome, Keeps, HasSpent, hart_of}
+use Rattle.compute_blade.specs.Blade.{BladeView, BladeEffect, Did, DidSome, StaysBlade, HasSpent, hart_of}
 use Rattle.compute_blade.specs.declared.kept.Asked.{Asked}
 use Rattle.rack_net.specs.Net.{IsNet, NetView}
 use Rattle.rack_core.specs.Calls.{HasSpentHart, Notes}
 use Rattle.rack_core.specs.Events.{BladeDoes, Acts, ActsWith, HartDoes, SendsAll, on}
-use Rattle.rack_core.specs.Rack.{RackView, with_blade, with_net}
+use Rattle.rack_core.specs.Rack.{RackView, with_blade_at, with_net}
 use Rattle.rack_core.specs.Shape.{IsShaped, IsBladeOf}
 use Rattle.rack_core.proofs.Lookups.{slice_get-set, slice_get-set_other}
 use Rattle.rack_core.proofs.Sending.{as-many, sent-agrees}
@@ -30,39 +30,39 @@ pub record Went (c : ℕ) (blade after : BladeView) (sent : List Msg) (old new :
   pub there : slice_get old.blades c ≡ Some blade
   pub net : NetView
   pub sends : SendsAll (on Up c sent) old.net net
-  pub became : new ≡ with_net net (with_blade c after old)
+  pub became : new ≡ with_net net (with_blade_at c after old)
 
-did-acts : (c : ℕ) (e : Effect) (blade after : BladeView) (sent : List Msg) (old new : RackView) (notes notes' : List Note)
+did-acts : (c : ℕ) (e : BladeEffect) (blade after : BladeView) (sent : List Msg) (old new : RackView) (notes notes' : List Note)
     → Went c blade after sent old new → Did e after [] sent notes notes' → Notes (Rattle.rack_core.specs.Events.BladeActs c e old new) notes notes'
 did-acts c e blade after sent old new notes notes' went done = (
   e.noted,
   record {
     net = went.net;
     sent = subst (λ s. SendsAll (on Up c s) old.net went.net) done.1 went.sends;
-    after = went.became ∙ ap (λ b. with_net went.net (with_blade c b old)) done.0;
+    after = went.became ∙ ap (λ b. with_net went.net (with_blade_at c b old)) done.0;
     notes = refl;
   },
   done.2,
 )
 
-pub blade-did : (act : BladeView → Option Effect) (c : ℕ) (blade after : BladeView) (sent : List Msg) (old new : RackView) (notes notes' : List Note)
+pub blade-did : (act : BladeView → Option BladeEffect) (c : ℕ) (blade after : BladeView) (sent : List Msg) (old new : RackView) (notes notes' : List Note)
     → Went c blade after sent old new → DidSome (act blade) after [] sent notes notes' → Notes (BladeDoes c act old new) notes notes'
 blade-did act c blade after sent old new notes notes' went done = by (act blade) refl done where
-  by : (e : Option Effect) → act blade ≡ e → DidSome e after [] sent notes notes' → Notes (BladeDoes c act old new) notes notes'
+  by : (e : Option BladeEffect) → act blade ≡ e → DidSome e after [] sent notes notes' → Notes (BladeDoes c act old new) notes notes'
   by None is d = absurd d
   by (Some e) is d =
       let acts = did-acts c e blade after sent old new notes notes' went d in
       (acts.0, subst (λ b. ActsWith b c act old new acts.0) (sym went.there) (subst (λ x. Acts c x old new acts.0) (sym is) acts.1), acts.2)
 
 -- it is the blade of a hart
-pub hart-did : (act : BladeView → Option Effect) (h c : ℕ) (thread : ThreadPlan) (old new : RackView) (notes notes' : List Note)
+pub hart-did : (act : BladeView → Option BladeEffect) (h c : ℕ) (thread : ThreadPlan) (old new : RackView) (notes notes' : List Note)
     → slice_get old.plan.threads h ≡ Some thread → c ≡ thread.blade → Notes (BladeDoes c act old new) notes notes'
     → Notes (HartDoes (slice_get old.plan.threads h) act old new) notes notes'
 hart-did act h c thread old new notes notes' planned is done =
     (done.0, subst (λ t. HartDoes t act old new done.0) (sym planned) (subst (λ k. BladeDoes k act old new done.0) is done.1), done.2)
 
 -- what was sent may be sent
-pub did-agrees : (act : Option Effect) (blade after : BladeView) (sent : List Msg) (notes notes' : List Note) → IfSome act (IsActions blade)
+pub did-agrees : (act : Option BladeEffect) (blade after : BladeView) (sent : List Msg) (notes notes' : List Note) → IfSome act (IsActions blade)
     → DidSome act after [] sent notes notes' → AllByRecursion FieldsAgree sent
 did-agrees None blade after sent notes notes' is done = absurd done
 did-agrees (Some e) blade after sent notes notes' is done = subst (AllByRecursion FieldsAgree) (sym done.1) (sent-agrees blade e is)
@@ -76,14 +76,9 @@ pub record IsAtPlace (inside now : RackView) (i c : ℕ) (blade : BladeView) : T
   pub value : blade ≡ get_or inside.blades i blade
   pub within : c < length now.blades
 
-pub read-within : {X : Type 0} (xs : List X) (i : ℕ) (d : X) → i < length xs → slice_get xs i ≡ Some (get_or xs i d)
-read-within [] i d lt = absurd (omega (arith, lt))
-read-within (x ∷ xs) zero d lt = refl
-read-within (x ∷ xs) (suc i) d lt = read-within xs i d (omega (arith, lt))
-
 pub there : (inside now : RackView) (i c : ℕ) (blade : BladeView) → IsAtPlace inside now i c blade → slice_get now.blades c ≡ Some blade
 there inside now i c blade r =
-    read-within now.blades c blade r.within
+    slice_get-get_or now.blades c blade r.within
     ∙ ap Some (sym (r.value ∙ ap (λ k. get_or inside.blades k blade) r.index ∙ ap (λ (rack : RackView). get_or rack.blades c blade) r.view))
 
 -- it became this one, and what it sent went onto its link
@@ -95,7 +90,7 @@ went inside now new i c blade after sent r done = record {
   net = done.0;
   sends = subst (λ (rack : RackView). SendsAll (on Up c sent) rack.net done.0) r.view done.1;
   became = done.2 ∙ ap (λ k. with_net done.0 (record inside { blades = slice_set inside.blades k after })) r.index
-      ∙ ap (λ (rack : RackView). with_net done.0 (with_blade c after rack)) r.view;
+      ∙ ap (λ (rack : RackView). with_net done.0 (with_blade_at c after rack)) r.view;
 }
 
 -- it gave its last tag
@@ -121,7 +116,7 @@ both-ok (Err e) f p q = tt
 -- ---- the shape stays
 
 -- the rack has the same plan, as many links, and its blades and memory blades are those of the plan
-pub shape-went : (c : ℕ) (blade after : BladeView) (sent : List Msg) (old new : RackView) → Went c blade after sent old new → Keeps blade after → IsNet new.net → IsShaped old → IsShaped new
+pub shape-went : (c : ℕ) (blade after : BladeView) (sent : List Msg) (old new : RackView) → Went c blade after sent old new → StaysBlade blade after → IsNet new.net → IsShaped old → IsShaped new
 shape-went c blade after sent old new went keeps net shape =
     let many = as-many (on Up c sent) old.net went.net went.sends in
     subst IsShaped (sym went.became) (record {
@@ -193,3 +188,37 @@ number-within c rack shape lt = subst (λ n. c < n) (sym shape.blades) lt
 pub some-spent : (old new : BladeView) (asked : Option Asked) → IsSomeAnd asked (λ a. HasSpent a.hart old × HasSpent a.hart new) → (h : ℕ) × HasSpent h new
 some-spent old new None spent = absurd spent
 some-spent old new (Some asked) spent = (asked.hart, spent.1)
+
+-- ---- a call of a blade in the rack
+
+-- the blade of hart h, and blade c, as they were read
+pub hart-at : (inside now : RackView) (i c h : ℕ) (blade : BladeView) → inside ≡ now → i ≡ c → blade ≡ get_or inside.blades i blade → IsShaped now → IsBladeAt now h c → IsAtPlace inside now i c blade
+hart-at inside now i c h blade view index value shape found = record { view = view; index = index; value = value; within = blade-within now h c shape found }
+
+pub number-at : (inside now : RackView) (i c : ℕ) (blade : BladeView) → inside ≡ now → i ≡ c → blade ≡ get_or inside.blades i blade → IsShaped now → c < length now.plan.frames → IsAtPlace inside now i c blade
+number-at inside now i c blade view index value shape lt = record { view = view; index = index; value = value; within = number-within c now shape lt }
+
+-- what was sent stands in a list that was empty
+pub did-sent : (act : Option BladeEffect) (after : BladeView) (none all sent : List Msg) (notes notes' : List Note) → none ≡ [] → sent ≡ all → DidSome act after none all notes notes'
+    → DidSome act after [] sent notes notes'
+did-sent act after none all sent notes notes' empty is did = subst (λ s. DidSome act after [] s notes notes') (sym is) (subst (λ s. DidSome act after s all notes notes') empty did)
+
+-- what the blade sent went onto its link, and the rack is new
+abbrev pub SentUp : RackView → ℕ → ℕ → BladeView → List Msg → RackView → Type 0
+SentUp inside i c after sent new = (net : NetView) × SendsAll (on Up c sent) inside.net net × (new ≡ with_net net (record inside { blades = slice_set inside.blades i after }))
+
+pub blade-acted : {A E : Type 0} (act : BladeView → Option BladeEffect) (inside now new : RackView) (i c : ℕ) (blade after : BladeView) (sent : List Msg) (notes notes' : List Note) (r : Result A E)
+    → IsAtPlace inside now i c blade → DidSome (act blade) after [] sent notes notes' → OnOk r (SentUp inside i c after sent new) → OnOk r (Notes (BladeDoes c act now new) notes notes')
+blade-acted act inside now new i c blade after sent notes notes' r at did sends =
+    when-ok r (λ done. blade-did act c blade after sent now new notes notes' (went inside now new i c blade after sent at done) did) sends
+
+pub hart-acted : {A E : Type 0} (act : BladeView → Option BladeEffect) (h : ℕ) (inside now new : RackView) (i c : ℕ) (blade after : BladeView) (sent : List Msg) (notes notes' : List Note) (r : Result A E)
+    → IsAtPlace inside now i c blade → IsBladeAt now h c → DidSome (act blade) after [] sent notes notes' → OnOk r (SentUp inside i c after sent new)
+    → OnOk r (Notes (HartDoes (slice_get now.plan.threads h) act now new) notes notes')
+hart-acted act h inside now new i c blade after sent notes notes' r at found did sends =
+    when-ok r (λ done. hart-did act h c found.0 now new notes notes' found.1 found.2 done) (blade-acted act inside now new i c blade after sent notes notes' r at did sends)
+
+pub shape-acted : {A E : Type 0} (inside now new : RackView) (i c : ℕ) (blade after : BladeView) (sent : List Msg) (r : Result A E) → IsAtPlace inside now i c blade → StaysBlade blade after
+    → (IsNet inside.net → IsNet new.net) → IsShaped now → OnOk r (SentUp inside i c after sent new) → OnOk r (IsShaped new)
+shape-acted inside now new i c blade after sent r at keeps net shape sends =
+    when-ok r (λ done. shape-went c blade after sent now new (went inside now new i c blade after sent at done) keeps (net (subst (λ (x : RackView). IsNet x.net) (sym at.view) shape.net)) shape) sends

@@ -23,6 +23,7 @@ use Rattle.rack_core.specs.SwitchMoves.{AreAsked, AsksAt, with_front}
 use Rattle.rack_core.proofs.BladeDelivers.{other_link, flip}
 use Rattle.rack_core.specs.Handing.{AsksOn, AskOn}
 use Rattle.rack_core.proofs.Handing.{After, handed_over}
+use Rattle.rack_core.proofs.Lists.{all_front}
 
 -- ---- messages one after another
 
@@ -94,10 +95,6 @@ gave_on From c taken old net flat fifo only = let name : LinkName = record { kin
 }
 
 -- ---- what is asked of memory blades
-
-all_front : {X : Type 0} (P : X → Type 0) (xs ys : List X) → AllByRecursion P (xs ++ ys) → AllByRecursion P xs × AllByRecursion P ys
-all_front P [] ys all = (tt, all)
-all_front P (x ∷ xs) ys all = let rest = all_front P xs ys all.1 in ((all.0, rest.0), rest.1)
 
 all_unit : (places : PageView → Option (ℕ × ℕ)) (number : ℕ) (messages : List Msg)
     → AskOn Up places number messages × (AskOn Down places number messages × AskOn From places number messages)

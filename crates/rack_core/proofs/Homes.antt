@@ -4,7 +4,7 @@ use Rattle.std.specs.List.{AllByRecursion}
 use Rattle.std.proofs.lemmas.Option.{same_Some, none-some}
 use Rattle.mind_base.specs.Page.{PageView}
 use Rattle.mind_base.specs.Span.{SpanView, InSpan, in_span}
-use Rattle.mind_base.specs.Home.{place_in, home_from, home_of}
+use Rattle.mind_base.specs.Home.{number_in_homes, home_from, home_of}
 use Rattle.mind_base.specs.Fit.{IsFitMap}
 use Rattle.mind_base.specs.Permission.{permission_from}
 use Rattle.mind_base.specs.declared.commands.Perm.{Perm}
@@ -24,22 +24,22 @@ record IsHere (s : SpanView) (page : PageView) (n : ℕ) : Type 0 where
 
 record IsLater (s : SpanView) (spans : List SpanView) (page : PageView) (n : ℕ) : Type 0 where
   m : ℕ
-  place : place_in spans page ≡ Some m
+  place : number_in_homes spans page ≡ Some m
   is : n ≡ s.pages + m
 
-later : (s : SpanView) (spans : List SpanView) (page : PageView) (n : ℕ) → shifted s.pages (place_in spans page) ≡ Some n → IsLater s spans page n
-later s spans page n e = by (place_in spans page) refl e where
-  by : (o : Option ℕ) → place_in spans page ≡ o → shifted s.pages o ≡ Some n → IsLater s spans page n
+later : (s : SpanView) (spans : List SpanView) (page : PageView) (n : ℕ) → shifted s.pages (number_in_homes spans page) ≡ Some n → IsLater s spans page n
+later s spans page n e = by (number_in_homes spans page) refl e where
+  by : (o : Option ℕ) → number_in_homes spans page ≡ o → shifted s.pages o ≡ Some n → IsLater s spans page n
   by None is e = absurd (none-some n e)
   by (Some m) is e = record { m = m; place = is; is = sym (same_Some _ _ e) }
 
-split : (s : SpanView) (spans : List SpanView) (page : PageView) (n : ℕ) → place_in (s ∷ spans) page ≡ Some n → IsHere s page n ⊎ IsLater s spans page n
+split : (s : SpanView) (spans : List SpanView) (page : PageView) (n : ℕ) → number_in_homes (s ∷ spans) page ≡ Some n → IsHere s page n ⊎ IsLater s spans page n
 split s spans page n e = by (in_span s page) refl e where
-  by : (b : Bool) → in_span s page ≡ b → cond b (Some (page.number - s.base)) (shifted s.pages (place_in spans page)) ≡ Some n → IsHere s page n ⊎ IsLater s spans page n
+  by : (b : Bool) → in_span s page ≡ b → cond b (Some (page.number - s.base)) (shifted s.pages (number_in_homes spans page)) ≡ Some n → IsHere s page n ⊎ IsLater s spans page n
   by true is e = inl (record { has = in_span-has s page is; is = same_Some _ _ e })
   by false is e = inr (later s spans page n e)
 
-pub place-below : (spans : List SpanView) (page : PageView) (n : ℕ) → place_in spans page ≡ Some n → n < pages_of spans
+pub place-below : (spans : List SpanView) (page : PageView) (n : ℕ) → number_in_homes spans page ≡ Some n → n < pages_of spans
 place-below [] page n e = absurd (none-some n e)
 place-below (s ∷ spans) page n e = let total = pages_of-cons s spans in elim (split s spans page n e) [
   | inl here ↦ (let below = here.has.below in let from = here.has.from in let is = here.is in omega arith)
@@ -55,7 +55,7 @@ both-here s a b n x y = same-page a b (x.has.domain ∙ sym y.has.domain) (omega
 here-later : (s : SpanView) (spans : List SpanView) (a b : PageView) (n : ℕ) → IsHere s a n → IsLater s spans b n → ⊥
 here-later s spans a b n x y = omega (arith, x.has.from, x.has.below, x.is, y.is)
 
-pub one-place : (spans : List SpanView) (a b : PageView) (n : ℕ) → place_in spans a ≡ Some n → place_in spans b ≡ Some n → a ≡ b
+pub one-place : (spans : List SpanView) (a b : PageView) (n : ℕ) → number_in_homes spans a ≡ Some n → number_in_homes spans b ≡ Some n → a ≡ b
 one-place [] a b n ea eb = absurd (none-some n ea)
 one-place (s ∷ spans) a b n ea eb = elim (split s spans a n ea) [
   | inl x ↦ elim (split s spans b n eb) [ inl y ↦ both-here s a b n x y | inr y ↦ absurd (here-later s spans a b n x y) ]
@@ -69,12 +69,12 @@ one-place (s ∷ spans) a b n ea eb = elim (split s spans a n ea) [
 
 record IsAt (k : ℕ) (memory : MemoryPlan) (page : PageView) (home : ℕ × ℕ) : Type 0 where
   blade : home.0 ≡ k
-  place : place_in memory.homes page ≡ Some home.1
+  place : number_in_homes memory.homes page ≡ Some home.1
 
 at-or-after : (k : ℕ) (memory : MemoryPlan) (memories : List MemoryPlan) (page : PageView) (home : ℕ × ℕ) → home_from k (memory ∷ memories) page ≡ Some home
     → IsAt k memory page home ⊎ (home_from (k + 1) memories page ≡ Some home)
-at-or-after k memory memories page home e = by (place_in memory.homes page) refl e where
-  by : (o : Option ℕ) → place_in memory.homes page ≡ o → home_step_value k o (home_from (k + 1) memories page) ≡ Some home
+at-or-after k memory memories page home e = by (number_in_homes memory.homes page) refl e where
+  by : (o : Option ℕ) → number_in_homes memory.homes page ≡ o → home_step_value k o (home_from (k + 1) memories page) ≡ Some home
       → IsAt k memory page home ⊎ (home_from (k + 1) memories page ≡ Some home)
   by None is e = inr e
   by (Some n) is e = let same : (k, n) ≡ home = same_Some _ _ e in

@@ -32,6 +32,7 @@ pub mod CodeSwitch
 pub mod Delivering
 pub mod Handing
 pub mod Homes
+pub mod Lists
 pub mod Lookups
 pub mod MayHand
 pub mod MemoryHanded
@@ -47,8 +48,10 @@ pub mod RackTells
 pub mod Released
 pub mod ReleasedBlades
 pub mod ReleasedSwitch
+pub mod Resuming
 pub mod Sending
 pub mod Served
+pub mod Serving
 pub mod StandAnswers
 pub mod StandBlades
 pub mod StandBytes

@@ -7,15 +7,16 @@ use Rattle.std.specs.Map.{keys_of, set_value}
 use Rattle.std.proofs.lemmas.Map.{keys-set_value, length-set_value}
 use Rattle.std.proofs.lemmas.Bool.{eqb-true, eq-eqb}
 use Rattle.mind_base.specs.Page.{PageView}
-use Rattle.page_cache.specs.PageCache.{CacheView, IsPageCache, same_page, frame_of, without, with_first, with_change, entries_after_put, put_of}
+use Rattle.page_cache.specs.PageCache.{CacheView, IsPageCache, same_page, frame_of, without_page, with_first, with_change, entries_after_put, put_of}
 use Rattle.page_cache.specs.declared.frames.Frame.{Frame}
 use Rattle.page_cache.specs.declared.frames.Put.{Put}
 use Rattle.page_cache.specs.declared.frames.Put.TheVariants.{Fresh, Replaced, Pushed}
 use Rattle.page_cache.proofs.Laws.{same_page-true, same_page-refl}
 use Rattle.page_cache.proofs.CallerLemmas.{same_page-is_equivalence, frame_of-without, frame_of-with_change, frame_of-with_first, frame_of-first, put_of-Fresh, put_of-Replaced, put_of-Pushed}
-use Rattle.compute_blade.specs.Blade.{is_for, is_asked, request_for, answered}
+use Rattle.compute_blade.specs.Blade.{is_for, is_asked, request_for, requests_without}
 use Rattle.compute_blade.specs.Harts.{holding}
 use Rattle.compute_blade.specs.declared.kept.Asked.{Asked}
+use Rattle.page_cache.proofs.CallerLemmas.{length-held}
 
 -- ---- frames
 
@@ -27,7 +28,7 @@ flipped page other x y = ap (λ b. cond b x y) (same_page-is_equivalence.symm pa
 
 -- a page that is taken out is held no more
 pub found-without : (page : PageView) (entries : Entries) → IsDistinct same_page (keys_of entries) → (other : PageView)
-    → frame_of other (without page entries) ≡ (if same_page other page then None else frame_of other entries)
+    → frame_of other (without_page page entries) ≡ (if same_page other page then None else frame_of other entries)
 found-without page entries h other = frame_of-without page other entries h ∙ flipped page other None (frame_of other entries)
 
 -- a page that goes first, and one whose frame changes in its place, has the changed frame
@@ -59,28 +60,28 @@ found-used page entries h other = frame_of-with_first (λ frame. frame) page oth
 -- ---- caches stay caches
 
 -- what is true of all keys is true of those that are left
-keys-without : (P : PageView → Type 0) (page : PageView) (entries : Entries) → AllByRecursion P (keys_of entries) → AllByRecursion P (keys_of (without page entries))
+keys-without : (P : PageView → Type 0) (page : PageView) (entries : Entries) → AllByRecursion P (keys_of entries) → AllByRecursion P (keys_of (without_page page entries))
 keys-without P page [] h = tt
 keys-without P page (entry ∷ entries) h = by (keys-without P page entries h.1) (same_page page entry.0) where
-  by : AllByRecursion P (keys_of (without page entries)) → (b : Bool) → AllByRecursion P (keys_of (cond b entries (entry ∷ without page entries)))
+  by : AllByRecursion P (keys_of (without_page page entries)) → (b : Bool) → AllByRecursion P (keys_of (cond b entries (entry ∷ without_page page entries)))
   by rest true = h.1
   by rest false = (h.0, rest)
 
-distinct-without : (page : PageView) (entries : Entries) → IsDistinct same_page (keys_of entries) → IsDistinct same_page (keys_of (without page entries))
+distinct-without : (page : PageView) (entries : Entries) → IsDistinct same_page (keys_of entries) → IsDistinct same_page (keys_of (without_page page entries))
 unfolding IsDistinct
 distinct-without page [] h = tt
 distinct-without page (entry ∷ entries) h = by (distinct-without page entries h.1) (same_page page entry.0) where
-  by : IsDistinct same_page (keys_of (without page entries)) → (b : Bool) → IsDistinct same_page (keys_of (cond b entries (entry ∷ without page entries)))
+  by : IsDistinct same_page (keys_of (without_page page entries)) → (b : Bool) → IsDistinct same_page (keys_of (cond b entries (entry ∷ without_page page entries)))
   by rest true = h.1
   by rest false = (keys-without (λ y. same_page entry.0 y ≡ false) page entries h.0, rest)
 
 -- the page that is taken out is none of those left
-apart-without : (page : PageView) (entries : Entries) → IsDistinct same_page (keys_of entries) → AllByRecursion (λ y. same_page page y ≡ false) (keys_of (without page entries))
+apart-without : (page : PageView) (entries : Entries) → IsDistinct same_page (keys_of entries) → AllByRecursion (λ y. same_page page y ≡ false) (keys_of (without_page page entries))
 unfolding IsDistinct
 apart-without page [] h = tt
 apart-without page (entry ∷ entries) h = by (apart-without page entries h.1) (same_page page entry.0) refl where
-  by : AllByRecursion (λ y. same_page page y ≡ false) (keys_of (without page entries)) → (b : Bool) → same_page page entry.0 ≡ b
-      → AllByRecursion (λ y. same_page page y ≡ false) (keys_of (cond b entries (entry ∷ without page entries)))
+  by : AllByRecursion (λ y. same_page page y ≡ false) (keys_of (without_page page entries)) → (b : Bool) → same_page page entry.0 ≡ b
+      → AllByRecursion (λ y. same_page page y ≡ false) (keys_of (cond b entries (entry ∷ without_page page entries)))
   by rest true e = subst (λ q. AllByRecursion (λ y. same_page q y ≡ false) (keys_of entries)) (sym (same_page-true page entry.0 e)) h.0
   by rest false e = (e, rest)
 
@@ -93,23 +94,14 @@ absent_apart page (entry ∷ entries) h = by (absent_apart page entries) (same_p
   by rest true e n = let never : ⊥ = cc in absurd never
   by rest false e n = (e, rest n)
 
--- a page that is held is one of the entries
-length-held : (page : PageView) (frame : Frame) (entries : Entries) → frame_of page entries ≡ Some frame → length (without page entries) + 1 ≡ length entries
-length-held page frame [] h = let never : ⊥ = cc in absurd never
-length-held page frame (entry ∷ entries) h = by (length-held page frame entries) (same_page page entry.0) h where
-  by : (frame_of page entries ≡ Some frame → length (without page entries) + 1 ≡ length entries) → (b : Bool)
-      → cond b (Some entry.1) (frame_of page entries) ≡ Some frame → length (cond b entries (entry ∷ without page entries)) + 1 ≡ length (entry ∷ entries)
-  by rest true e = omega arith
-  by rest false e = omega (arith, rest e)
-
-length-without : (page : PageView) (entries : Entries) → length (without page entries) ≤ length entries
+length-without : (page : PageView) (entries : Entries) → length (without_page page entries) ≤ length entries
 length-without page [] = omega arith
 length-without page (entry ∷ entries) = by (length-without page entries) (same_page page entry.0) where
-  by : length (without page entries) ≤ length entries → (b : Bool) → length (cond b entries (entry ∷ without page entries)) ≤ length (entry ∷ entries)
+  by : length (without_page page entries) ≤ length entries → (b : Bool) → length (cond b entries (entry ∷ without_page page entries)) ≤ length (entry ∷ entries)
   by rest true = omega arith
   by rest false = omega (arith, rest)
 
-pub cache-without : (page : PageView) (cache : CacheView) → IsPageCache cache → IsPageCache (holding cache (without page cache.entries))
+pub cache-without : (page : PageView) (cache : CacheView) → IsPageCache cache → IsPageCache (holding cache (without_page page cache.entries))
 cache-without page cache h =
     let fits : length cache.entries ≤ cache.frames = h.fits in
     record {
@@ -120,7 +112,7 @@ cache-without page cache h =
 
 -- a page that was taken out goes first
 first_again : (cache : CacheView) (page : PageView) (old frame : Frame) → IsPageCache cache → frame_of page cache.entries ≡ Some old
-    → IsPageCache (holding cache ((page, frame) ∷ without page cache.entries))
+    → IsPageCache (holding cache ((page, frame) ∷ without_page page cache.entries))
 unfolding IsDistinct
 first_again cache page old frame h e =
     let fits : length cache.entries ≤ cache.frames = h.fits in
@@ -132,7 +124,7 @@ first_again cache page old frame h e =
 
 pub cache-with_first : (change : Frame → Frame) (page : PageView) (cache : CacheView) → IsPageCache cache → IsPageCache (holding cache (with_first change page cache.entries))
 cache-with_first change page cache h = by (frame_of page cache.entries) refl where
-  by : (f : Option Frame) → frame_of page cache.entries ≡ f → IsPageCache (holding cache (option_map_or (λ frame. (page, change frame) ∷ without page cache.entries) f cache.entries))
+  by : (f : Option Frame) → frame_of page cache.entries ≡ f → IsPageCache (holding cache (option_map_or (λ frame. (page, change frame) ∷ without_page page cache.entries) f cache.entries))
   by None e = h
   by (Some frame) e = first_again cache page frame (change frame) h e
 
@@ -230,7 +222,7 @@ put-shape cache page frame is Fresh e =
     let h = put_of-Fresh cache page frame e in
     let some : 0 < cache.frames = is.some in
     let all : (page, frame) ∷ take (cache.frames - 1) cache.entries ≡ (page, frame) ∷ cache.entries =
-    sym (ap (λ f. option_map_or (λ old. (page, frame) ∷ without page cache.entries) f ((page, frame) ∷ take (cache.frames - 1) cache.entries)) h.0) ∙ h.1 in
+    sym (ap (λ f. option_map_or (λ old. (page, frame) ∷ without_page page cache.entries) f ((page, frame) ∷ take (cache.frames - 1) cache.entries)) h.0) ∙ h.1 in
     subst (λ es. IsPageCache (holding cache es)) (sym h.1) (record {
       some = is.some;
       fits = omega (arith, ap length all, length-take (cache.frames - 1) cache.entries);
@@ -285,22 +277,22 @@ request-more (first ∷ requests) asked h other =
 
 -- the request for a page ends
 pub request-answered : (page : PageView) (requests : List Asked) (other : PageView)
-    → request_for other (answered page requests) ≡ (if same_page other page then None else request_for other requests)
+    → request_for other (requests_without page requests) ≡ (if same_page other page then None else request_for other requests)
 request-answered page [] other = by (same_page other page) where
   by : (b : Bool) → request_for other [] ≡ (if b then None else request_for other [])
   by true = refl
   by false = refl
 request-answered page (asked ∷ requests) other = by (request-answered page requests other) (same_page page asked.page) refl (same_page other page) refl where
-  by : request_for other (answered page requests) ≡ (if same_page other page then None else request_for other requests)
+  by : request_for other (requests_without page requests) ≡ (if same_page other page then None else request_for other requests)
       → (b : Bool) → same_page page asked.page ≡ b → (c : Bool) → same_page other page ≡ c
-      → request_for other (cond (not b) (asked ∷ answered page requests) (answered page requests)) ≡ (if c then None else request_for other (asked ∷ requests))
+      → request_for other (cond (not b) (asked ∷ requests_without page requests) (requests_without page requests)) ≡ (if c then None else request_for other (asked ∷ requests))
   by rest true e true f = rest ∙ ap (λ c. if c then None else request_for other requests) f
   by rest true e false f =
       let away : same_page other asked.page ≡ false = ap (same_page other) (sym (same_page-true page asked.page e)) ∙ f in
       rest ∙ ap (λ c. if c then None else request_for other requests) f ∙ sym (ap (λ b. cond b (Some asked) (request_for other requests)) away)
   by rest false e true f =
       let away : same_page other asked.page ≡ false = ap (λ q. same_page q asked.page) (same_page-true other page f) ∙ e in
-      ap (λ b. cond b (Some asked) (request_for other (answered page requests))) away
+      ap (λ b. cond b (Some asked) (request_for other (requests_without page requests))) away
       ∙ rest ∙ ap (λ c. if c then None else request_for other requests) f
   by rest false e false f = ap (cond (same_page other asked.page) (Some asked)) (rest ∙ ap (λ c. if c then None else request_for other requests) f)
 

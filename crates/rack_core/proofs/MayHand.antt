@@ -1,21 +1,18 @@
 -- A message that a link gave may be handed to the node at its end; and what is fetched is allowed.
-use Rattle.std.proofs.Common.{◌≡◌, refl, sym, ap, subst, ◌∙◌, ℕ, ◌<◌, Bool, true, false, List, [], ◌∷◌, ◌++◌, length, slice_get, Some, suc}
-use Rattle.std.specs.List.{AllByRecursion}
+use Rattle.std.proofs.Common.{◌≡◌, sym, ap, subst, ◌∙◌, ℕ, ◌<◌, true, List, [], ◌∷◌, ◌++◌, length, slice_get, Some}
 use Rattle.mind_base.specs.Page.{PageView}
-use Rattle.mind_base.specs.declared.commands.Perm.{Perm}
-use Rattle.mind_base.specs.declared.commands.Perm.TheVariants.{No, R, Rw}
 use Rattle.mind_base.specs.declared.links.LinkKind.{LinkKind}
 use Rattle.mind_base.specs.declared.links.LinkKind.TheVariants.{Up, Down, To, From}
 use Rattle.mind_base.specs.declared.links.LinkName.{LinkName}
+use Rattle.mind_base.specs.Permission.{allows}
 use Rattle.page_image.specs.PageImage.{PageImageView}
 use Rattle.protect_table.specs.Protect.{permission_at}
-use Rattle.request_list.specs.Requests.{AreApart}
+use Rattle.request_list.specs.Requests.{AskOncePerPage}
 use Rattle.request_list.specs.declared.requests.Request.{Request}
 use Rattle.wire_msg.specs.declared.msgs.Msg.{Msg}
 use Rattle.switch_core.specs.Sending.{AreFetchesAllowed}
 use Rattle.switch_core.specs.Switch.{SwitchView, place_in}
-use Rattle.switch_core.specs.Treating as treating
-use Rattle.coherence.specs.Facts.{IsCoherent, AreFetches, AreUps, allows}
+use Rattle.coherence.specs.Facts.{IsCoherent, AreFetches, AreUps}
 use Rattle.coherence.specs.World.{World}
 use Rattle.coherence.proofs.Keys.{put-here}
 use Rattle.rack_core.specs.Calls.{MayBeHanded, HasLink}
@@ -30,6 +27,7 @@ use Rattle.rack_core.proofs.MemoryHanded.{asked_for}
 use Rattle.rack_core.proofs.SwitchHanded.{shows_front}
 use Rattle.rack_core.proofs.SwitchMay.{may_come_up, may_come_from}
 use Rattle.rack_core.proofs.SwitchRequests.{wanted-got, wanted_of}
+use Rattle.rack_core.proofs.Lists.{all-from_got}
 
 -- ---- the node at the end of the link
 
@@ -61,28 +59,16 @@ may-hand link message rest rack shape of_plan handing = may link.kind link.numbe
 
 -- ---- what is fetched
 
-same-allows : (write : Bool) (perm : Perm) → allows write perm ≡ true → treating.allows write perm ≡ true
-same-allows true No is = is
-same-allows true R is = is
-same-allows true Rw is = is
-same-allows false No is = is
-same-allows false R is = is
-same-allows false Rw is = is
-
-all-got : {X : Type 0} (P : X → Type 0) (all xs : List X) (k : ℕ) → ((i : ℕ) (x : X) → slice_get xs i ≡ Some x → P x) → AllByRecursion P xs
-all-got P all [] k each = tt
-all-got P all (x ∷ xs) k each = (each 0 x refl, all-got P all xs (suc k) (λ i y is. each (suc i) y is))
-
-fetches-allowed : (switch : SwitchView) (w : World) → AreApart switch.requests → Shows w switch → AreFetches w → AreFetchesAllowed switch
-fetches-allowed switch w apart shows fetches = all-got (λ r. r.fetching ≡ true → treating.allows r.write (permission_at switch.protect r.page) ≡ true) switch.requests switch.requests 0 each where
-  each : (i : ℕ) (r : Request) → slice_get switch.requests i ≡ Some r → r.fetching ≡ true → treating.allows r.write (permission_at switch.protect r.page) ≡ true
+fetches-allowed : (switch : SwitchView) (w : World) → AskOncePerPage switch.requests → Shows w switch → AreFetches w → AreFetchesAllowed switch
+fetches-allowed switch w apart shows fetches = all-from_got (λ r. r.fetching ≡ true → allows r.write (permission_at switch.protect r.page) ≡ true) switch.requests each where
+  each : (i : ℕ) (r : Request) → slice_get switch.requests i ≡ Some r → r.fetching ≡ true → allows r.write (permission_at switch.protect r.page) ≡ true
   each i r is fetching =
       let wanted = ap (λ f. f r.blade r.page) shows.wants ∙ wanted-got switch.requests i r apart is in
       let fetch = fetches r.blade r.page (wanted_of r) wanted fetching in
-      same-allows r.write (permission_at switch.protect r.page) (ap (λ f. allows r.write (f r.page)) (sym shows.places.perms) ∙ fetch.allowed)
+      ap (λ f. allows r.write (f r.page)) (sym shows.places.perms) ∙ fetch.allowed
 
 front-fetches : (kind : LinkKind) (number : ℕ) (messages : List Msg) (rack : RackView) (flat : PageView → PageImageView)
-    → IsCoherent (with_front kind number messages (seen rack flat)) → AreApart rack.switch.requests → AreFetchesAllowed rack.switch
+    → IsCoherent (with_front kind number messages (seen rack flat)) → AskOncePerPage rack.switch.requests → AreFetchesAllowed rack.switch
 front-fetches kind number messages rack flat coherent apart =
     fetches-allowed rack.switch (with_front kind number messages (seen rack flat)) apart (shows_front kind number messages rack flat) coherent.fetches
 

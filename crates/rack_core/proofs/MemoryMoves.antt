@@ -13,9 +13,9 @@ use Rattle.memory_blade.specs.MemoryBlade.{IsFor, image_at}
 use Rattle.coherence.specs.Facts.{IsCoherent, AreTos}
 use Rattle.coherence.specs.Moves.{Reads, Writes}
 use Rattle.coherence.specs.World.{World, put}
-use Rattle.rack_core.specs.Events.{answers}
+use Rattle.rack_core.specs.Events.{answer_to_switch}
 use Rattle.rack_core.specs.Seen.{sent_on}
-use Rattle.rack_core.specs.SwitchMoves.{Leads, with_seen_memory}
+use Rattle.rack_core.specs.SwitchMoves.{LeadsByMoves, with_seen_memory}
 use Rattle.rack_core.proofs.SwitchRuns.{one_move}
 
 pub suc-zero : (n : ℕ) → (suc n == 0) ≡ false
@@ -48,7 +48,7 @@ put-same {X} f k x e = fun_ext (λ n. by n (n == k) refl) where
 
 -- an answer goes onto its link alone
 answered : (f : ℕ → List Msg) (number : ℕ) (message : Msg)
-    → (λ memory. f memory ++ sent_on From memory (answers number (Some message))) ≡ put number (f number ++ message ∷ []) f
+    → (λ memory. f memory ++ sent_on From memory (answer_to_switch number (Some message))) ≡ put number (f number ++ message ∷ []) f
 answered f number message = fun_ext (λ n. by n (n == number) refl) where
   by : (n : ℕ) (b : Bool) → (n == number) ≡ b → f n ++ (if b then message ∷ [] else []) ≡ (if b then f number ++ message ∷ [] else f n)
   by n true t = ap (λ k. f k ++ message ∷ []) (eqb-true n number t)
@@ -59,10 +59,10 @@ unanswered f = fun_ext (λ n. append-nil (f n))
 
 reads : (w : World) (number phys : ℕ) (blade : ℕ) (page : PageView) (images : List PageImageView) (behind : List Msg)
     → w.tos number ≡ Read phys (Some blade) page ∷ behind → w.images number ≡ image_at images
-    → Leads w (with_seen_memory number images (Read phys (Some blade) page) behind w)
+    → LeadsByMoves w (with_seen_memory number images (Read phys (Some blade) page) behind w)
 reads w number phys blade page images behind head is =
     let first : Msg = Image (Some blade) page (image_at images phys) in
-    let froms : (λ memory. w.froms memory ++ sent_on From memory (answers number (Some first))) ≡ put number (w.froms number ++ Image (Some blade) page (w.images number phys) ∷ []) w.froms =
+    let froms : (λ memory. w.froms memory ++ sent_on From memory (answer_to_switch number (Some first))) ≡ put number (w.froms number ++ Image (Some blade) page (w.images number phys) ∷ []) w.froms =
     answered w.froms number first ∙ ap (λ f. put number (w.froms number ++ Image (Some blade) page (f phys) ∷ []) w.froms) (sym is) in
     let same : put number (image_at images) w.images ≡ w.images = sym (put-same w.images number (image_at images) is) in
     one_move w (with_seen_memory number images (Read phys (Some blade) page) behind w) (Reads number phys blade page behind) head
@@ -70,7 +70,7 @@ reads w number phys blade page images behind head is =
 
 writes : (w : World) (number phys : ℕ) (image : PageImageView) (images : List PageImageView) (behind : List Msg)
     → w.tos number ≡ Write phys image ∷ behind → w.images number ≡ image_at images → phys < length images
-    → Leads w (with_seen_memory number images (Write phys image) behind w)
+    → LeadsByMoves w (with_seen_memory number images (Write phys image) behind w)
 writes w number phys image images behind head is lt =
     let set : image_at (slice_set images phys image) ≡ put phys image (w.images number) =
     fun_ext (λ n. image_at-set images phys image n lt) ∙ ap (put phys image) (sym is) in
@@ -81,11 +81,11 @@ writes w number phys image images behind head is lt =
 -- a message that a memory blade may be sent is taken by a move
 pub memory_moves : (w : World) (number : ℕ) (message : Msg) (images : List PageImageView) (behind : List Msg) → IsCoherent w
     → w.tos number ≡ message ∷ behind → w.images number ≡ image_at images → IsFor (length images) message
-    → Leads w (with_seen_memory number images message behind w)
+    → LeadsByMoves w (with_seen_memory number images message behind w)
 memory_moves w number message images behind safe head is fits =
     by message head fits (subst (AreTos w number (w.images number)) head (safe.tos number)) where
       by : (m : Msg) → w.tos number ≡ m ∷ behind → IsFor (length images) m → AreTos w number (w.images number) (m ∷ behind)
-          → Leads w (with_seen_memory number images m behind w)
+          → LeadsByMoves w (with_seen_memory number images m behind w)
       by (Read phys (Some blade) page) at fit known = reads w number phys blade page images behind at is
       by (Write phys image) at fit known = writes w number phys image images behind at is fit
       by m at fit known = absurd known

@@ -4,16 +4,17 @@ use Rattle.std.specs.Prelude.{IfSome}
 use Rattle.mind_base.specs.Page.{PageView}
 use Rattle.mind_base.specs.declared.commands.Perm.{Perm}
 use Rattle.mind_base.specs.declared.links.LinkKind.TheVariants.{Down}
+use Rattle.mind_base.specs.Permission.{allows}
 use Rattle.page_cache.specs.PageCache.{frame_of, put_of, entries_after_put}
 use Rattle.page_cache.specs.declared.frames.Frame.{Frame}
 use Rattle.page_image.specs.PageImage.{PageImageView}
 use Rattle.protect_table.specs.Protect.{permission_at}
 use Rattle.wire_msg.specs.declared.msgs.Msg.{Msg}
 use Rattle.wire_msg.specs.declared.msgs.Msg.TheVariants.{Fill, Deny}
-use Rattle.compute_blade.specs.Blade.{BladeView, with_entries, request_for, answered}
+use Rattle.compute_blade.specs.Blade.{BladeView, with_frames, request_for, requests_without}
 use Rattle.compute_blade.specs.Pages.{sent_out}
 use Rattle.compute_blade.specs.declared.kept.Asked.{Asked}
-use Rattle.coherence.specs.Facts.{allows, AreDowns, AreFrames, IsCoherent}
+use Rattle.coherence.specs.Facts.{AreDowns, AreFrames, IsCoherent}
 use Rattle.coherence.specs.Moves.{took}
 use Rattle.coherence.proofs.Keys.{put-here}
 use Rattle.coherence.proofs.Lists.{downs-cons}
@@ -28,7 +29,7 @@ use Rattle.rack_core.proofs.BladeSound.{of_found}
 
 -- the frames of the rack when blade c has these pages and the request for this one has ended
 abbrev pub AreFramesWith : RackView → (PageView → PageImageView) → ℕ → BladeView → PageView → Type 0
-AreFramesWith old flat c blade page = AreFrames (with_seen_blade c (record blade { requests = answered page blade.requests }) [] flat (seen old flat))
+AreFramesWith old flat c blade page = AreFrames (with_seen_blade c (record blade { requests = requests_without page blade.requests }) [] flat (seen old flat))
 
 -- ---- a page that comes
 
@@ -37,7 +38,7 @@ pub record HasCome (old : RackView) (flat : PageView → PageImageView) (c : ℕ
   pub out : request_for page blade.requests ≡ Some asked
   pub agrees : writable ≡ asked.write
   pub held : frame_of asked.page (entries_after_put blade.cache page frame) ≡ Some frame
-  pub frames : AreFramesWith old flat c (with_entries blade (entries_after_put blade.cache page frame)) page
+  pub frames : AreFramesWith old flat c (with_frames blade (entries_after_put blade.cache page frame)) page
 
 pub has_come : (old : RackView) (flat : PageView → PageImageView) (c : ℕ) (blade : BladeView) → slice_get old.blades c ≡ Some blade → IsSoundBlade (permission_at old.switch.protect) blade
     → (page : PageView) (perm : Perm) (writable : Bool) (image : PageImageView) (rest : List Msg) → IsCoherent (handing c (Fill page perm writable image ∷ rest) (seen old flat))
@@ -53,7 +54,7 @@ has_come old flat c blade there sound page perm writable image rest coherent =
     let frame = came page perm writable image in
     let entries = entries_after_put blade.cache page frame in
     let first = fills w c blade page perm writable image behind has sound.cache head (put_of blade.cache page) refl in
-    let left : BladeView = record (with_entries blade entries) { requests = answered page blade.requests } in
+    let left : BladeView = record (with_frames blade entries) { requests = requests_without page blade.requests } in
     let safe = run_keeps w (with_seen_blade c left (sent_out (put_of blade.cache page)) w.flat (took c behind w)) first.moves coherent first.run in
     let own_page = (of_found (IsRequest blade.plan.threads blade.harts) page blade.requests asked.0 sound.requests asked.1).1 in
     record {
@@ -84,7 +85,7 @@ was_denied old flat c blade there sound page rest coherent =
     let asked = asked_for blade.requests page out.0 (sym (has.asks page) ∙ out.1) in
     let own_page = (of_found (IsRequest blade.plan.threads blade.harts) page blade.requests asked.0 sound.requests asked.1).1 in
     let first = acts.denied c blade w page behind has head in
-    let left : BladeView = record blade { requests = answered page blade.requests } in
+    let left : BladeView = record blade { requests = requests_without page blade.requests } in
     let safe = run_keeps w (with_seen_blade c left [] w.flat (took c behind w)) first.moves coherent first.run in
     record {
       asked = asked.0;

@@ -1,32 +1,32 @@
 -- The newest image of a page is where it is to be found.
-use Rattle.std.proofs.Common.{◌≡◌, ℕ, zero, suc, ◌+◌, ◌<◌, ◌==◌, nat_lt, ltb-true, Bool, true, false, cond, ap, sym, refl, subst, List, [], ◌∷◌, ◌++◌, flat_map, filter_map, find, slice_index_or, Option, Some, None, IfSome, is_some, option_map, arith, ◌∙◌}
-use Rattle.std.specs.Prelude.{if◌then◌else◌, unwrap_or, ◌≢◌}
+use Rattle.std.proofs.Common.{◌≡◌, ℕ, zero, suc, ◌+◌, ◌<◌, ◌==◌, nat_lt, ltb-true, Bool, true, false, cond, ap, sym, refl, subst, List, [], ◌∷◌, flat_map, filter_map, find, slice_index_or, Option, Some, None, IfSome, option_map, arith, ◌∙◌}
+use Rattle.std.specs.Prelude.{if◌then◌else◌, unwrap_or}
 use Rattle.std.specs.List.{AllByRecursion, cons_option, last_or, range_with_len}
 use Rattle.std.proofs.lemmas.Bool.{false≢true}
 use Rattle.std.proofs.lemmas.List.Elements.{filter_map-append}
 use Rattle.std.proofs.lemmas.Option.{same_Some}
 use Rattle.mind_base.specs.Page.{PageView}
-use Rattle.mind_base.specs.declared.commands.Perm.{Perm}
-use Rattle.mind_base.specs.declared.commands.Perm.TheVariants.{No, R, Rw}
 use Rattle.mind_base.specs.declared.links.LinkKind.TheVariants.{Up, To}
 use Rattle.page_cache.proofs.Laws.{same_page-true}
-use Rattle.page_cache.specs.PageCache.{frame_of, same_page}
+use Rattle.page_cache.specs.PageCache.{frame_of, same_page, is_writable}
 use Rattle.page_cache.specs.declared.frames.Frame.{Frame}
 use Rattle.page_image.specs.PageImage.{PageImageView, zero_image}
 use Rattle.wire_msg.specs.declared.msgs.Msg.{Msg}
 use Rattle.wire_msg.specs.declared.msgs.Msg.TheVariants.{Get, Fill, Deny, Back, Inv, Lower, Ack, Close, Closed, Reopen, Read, Image, Write, Zero}
 use Rattle.compute_blade.specs.Blade.{BladeView}
-use Rattle.rack_net.specs.Net.{NetView, empty_link, place_of}
+use Rattle.rack_net.specs.Net.{NetView, empty_link, link_place}
 use Rattle.switch_core.specs.Switch.{place_in}
+use Rattle.switch_core.proofs.Lists.{all-append}
 use Rattle.coherence.specs.Counts.{bit, total, none_is, is_back}
-use Rattle.coherence.specs.Facts.{AreUps, IsCoherent, allows, is_dirty, is_writable, written}
+use Rattle.coherence.specs.Facts.{AreUps, IsCoherent, is_dirty, images_written}
 use Rattle.coherence.specs.World.{World, put}
 use Rattle.coherence.proofs.Lists.{total-none_is}
 use Rattle.rack_core.specs.Newest.{writable_frame, sent_back, written_to, last_image, all_up, image_there, newest_image}
 use Rattle.rack_core.specs.Rack.{RackView}
 use Rattle.rack_core.specs.Safe.{IsSafe}
 use Rattle.rack_core.specs.Seen.{pending_on, frame_at, seen}
-use Rattle.rack_core.proofs.SwitchLookups.{all-joined}
+use Rattle.rack_core.proofs.Lists.{some-is, append-none}
+use Rattle.rack_core.proofs.SwitchWorlds.{not_no}
 
 -- ---- the frame that is held to write
 
@@ -98,17 +98,7 @@ backs-newest w c page (Back other image ∷ messages) ups = by (backs-newest w c
   by rest false s = rest
 backs-newest w c page (Get other write ∷ messages) ups = backs-newest w c page messages ups.1
 backs-newest w c page (Ack number count ∷ messages) ups = backs-newest w c page messages ups.1
-backs-newest w c page (Fill other perm writable image ∷ messages) ups = absurd ups.0
-backs-newest w c page (Deny other ∷ messages) ups = absurd ups.0
-backs-newest w c page (Inv number range asked ∷ messages) ups = absurd ups.0
-backs-newest w c page (Lower number range asked ∷ messages) ups = absurd ups.0
-backs-newest w c page (Close number span ends ∷ messages) ups = absurd ups.0
-backs-newest w c page (Closed number ∷ messages) ups = absurd ups.0
-backs-newest w c page (Reopen number ∷ messages) ups = absurd ups.0
-backs-newest w c page (Read phys of other ∷ messages) ups = absurd ups.0
-backs-newest w c page (Image of other image ∷ messages) ups = absurd ups.0
-backs-newest w c page (Write phys image ∷ messages) ups = absurd ups.0
-backs-newest w c page (Zero phys pages ∷ messages) ups = absurd ups.0
+backs-newest w c page (message ∷ messages) ups = absurd ups.0
 
 -- none goes back where none was found
 no_backs : (page : PageView) (messages : List Msg) → filter_map (sent_back page) messages ≡ [] → total (is_back page) messages ≡ 0
@@ -118,32 +108,16 @@ no_backs page (Back other image ∷ messages) e = by (no_backs page messages) (s
       → cons_option (if b then Some image else None) (filter_map (sent_back page) messages) ≡ [] → bit b + total (is_back page) messages ≡ 0
   by rest true f = let never : ⊥ = cc in absurd never
   by rest false f = omega (arith, rest f)
-no_backs page (Get other write ∷ messages) e = let rest = no_backs page messages e in omega (arith, rest)
-no_backs page (Ack number count ∷ messages) e = let rest = no_backs page messages e in omega (arith, rest)
-no_backs page (Fill other perm writable image ∷ messages) e = let rest = no_backs page messages e in omega (arith, rest)
-no_backs page (Deny other ∷ messages) e = let rest = no_backs page messages e in omega (arith, rest)
-no_backs page (Inv number range asked ∷ messages) e = let rest = no_backs page messages e in omega (arith, rest)
-no_backs page (Lower number range asked ∷ messages) e = let rest = no_backs page messages e in omega (arith, rest)
-no_backs page (Close number span ends ∷ messages) e = let rest = no_backs page messages e in omega (arith, rest)
-no_backs page (Closed number ∷ messages) e = let rest = no_backs page messages e in omega (arith, rest)
-no_backs page (Reopen number ∷ messages) e = let rest = no_backs page messages e in omega (arith, rest)
-no_backs page (Read phys of other ∷ messages) e = let rest = no_backs page messages e in omega (arith, rest)
-no_backs page (Image of other image ∷ messages) e = let rest = no_backs page messages e in omega (arith, rest)
-no_backs page (Write phys image ∷ messages) e = let rest = no_backs page messages e in omega (arith, rest)
-no_backs page (Zero phys pages ∷ messages) e = let rest = no_backs page messages e in omega (arith, rest)
+no_backs page (message ∷ messages) e = let rest = no_backs page messages e in omega (arith, rest)
 
 -- ---- on all links up
-
-append-none : {X : Type 0} (xs ys : List X) → xs ++ ys ≡ [] → (xs ≡ []) × (ys ≡ [])
-append-none [] ys e = (refl, e)
-append-none (x ∷ xs) ys e = let never : ⊥ = cc in absurd never
 
 found-all : (P : PageImageView → Type 0) (image_in : Msg → Option PageImageView) (ups : ℕ → List Msg) → ((c : ℕ) → AllByRecursion P (filter_map image_in (ups c)))
     → (a n : ℕ) → AllByRecursion P (filter_map image_in (flat_map ups (range_with_len a n)))
 found-all P image_in ups each a zero = tt
 found-all P image_in ups each a (suc n) =
     subst (AllByRecursion P) (sym (filter_map-append image_in (ups a) (flat_map ups (range_with_len (a + 1) n))))
-    (all-joined P (filter_map image_in (ups a)) (filter_map image_in (flat_map ups (range_with_len (a + 1) n))) (each a) (found-all P image_in ups each (a + 1) n))
+    (all-append P (filter_map image_in (ups a)) (filter_map image_in (flat_map ups (range_with_len (a + 1) n))) (each a) (found-all P image_in ups each (a + 1) n))
 
 none-found : (image_in : Msg → Option PageImageView) (ups : ℕ → List Msg) (a n : ℕ) → filter_map image_in (flat_map ups (range_with_len a n)) ≡ []
     → (d : ℕ) → d < n → filter_map image_in (ups (a + d)) ≡ []
@@ -167,18 +141,18 @@ none_back net page e c = total-none_is (is_back page) (pending_on net Up c) (no_
       let same : c ≡ 0 + c = omega arith in
       ap (λ k. filter_map (sent_back page) (pending_on net Up k)) same
       ∙ none-found (sent_back page) (pending_on net Up) 0 net.blades (last-none (filter_map (sent_back page) (all_up net)) e) c (ltb-true c net.blades lt)
-  by false ge = ap (λ b. filter_map (sent_back page) (if b then slice_index_or net.links (place_of net.blades (record { kind = Up; number = c })) empty_link else empty_link).pending) ge
+  by false ge = ap (λ b. filter_map (sent_back page) (if b then slice_index_or net.links (link_place net.blades (record { kind = Up; number = c })) empty_link else empty_link).pending) ge
 
 -- ---- the image where a page lies
 
 -- once all writes have come, it is that of the last one, or else what it was
 written-last : (phys : ℕ) (messages : List Msg) (images : ℕ → PageImageView) (o : Option PageImageView) (there : PageImageView) → images phys ≡ unwrap_or o there
-    → written messages images phys ≡ unwrap_or (last_or o (filter_map (written_to phys) messages)) there
+    → images_written messages images phys ≡ unwrap_or (last_or o (filter_map (written_to phys) messages)) there
 written-last phys [] images o there e = e
 written-last phys (Write other image ∷ messages) images o there e = by (λ p f. written-last phys messages (put other image images) p there f) (phys == other) refl where
-  by : ((p : Option PageImageView) → put other image images phys ≡ unwrap_or p there → written messages (put other image images) phys ≡ unwrap_or (last_or p (filter_map (written_to phys) messages)) there)
+  by : ((p : Option PageImageView) → put other image images phys ≡ unwrap_or p there → images_written messages (put other image images) phys ≡ unwrap_or (last_or p (filter_map (written_to phys) messages)) there)
       → (b : Bool) → (phys == other) ≡ b
-      → written messages (put other image images) phys ≡ unwrap_or (last_or o (cons_option (if b then Some image else None) (filter_map (written_to phys) messages))) there
+      → images_written messages (put other image images) phys ≡ unwrap_or (last_or o (cons_option (if b then Some image else None) (filter_map (written_to phys) messages))) there
   by rest true s = rest (Some image) (ap (λ b. if b then image else images phys) s)
   by rest false s = rest o (ap (λ b. if b then image else images phys) s ∙ e)
 written-last phys (Back other image ∷ messages) images o there e = written-last phys messages images o there e
@@ -234,19 +208,9 @@ the_newest rack flat page place coherent lies = by (writable_frame rack.blades p
 
 -- ---- frames
 
-some-is : {X : Type 0} (o : Option X) → is_some o ≡ true → (x : X) × (o ≡ Some x)
-some-is None e = let never : ⊥ = cc in absurd never
-some-is (Some x) e = (x, refl)
-
--- a page that may be read has a permission
-given : (write : Bool) (perm : Perm) → allows write perm ≡ true → perm ≢ No
-given write No e is = let never : ⊥ = cc in never
-given write R e is = let never : ⊥ = cc in never
-given write Rw e is = let never : ⊥ = cc in never
-
 -- a page that is held lies somewhere, and its frame has the newest image
 pub held_newest : (rack : RackView) (c : ℕ) (page : PageView) (frame : Frame) → IsSafe rack → frame_at rack.blades c page ≡ Some frame → frame.image ≡ newest_image rack page
 held_newest rack c page frame safe held =
     let is = safe.coherent.frames c page frame held in
-    let lies = some-is (place_in rack.switch page) (safe.coherent.placed.placed page (given frame.writable _ is.readable)) in
+    let lies = some-is (place_in rack.switch page) (safe.coherent.placed.placed page (not_no frame.writable _ is.readable)) in
     is.newest ∙ sym (the_newest rack safe.flat page lies.0 safe.coherent lies.1)

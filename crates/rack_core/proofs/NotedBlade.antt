@@ -1,19 +1,15 @@
 -- What a blade notes, whatever it does: of its own harts and of its own pages.
-use Rattle.std.proofs.Common.{◌≡◌, refl, sym, ◌∙◌, ap, subst, ℕ, true, List, [], ◌∷◌, Option, Some, None}
+use Rattle.std.proofs.Common.{◌≡◌, refl, sym, ◌∙◌, ap, subst, ℕ, true, List, [], ◌∷◌}
 use Rattle.std.specs.Prelude.{is_some}
 use Rattle.std.specs.List.{AllByRecursion}
 use Rattle.mind_base.specs.declared.notes.Note.{Note}
 use Rattle.mind_base.specs.declared.notes.Note.TheVariants as note
 use Rattle.compute_blade.specs.Actions.{Action, GivesUp, Lowers, Takes, Asks, Wakes, Performs, Refuses, Drains, Acks, after_action, after_actions, MayAct, MayActEach, IsActions}
-use Rattle.compute_blade.specs.Blade.{BladeView, Effect, hart_of}
+use Rattle.compute_blade.specs.Blade.{BladeView, BladeEffect, hart_of}
 use Rattle.rack_core.specs.Noted.{IsOfBlade}
-use Rattle.rack_core.proofs.Sending.{all-both}
 use Rattle.rack_core.proofs.StandCounts.{HartsStay, action-stays}
-
--- what is there
-there-is : {X : Type 0} (o : Option X) → is_some o ≡ true → (x : X) × (o ≡ Some x)
-there-is None is = let never : ⊥ = cc in absurd never
-there-is (Some x) is = (x, refl)
+use Rattle.rack_core.proofs.Lists.{some-is}
+use Rattle.switch_core.proofs.Lists.{all-append}
 
 -- the hart is one of the blade's
 abbrev pub HasHart : BladeView → ℕ → Type 0
@@ -44,7 +40,7 @@ notes-before old new stay (n ∷ notes) all =
     (note-before new.number old.number (HasHart new) (HasHart old) stay.number had n all.0, notes-before old new stay notes all.1)
   where
     had : (h : ℕ) → HasHart new h → HasHart old h
-    had h has = let now = there-is (hart_of new h) has in ap is_some (stay.back h now.0 now.1).1
+    had h has = let now = some-is (hart_of new h) has in ap is_some (stay.back h now.0 now.1).1
 
 action-notes : (action : Action) (blade : BladeView) → MayAct action blade → AreOfBlade blade (after_action action blade).noted
 action-notes (GivesUp page frame) blade may = (refl, tt)
@@ -61,10 +57,10 @@ actions-note : (actions : List Action) (blade : BladeView) → MayActEach action
 actions-note [] blade may = tt
 actions-note (action ∷ actions) blade may =
     let next = (after_action action blade).blade in
-    all-both (IsOfBlade blade.number (HasHart blade)) (after_action action blade).noted (after_actions actions next).noted
+    all-append (IsOfBlade blade.number (HasHart blade)) (after_action action blade).noted (after_actions actions next).noted
     (action-notes action blade may.0)
     (notes-before blade next (action-stays action blade may.0) (after_actions actions next).noted (actions-note actions next may.1))
 
 -- what is actions in a row
-pub acts-note : (blade : BladeView) (e : Effect) → IsActions blade e → AreOfBlade blade e.noted
-acts-note blade e acts = subst (λ (x : Effect). AreOfBlade blade x.noted) (sym acts.done) (actions-note acts.actions blade acts.may)
+pub acts-note : (blade : BladeView) (e : BladeEffect) → IsActions blade e → AreOfBlade blade e.noted
+acts-note blade e acts = subst (λ (x : BladeEffect). AreOfBlade blade x.noted) (sym acts.done) (actions-note acts.actions blade acts.may)

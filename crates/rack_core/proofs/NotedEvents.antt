@@ -1,7 +1,6 @@
 -- The notes that an event adds stand in their places.
 use Rattle.std.proofs.Common.{arith, ◌≡◌, refl, sym, ◌∙◌, ap, subst, ◌⊎◌, inl, inr, ℕ, ◌<◌, true, List, [], ◌∷◌, length, Option, Some, None, slice_get}
 use Rattle.std.specs.Prelude.{◌≤◌, is_some, map, get_or, option_and_then, IsSomeAnd}
-use Rattle.std.specs.List.{AllByRecursion}
 use Rattle.std.proofs.lemmas.Bool.{eqb-true}
 use Rattle.std.proofs.lemmas.Option.{same_Some, slice_get_within, slice_get_cases}
 use Rattle.mind_base.specs.Page.{PageView}
@@ -23,16 +22,17 @@ use Rattle.page_cache.specs.declared.frames.Frame.{Frame}
 use Rattle.page_image.specs.PageImage.{PageImageView}
 use Rattle.rack_net.specs.Net.{links_of, spelled}
 use Rattle.switch_core.specs.Switch.{place_in}
+use Rattle.switch_core.proofs.Lists.{all-append}
 use Rattle.wire_msg.specs.Spelling.{spelling}
 use Rattle.wire_msg.specs.declared.msgs.Msg.{Msg}
-use Rattle.compute_blade.specs.Blade.{HartView, BladeView, Effect, hart_of}
+use Rattle.compute_blade.specs.Blade.{HartView, BladeView, BladeEffect, hart_of}
 use Rattle.compute_blade.specs.Messages.{after_message}
 use Rattle.compute_blade.specs.Pages.{giving_up, given_up}
-use Rattle.compute_blade.specs.Steps.{after_step, after_drain}
+use Rattle.compute_blade.specs.Steps.{after_step, blade_after_drain}
 use Rattle.compute_blade.proofs.Acting.{message_acts}
 use Rattle.coherence.specs.Facts.{IsCoherent}
 use Rattle.rack_core.specs.Events.{HartDoes, HandsTo, HandsAll, Leads}
-use Rattle.rack_core.specs.Handing.{AskOn, AsksOn}
+use Rattle.rack_core.specs.Handing.{AskOn}
 use Rattle.rack_core.specs.Noted.{IsThreadOf, StandsIn, AreInPlace, IsOfBlade, IsOfSwitch}
 use Rattle.rack_core.specs.Rack.{RackView, with_net}
 use Rattle.rack_core.specs.Safe.{IsOfRack, IsSound, IsSafe}
@@ -42,10 +42,9 @@ use Rattle.rack_core.specs.SwitchMoves.{with_front}
 use Rattle.rack_core.proofs.AtOnceEvents.{step-one, drain-one}
 use Rattle.rack_core.proofs.AtOnceSteps.{NotesOne, NotesDrain}
 use Rattle.rack_core.proofs.Delivering.{gave_on, with_net-sound, asks_taken}
-use Rattle.rack_core.proofs.Handing.{handed_over}
+use Rattle.rack_core.proofs.Handing.{each-handed}
 use Rattle.rack_core.proofs.NotedBlade.{HasHart, AreOfBlade, acts-note}
 use Rattle.rack_core.proofs.NotedSwitch.{AreOfSwitch, receives-done}
-use Rattle.rack_core.proofs.Sending.{all-both}
 use Rattle.rack_core.proofs.StandCounts.{BladesStay}
 use Rattle.rack_core.proofs.BladeHanded.{did, handed_may_come}
 use Rattle.rack_core.proofs.StandHanded.{one-stays}
@@ -157,22 +156,21 @@ hands-place images Down number k message rest old new flat noted coherent sound 
     let acts = message_acts images message d.blade (sound.blades number d.blade d.there).cache (handed_may_come images old flat number d.blade message rest coherent sound.blades d.there) in
     subst (AreInPlace old.plan (Deliver (record { kind = Down; number = number }) Messages k)) (sym d.acts.notes)
     (blade-places old.plan number k d.blade (own.numbers number d.blade d.there) (λ h has. own.harts number d.blade h d.there has) d.effect.noted
-    (subst (λ (e : Effect). AreOfBlade d.blade e.noted) (same_Some (after_message images message d.blade) d.effect d.does) (acts-note d.blade (after_message images message d.blade) acts)))
+    (subst (λ (e : BladeEffect). AreOfBlade d.blade e.noted) (same_Some (after_message images message d.blade) d.effect d.does) (acts-note d.blade (after_message images message d.blade) acts)))
 
 all-place : (images : List Image) (kind : LinkKind) (number k : ℕ) (messages : List Msg) (old new : RackView) (flat : PageView → PageImageView) (noted : List Note)
     → IsCoherent (with_front kind number messages (seen old flat)) → IsSound old → number < 8 → AskOn kind (place_in old.switch) number messages → AreOwn old
     → HandsAll images (record { kind = kind; number = number }) messages old new noted
     → AreInPlace old.plan (Deliver (record { kind = kind; number = number }) Messages k) noted
-all-place images kind number k [] old new flat noted coherent sound lt asks own hands = none-placed old.plan (Deliver (record { kind = kind; number = number }) Messages k) noted hands.1
-all-place images kind number k (message ∷ rest) old new flat noted coherent sound lt asks own hands =
-    let first = handed_over images kind number message rest old hands.0 flat hands.1 coherent sound lt asks.0 hands.3 in
-    let asks_later = subst (λ f. AllByRecursion (AsksOn kind f number) rest) (sym first.places) asks.1 in
-    let stay = one-stays images kind number message rest old hands.0 flat hands.1 coherent sound hands.3 in
+all-place images kind number k messages old new flat noted coherent sound lt asks own hands =
     let event = Deliver (record { kind = kind; number = number }) Messages k in
-    let later = all-place images kind number k rest hands.0 new first.flat hands.2 first.coherent first.sound lt asks_later (own-after old hands.0 stay own) hands.4 in
-    subst (AreInPlace old.plan event) (sym hands.5) (all-both (StandsIn old.plan event) hands.1 hands.2
-    (hands-place images kind number k message rest old hands.0 flat hands.1 coherent sound own hands.3)
-    (subst (λ p. AreInPlace p event hands.2) stay.plan later))
+    each-handed images kind number (λ messages old new noted. AreOwn old → AreInPlace old.plan event noted)
+    (λ old new noted same none own. none-placed old.plan event noted none)
+    (λ message rest old mid new flat first later coherent sound hands rest_placed own.
+    let stay = one-stays images kind number message rest old mid flat first coherent sound hands in
+    all-append (StandsIn old.plan event) first later (hands-place images kind number k message rest old mid flat first coherent sound own hands)
+    (subst (λ p. AreInPlace p event later) stay.plan (rest_placed (own-after old mid stay own))))
+    messages old new flat noted coherent sound lt asks hands own
 
 -- a delivered acknowledgement hands nothing over
 none-taken : (old new : LinkView) (k : ℕ) (frame : Option ℕ) (taken : List (List ℕ)) → DeliversAck old k frame taken new → taken ≡ []
@@ -199,8 +197,8 @@ drain-places plan h noted (inl e) = none-placed plan (Drain h) noted e
 drain-places plan h noted (inr e) = subst (AreInPlace plan (Drain h)) (sym e) (inr (inl refl), tt)
 
 -- what the hart's blade notes is what it does there
-hart-notes : (P : List Note → Type 0) (act : BladeView → Option Effect) (thread : Option ThreadPlan) (old new : RackView) (noted : List Note)
-    → ((blade : BladeView) (e : Effect) → act blade ≡ Some e → P e.noted) → HartDoes thread act old new noted → P noted
+hart-notes : (P : List Note → Type 0) (act : BladeView → Option BladeEffect) (thread : Option ThreadPlan) (old new : RackView) (noted : List Note)
+    → ((blade : BladeView) (e : BladeEffect) → act blade ≡ Some e → P e.noted) → HartDoes thread act old new noted → P noted
 hart-notes P act None old new noted each does = absurd does
 hart-notes P act (Some thread) old new noted each does =
     let d = did thread.blade act old new noted does in
@@ -221,11 +219,11 @@ pub places_of : (images : List Image) (event : Event) (old new : RackView) (note
 places_of images (Step h) old new noted fits safe own given =
     hart-notes (AreInPlace old.plan (Step h)) (after_step images h) (slice_get old.plan.threads h) old new noted (λ blade e does. step-places old.plan h e.noted (step-one images h blade e does)) given
 places_of images (Drain h) old new noted fits safe own given =
-    hart-notes (AreInPlace old.plan (Drain h)) (after_drain h) (slice_get old.plan.threads h) old new noted (λ blade e does. drain-places old.plan h e.noted (drain-one h blade e does)) given
+    hart-notes (AreInPlace old.plan (Drain h)) (blade_after_drain h) (slice_get old.plan.threads h) old new noted (λ blade e does. drain-places old.plan h e.noted (drain-one h blade e does)) given
 places_of images (Evict c page) old new noted fits safe own given =
     let d = did c (λ b. Some (given_up page b)) old new noted given in
     subst (AreInPlace old.plan (Evict c page)) (sym d.acts.notes)
-    (subst (λ (e : Effect). AreInPlace old.plan (Evict c page) e.noted) (same_Some _ _ d.does) (give-places old.plan c page d.blade (own.numbers c d.blade d.there)))
+    (subst (λ (e : BladeEffect). AreInPlace old.plan (Evict c page) e.noted) (same_Some _ _ d.does) (give-places old.plan c page d.blade (own.numbers c d.blade d.there)))
 places_of images (Deliver link Messages k) old new noted fits safe own given =
     let fifo = given.gives.fifo in
     all-place images link.kind link.number k given.taken (with_net given.net old) new safe.flat noted (subst IsCoherent (gave_on link.kind link.number given.taken old given.net safe.flat fifo given.only) safe.coherent)

@@ -11,19 +11,17 @@ use Rattle.std.proofs.lemmas.Nat.Bits.{bit_at-lt, bit_at-zero, same_from_bits_be
 use Rattle.std.proofs.lemmas.Option.{slice_get-get_or}
 use Rattle.mind_base.specs.Page.{PageView}
 use Rattle.mind_base.specs.Range.{RangeView, in_range}
-use Rattle.mind_base.specs.declared.commands.Perm.{Perm}
-use Rattle.mind_base.specs.declared.commands.Perm.TheVariants.{No, R, Rw}
 use Rattle.mind_base.specs.declared.links.LinkKind.TheVariants.{Up, Down, To, From}
 use Rattle.mind_base.specs.declared.links.LinkName.{LinkName}
+use Rattle.mind_base.specs.Permission.{allows}
 use Rattle.page_cache.proofs.Laws.{same_page-refl}
 use Rattle.page_image.specs.PageImage.{PageImageView}
-use Rattle.protect_table.specs.Protect.{permission_at}
 use Rattle.invalidate_multicast.specs.Blades.{has_blade}
 use Rattle.invalidate_multicast.specs.Transition.{is_answered}
 use Rattle.region_directory.specs.declared.entries.Busy.{Busy}
 use Rattle.region_directory.specs.declared.entries.Entry.{Entry}
 use Rattle.region_directory.proofs.BlockLemmas.{range-test_passes}
-use Rattle.request_list.specs.Requests.{AreApart, fetched_pages}
+use Rattle.request_list.specs.Requests.{AskOncePerPage, fetched_pages}
 use Rattle.request_list.specs.declared.requests.Request.{Request}
 use Rattle.compute_blade.specs.Blade.{BladeView, request_for}
 use Rattle.compute_blade.specs.declared.kept.Asked.{Asked}
@@ -32,16 +30,16 @@ use Rattle.wire_msg.specs.declared.msgs.Msg.{Msg}
 use Rattle.rack_net.specs.Net.{NetView, IsNet, links_of}
 use Rattle.switch_core.specs.Serving.{IsServed}
 use Rattle.switch_core.specs.Switch.{SwitchView}
-use Rattle.switch_core.specs.Treating as treating
+use Rattle.switch_core.proofs.Lists.{all-at}
 use Rattle.coherence.specs.Counts.{bit, total, is_ack, is_call, is_deny, is_fill, is_get, is_image, is_read}
-use Rattle.coherence.specs.Facts.{IsCoherent, allows, is_fetching, numbered, transition}
+use Rattle.coherence.specs.Facts.{IsCoherent, is_fetching, numbered, transition}
 use Rattle.coherence.specs.World.{Wanted, World}
 use Rattle.rack_core.specs.Calls.{HasNoFrame, IsKept, IsQuiet, KeepsNothing}
 use Rattle.rack_core.specs.Rack.{RackView}
 use Rattle.rack_core.specs.Seen.{seen, wanted_at}
 use Rattle.rack_core.specs.SwitchMoves.{AreEntriesApart}
 use Rattle.rack_core.proofs.QuietPasses.{IsStill, none_waits_first}
-use Rattle.rack_core.proofs.SwitchLookups.{all-got, first-got, region_at-first}
+use Rattle.rack_core.proofs.SwitchLookups.{first-got, region_at-first}
 use Rattle.rack_core.proofs.SwitchRequests.{wanted-got}
 
 -- ---- nothing is under way
@@ -156,7 +154,7 @@ none-busy rack flat coherent empty apart waits i entry at = by entry.busy refl w
       let now : transition busy.number ((seen rack flat).regions page) ≡ Some busy =
       ap (transition busy.number) region ∙ ap (numbered busy.number) is ∙ own-number busy in
       let none : busy.waiting ≡ 0 = none-empty busy.waiting (λ blade. none-waited (seen rack flat) coherent empty page busy.number blade busy now) in
-      let waited : is_answered (Some busy) ≡ false = ap is_answered (sym is) ∙ all-got (λ e. is_answered e.busy ≡ false) entries i entry waits at in
+      let waited : is_answered (Some busy) ≡ false = ap is_answered (sym is) ∙ all-at (λ e. is_answered e.busy ≡ false) entries i entry waits at in
       absurd (false≢true (sym waited ∙ eq-eqb busy.waiting 0 none))
 
 -- ---- requests
@@ -168,17 +166,12 @@ none-fetched (r ∷ requests) waiting =
     ap (λ b. map (λ (q : Request). q.page) (if b then r ∷ filter (λ q. q.fetching) requests else filter (λ q. q.fetching) requests)) (waiting 0 r refl)
     ∙ none-fetched requests (λ i q at. waiting (suc i) q at)
 
-none-fetches : (rack : RackView) (flat : PageView → PageImageView) → IsCoherent (seen rack flat) → HasNoMessage (seen rack flat) → AreApart rack.switch.requests
+none-fetches : (rack : RackView) (flat : PageView → PageImageView) → IsCoherent (seen rack flat) → HasNoMessage (seen rack flat) → AskOncePerPage rack.switch.requests
     → (i : ℕ) (r : Request) → slice_get rack.switch.requests i ≡ Some r → r.fetching ≡ false
 none-fetches rack flat coherent empty apart i r at = by r.fetching refl where
   by : (b : Bool) → r.fetching ≡ b → r.fetching ≡ false
   by false is = is
   by true is = absurd (none-fetching (seen rack flat) coherent empty r.blade r.page _ (wanted-got rack.switch.requests i r apart at) is)
-
-same-allows : (write : Bool) (perm : Perm) → treating.allows write perm ≡ allows write perm
-same-allows write No = refl
-same-allows write R = refl
-same-allows write Rw = refl
 
 -- the switch has no request
 none-requested : (switch : SwitchView) → IsStill switch → IsServed switch → ((i : ℕ) (r : Request) → slice_get switch.requests i ≡ Some r → r.fetching ≡ false) → switch.requests ≡ []
@@ -217,7 +210,7 @@ quiet-rack rack kept frames nothing =
     let still : IsStill rack.switch = record {
       idle = idle;
       unfetched = none-fetched rack.switch.requests waiting;
-      placed = λ write page allowed. allowed-placed (seen rack flat) coherent write page (sym (same-allows write (permission_at rack.switch.protect page)) ∙ allowed);
+      placed = λ write page allowed. allowed-placed (seen rack flat) coherent write page allowed;
       slots = (let same = kept.shape.slots in let some = kept.shape.fit.slots.0 in omega (arith, same, some));
     } in
     let requests = none-requested rack.switch still kept.served waiting in

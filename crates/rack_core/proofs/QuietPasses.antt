@@ -1,8 +1,8 @@
 -- A pass over requests where nothing is under way does something for the first of them.
-use Rattle.std.proofs.Common.{◌≡◌, refl, sym, ◌∙◌, ap, subst, ℕ, ◌+◌, ◌<◌, ◌≤◌, ◌==◌, Bool, true, false, List, [], ◌∷◌, length, zero, suc, arith, Option, Some, None, get_or, not, ◌||◌, ◌&&◌}
+use Rattle.std.proofs.Common.{◌≡◌, refl, sym, ◌∙◌, ap, subst, ℕ, ◌+◌, ◌<◌, ◌≤◌, ◌==◌, Bool, true, false, List, [], ◌∷◌, length, suc, arith, Option, Some, None, get_or, not, ◌||◌, ◌&&◌}
 use Rattle.std.specs.Prelude.{if◌then◌else◌, slice_get, position, is_some, is_none, option_map, unwrap_or}
 use Rattle.std.specs.List.{list_any}
-use Rattle.std.proofs.lemmas.Bool.{eqb-true, false≢true}
+use Rattle.std.proofs.lemmas.Bool.{eqb-true, false≢true, not-false}
 use Rattle.std.proofs.lemmas.List.{length-append}
 use Rattle.std.proofs.lemmas.List.Quantifiers.{position-Some}
 use Rattle.std.proofs.lemmas.Option.{none-some, slice_get-get_or}
@@ -10,39 +10,36 @@ use Rattle.mind_base.specs.Page.{PageView}
 use Rattle.mind_base.specs.Range.{RangeView, in_range}
 use Rattle.mind_base.specs.declared.notes.State.{State}
 use Rattle.mind_base.specs.declared.notes.State.TheVariants.{I, S, M}
+use Rattle.mind_base.specs.Permission.{allows}
 use Rattle.protect_table.specs.Protect.{permission_at}
 use Rattle.region_directory.specs.Room.{first_rule, is_droppable, is_evictable, is_for_room, room_of}
 use Rattle.region_directory.specs.declared.entries.Entry.{Entry}
-use Rattle.region_directory.specs.declared.rooms.Room.{Room}
-use Rattle.region_directory.specs.declared.rooms.Room.TheVariants.{Drop, Merge, Evict, Wait}
+use Rattle.region_directory.specs.declared.rooms.Room.TheVariants.{Drop, Evict}
 use Rattle.request_list.specs.Requests.{fetched_pages}
 use Rattle.request_list.specs.declared.requests.Request.{Request}
 use Rattle.switch_core.specs.Serving.{treated_if, treated_next, over, first_pass, one_pass, IsServed}
-use Rattle.switch_core.specs.Switch.{SwitchView, Effect, place_in, only, and_then}
-use Rattle.switch_core.specs.Treating.{Pass, waits, blocks, does, grants, granted_state, allows, is_denied, denied, noted_change, reading, granted, invalidated, lowered, changed_for, cleared, entered, dropped, new_range, is_fetched, with_idle, with_entry, at_entry, enters, with_room, without_entry, entry_for, for_entry, treated}
+use Rattle.switch_core.specs.Switch.{SwitchView, SwitchEffect, place_in, only, and_then}
+use Rattle.switch_core.specs.Treating.{Pass, waits, blocks, does, grants, granted_state, is_denied, denied_request, noted_change, reading, granted, invalidated, lowered, changed_for, cleared, entered, dropped, new_range, is_fetched, with_idle, with_entry, at_entry, enters, with_room, without_entry, entry_for, for_entry, treated}
+use Rattle.rack_core.proofs.Serving.{IsKept, IsWaiting, at-kept, over-kept}
 use Rattle.rack_core.proofs.SwitchLookups.{position-here}
 
 -- ---- how much was done
 
 -- the messages sent, the notes made, and the transitions begun up to now
-abbrev pub much : Effect → ℕ
+abbrev pub much : SwitchEffect → ℕ
 much done = length done.sent + length done.noted + done.switch.last
 
 -- a change does something: it sends, notes, or begins a transition
-abbrev pub Does : SwitchView → Effect → Type 0
+abbrev pub Does : SwitchView → SwitchEffect → Type 0
 Does switch e = switch.last < much e
 
--- or it does nothing; no transition is taken back
-abbrev pub Stays : SwitchView → Effect → Type 0
-Stays switch e = switch.last ≤ e.switch.last
-
-then-more : (done : Effect) (change : SwitchView → Effect) → Does done.switch (change done.switch) → much done < much (and_then done change)
+then-more : (done : SwitchEffect) (change : SwitchView → SwitchEffect) → Does done.switch (change done.switch) → much done < much (and_then done change)
 then-more done change lt =
     let sent = length-append done.sent (change done.switch).sent in
     let noted = length-append done.noted (change done.switch).noted in
     omega (arith, lt, sent, noted)
 
-then-keeps : (done : Effect) (change : SwitchView → Effect) → Stays done.switch (change done.switch) → much done ≤ much (and_then done change)
+then-keeps : (done : SwitchEffect) (change : SwitchView → SwitchEffect) → done.switch.last ≤ much (change done.switch) → much done ≤ much (and_then done change)
 then-keeps done change le =
     let sent = length-append done.sent (change done.switch).sent in
     let noted = length-append done.noted (change done.switch).noted in
@@ -50,12 +47,7 @@ then-keeps done change le =
 
 -- ---- one of two
 
--- what holds of both holds of the one that is chosen
-chosen : {X : Type 0} (P : X → Type 0) (b : Bool) (x y : X) → P x → P y → P (if b then x else y)
-chosen P true x y p q = p
-chosen P false x y p q = q
-
--- and so does what holds of each where it is the one
+-- what holds of each where it is the one holds of the one that is chosen
 chosen-if : {X : Type 0} (P : X → Type 0) (b : Bool) (x y : X) → (b ≡ true → P x) → (b ≡ false → P y) → P (if b then x else y)
 chosen-if P true x y p q = p refl
 chosen-if P false x y p q = q refl
@@ -66,85 +58,35 @@ chosen-if P false x y p q = q refl
 abbrev pub AtLeast : ℕ → Pass → Type 0
 AtLeast n pass = n ≤ much pass.done
 
-does-keeps : (n : ℕ) (change : SwitchView → Effect) (pass : Pass) → Stays pass.done.switch (change pass.done.switch) → AtLeast n pass → AtLeast n (does change pass)
-does-keeps n change pass le was = let more = then-keeps pass.done change le in omega (arith, more, was)
-
-changed-stays : (r : Request) (state : State) (i : ℕ) (entry : Entry) (s : SwitchView) → Stays s (changed_for r state i entry s)
-changed-stays r I i entry s = omega arith
-changed-stays r (S sharers) i entry s = omega arith
-changed-stays r (M owner) i entry s = by r.write where
-  by : (b : Bool) → Stays s (if b then invalidated r i entry s else lowered r owner i entry s)
-  by true = omega arith
-  by false = omega arith
-
-granted-stays : (r : Request) (at i : ℕ) (entry : Entry) (s : SwitchView) → Stays s (granted r at i entry s)
-granted-stays r at i entry s = omega arith
-
-idle-keeps : (n : ℕ) (r : Request) (i : ℕ) (entry : Entry) (pass : Pass) → AtLeast n pass → AtLeast n (with_idle r i entry pass)
-idle-keeps n r i entry pass was =
-    chosen (AtLeast n) (grants r.write r.blade entry.state) _ _ (does-keeps n (granted r pass.at i entry) pass (granted-stays r pass.at i entry pass.done.switch) was)
-    (chosen (AtLeast n) (is_fetched entry.range pass.done.switch.requests) _ _ was (does-keeps n (changed_for r entry.state i entry) pass (changed-stays r entry.state i entry pass.done.switch) was))
-
-entry-keeps : (n : ℕ) (r : Request) (i : ℕ) (entry : Option Entry) (pass : Pass) → AtLeast n pass → AtLeast n (with_entry r i entry pass)
-entry-keeps n r i None pass was = was
-entry-keeps n r i (Some entry) pass was = chosen (AtLeast n) (is_none entry.busy) _ _ (idle-keeps n r i entry pass was) was
-
-at-keeps : (n : ℕ) (r : Request) (i : ℕ) (pass : Pass) → AtLeast n pass → AtLeast n (at_entry r i pass)
-at-keeps n r i pass was = entry-keeps n r i (slice_get pass.done.switch.directory.entries i) pass was
+-- serving takes nothing back
+serving-keeps : IsKept (λ (switch : SwitchView). switch.last) (λ n done. n ≤ much done)
+serving-keeps = record {
+  nothing = λ switch. omega arith;
+  follows = λ n first next was more. let all = then-keeps first next more in omega (arith, all, was);
+  denies = λ r at switch is. omega arith;
+  grants = λ r at i entry switch is idle. omega arith;
+  invalidates = λ r i entry switch idle. omega arith;
+  lowers = λ r owner i entry switch idle owned. omega arith;
+  enters = λ range switch. omega arith;
+  drops = λ i entry switch. omega arith;
+  clears = λ i entry switch idle. omega arith;
+}
 
 -- an entry that is entered is noted
-enters-more : (n : ℕ) (r : Request) (pass : Pass) → AtLeast n pass → AtLeast (suc n) (enters r pass)
-enters-more n r pass was =
+enters-more : (n : ℕ) (r : Request) (pass : Pass) → IsWaiting r pass.at pass.done.switch → AtLeast n pass → AtLeast (suc n) (enters r pass)
+enters-more n r pass is was =
     let range = new_range r.page pass.done.switch in
     let more : much pass.done < much (and_then pass.done (entered range)) = then-more pass.done (entered range) (omega arith) in
-    at-keeps (suc n) r _ (does (entered range) pass) (omega (arith, more, was))
+    at-kept serving-keeps (suc n) r _ (does (entered range) pass) (record { stands = is.stands; waiting = is.waiting }) (omega (arith, more, was))
 
 -- room for it was made before
-dropped-more : (n : ℕ) (r : Request) (i : ℕ) (entry : Entry) (pass : Pass) → AtLeast n pass → AtLeast (suc n) (enters r (does (dropped i entry) pass))
-dropped-more n r i entry pass was = enters-more n r (does (dropped i entry) pass) (does-keeps n (dropped i entry) pass (omega arith) was)
+dropped-more : (n : ℕ) (r : Request) (i : ℕ) (entry : Entry) (pass : Pass) → IsWaiting r pass.at pass.done.switch → AtLeast n pass → AtLeast (suc n) (enters r (does (dropped i entry) pass))
+dropped-more n r i entry pass is was =
+    let keeps = then-keeps pass.done (dropped i entry) (omega arith) in
+    enters-more n r (does (dropped i entry) pass) (record { stands = is.stands; waiting = is.waiting }) (omega (arith, keeps, was))
 
 cleared-more : (n i : ℕ) (entry : Entry) (pass : Pass) → AtLeast n pass → AtLeast (suc n) (blocks (does (cleared i entry) pass))
 cleared-more n i entry pass was = let more = then-more pass.done (cleared i entry) (omega arith) in omega (arith, more, was)
-
-less : (n : ℕ) (pass : Pass) → AtLeast (suc n) pass → AtLeast n pass
-less n pass was = omega (arith, was)
-
-room-keeps : (n : ℕ) (r : Request) (room : Room) (pass : Pass) → AtLeast n pass → AtLeast n (with_room r room pass)
-room-keeps n r (Drop i) pass was = by (slice_get pass.done.switch.directory.entries i) where
-  by : (o : Option Entry) → AtLeast n (unwrap_or (option_map (λ entry. enters r (does (dropped i entry) pass)) o) (blocks pass))
-  by None = was
-  by (Some entry) = less n (enters r (does (dropped i entry) pass)) (dropped-more n r i entry pass was)
-room-keeps n r (Merge i) pass was = was
-room-keeps n r (Evict i) pass was = by (slice_get pass.done.switch.directory.entries i) where
-  by : (o : Option Entry) → AtLeast n (unwrap_or (option_map (λ entry. blocks (does (cleared i entry) pass)) o) (blocks pass))
-  by None = was
-  by (Some entry) = less n (blocks (does (cleared i entry) pass)) (cleared-more n i entry pass was)
-room-keeps n r Wait pass was = was
-
-without-keeps : (n : ℕ) (r : Request) (pass : Pass) → AtLeast n pass → AtLeast n (without_entry r pass)
-without-keeps n r pass was =
-    chosen (AtLeast n) pass.blocked _ _ was
-    (chosen (AtLeast n) (length pass.done.switch.directory.entries == pass.done.switch.directory.slots) _ _
-    (room-keeps n r (room_of pass.done.switch.directory (fetched_pages pass.done.switch.requests)) pass was)
-    (less n (enters r pass) (enters-more n r pass was)))
-
-for-keeps : (n : ℕ) (r : Request) (i : Option ℕ) (pass : Pass) → AtLeast n pass → AtLeast n (for_entry r i pass)
-for-keeps n r None pass was = without-keeps n r pass was
-for-keeps n r (Some i) pass was = at-keeps n r i pass was
-
-treated-keeps : (n : ℕ) (r : Request) (pass : Pass) → AtLeast n pass → AtLeast n (treated r pass)
-treated-keeps n r pass was =
-    chosen (AtLeast n) r.fetching _ _ was
-    (chosen (AtLeast n) (is_denied pass.done.switch r) _ _ (does-keeps n (denied r) pass (omega arith) was)
-    (for-keeps n r (entry_for r.page pass.done.switch.directory.entries) pass was))
-
-if-keeps : (n : ℕ) (r : Option Request) (pass : Pass) → AtLeast n pass → AtLeast n (treated_if r pass)
-if-keeps n None pass was = was
-if-keeps n (Some r) pass was = treated-keeps n r pass was
-
-over-keeps : (n left : ℕ) (pass : Pass) → AtLeast n pass → AtLeast n (over left pass)
-over-keeps n zero pass was = was
-over-keeps n (suc left) pass was = over-keeps n left (treated_next pass) (if-keeps n (slice_get pass.done.switch.requests pass.at) pass was)
 
 -- ---- the first request
 
@@ -217,10 +159,10 @@ first-evictable [] some idle = absurd (omega (arith, some))
 first-evictable (entry ∷ entries) some idle =
     position-here (is_evictable []) entry entries (ap (λ b. is_none b && not (list_any (in_range entry.range) [])) (idle 0 entry refl))
 
-drops-more : (n : ℕ) (r : Request) (i : ℕ) (pass : Pass) → position is_droppable pass.done.switch.directory.entries ≡ Some i → AtLeast n pass → AtLeast (suc n) (with_room r (Drop i) pass)
-drops-more n r i pass found was =
+drops-more : (n : ℕ) (r : Request) (i : ℕ) (pass : Pass) → IsWaiting r pass.at pass.done.switch → position is_droppable pass.done.switch.directory.entries ≡ Some i → AtLeast n pass → AtLeast (suc n) (with_room r (Drop i) pass)
+drops-more n r i pass is found was =
     let entry = found-at is_droppable pass.done.switch.directory.entries i found in
-    subst (λ o. AtLeast (suc n) (unwrap_or (option_map (λ e. enters r (does (dropped i e) pass)) o) (blocks pass))) (sym entry.1) (dropped-more n r i entry.0 pass was)
+    subst (λ o. AtLeast (suc n) (unwrap_or (option_map (λ e. enters r (does (dropped i e) pass)) o) (blocks pass))) (sym entry.1) (dropped-more n r i entry.0 pass is was)
 
 evicts-more : (n : ℕ) (r : Request) (pass : Pass) → 0 < length pass.done.switch.directory.entries → AtLeast n pass → AtLeast (suc n) (with_room r (Evict 0) pass)
 evicts-more n r pass some was = by pass.done.switch.directory.entries some where
@@ -228,9 +170,9 @@ evicts-more n r pass some was = by pass.done.switch.directory.entries some where
   by [] lt = absurd (omega (arith, lt))
   by (entry ∷ entries) lt = cleared-more n 0 entry pass was
 
-room-more : (n : ℕ) (r : Request) (pass : Pass) → IsStill pass.done.switch → 0 < length pass.done.switch.directory.entries → AtLeast n pass
+room-more : (n : ℕ) (r : Request) (pass : Pass) → IsWaiting r pass.at pass.done.switch → IsStill pass.done.switch → 0 < length pass.done.switch.directory.entries → AtLeast n pass
     → AtLeast (suc n) (with_room r (room_of pass.done.switch.directory (fetched_pages pass.done.switch.requests)) pass)
-room-more n r pass still some was =
+room-more n r pass is still some was =
     subst (λ pages. AtLeast (suc n) (with_room r (room_of pass.done.switch.directory pages) pass)) (sym still.unfetched)
     (subst (λ b. AtLeast (suc n) (with_room r (first_rule (position is_droppable entries) b (position (is_evictable []) entries)) pass)) (sym (none-for_room entries still.idle))
     (subst (λ o. AtLeast (suc n) (with_room r (first_rule (position is_droppable entries) false o) pass)) (sym (first-evictable entries some still.idle))
@@ -241,14 +183,14 @@ room-more n r pass still some was =
 
     by : (o : Option ℕ) → position is_droppable entries ≡ o → AtLeast (suc n) (with_room r (first_rule o false (Some 0)) pass)
     by None found = evicts-more n r pass some was
-    by (Some i) found = drops-more n r i pass found was
+    by (Some i) found = drops-more n r i pass is found was
 
-without-more : (n : ℕ) (r : Request) (pass : Pass) → IsStill pass.done.switch → pass.blocked ≡ false → AtLeast n pass → AtLeast (suc n) (without_entry r pass)
-without-more n r pass still free was =
+without-more : (n : ℕ) (r : Request) (pass : Pass) → IsWaiting r pass.at pass.done.switch → IsStill pass.done.switch → pass.blocked ≡ false → AtLeast n pass → AtLeast (suc n) (without_entry r pass)
+without-more n r pass is still free was =
     subst (λ b. AtLeast (suc n) (if b then waits pass else rest)) (sym free)
     (chosen-if (AtLeast (suc n)) (length pass.done.switch.directory.entries == pass.done.switch.directory.slots) _ _
-    (λ full. room-more n r pass still (let many = eqb-true _ _ full in omega (arith, many, still.slots)) was)
-    (λ f. enters-more n r pass was))
+    (λ full. room-more n r pass is still (let many = eqb-true _ _ full in omega (arith, many, still.slots)) was)
+    (λ f. enters-more n r pass is was))
   where
     rest : Pass
     rest = if length pass.done.switch.directory.entries == pass.done.switch.directory.slots
@@ -256,35 +198,31 @@ without-more n r pass still free was =
 
 -- ---- the request
 
-for-more : (n : ℕ) (r : Request) (pass : Pass) → IsStill pass.done.switch → pass.blocked ≡ false → is_some (place_in pass.done.switch r.page) ≡ true → AtLeast n pass
+for-more : (n : ℕ) (r : Request) (pass : Pass) → IsWaiting r pass.at pass.done.switch → IsStill pass.done.switch → pass.blocked ≡ false → is_some (place_in pass.done.switch r.page) ≡ true → AtLeast n pass
     → AtLeast (suc n) (for_entry r (entry_for r.page pass.done.switch.directory.entries) pass)
-for-more n r pass still free placed was = by (entry_for r.page pass.done.switch.directory.entries) refl where
+for-more n r pass is still free placed was = by (entry_for r.page pass.done.switch.directory.entries) refl where
   by : (o : Option ℕ) → entry_for r.page pass.done.switch.directory.entries ≡ o → AtLeast (suc n) (for_entry r o pass)
-  by None found = without-more n r pass still free was
+  by None found = without-more n r pass is still free was
   by (Some i) found = at-more n r i pass still placed found was
 
-not-false : (b : Bool) → not b ≡ false → b ≡ true
-not-false true e = refl
-not-false false e = absurd (false≢true (sym e))
-
-treated-more : (n : ℕ) (r : Request) (pass : Pass) → IsStill pass.done.switch → pass.blocked ≡ false → r.fetching ≡ false → AtLeast n pass → AtLeast (suc n) (treated r pass)
-treated-more n r pass still free waiting was =
-    subst (λ b. AtLeast (suc n) (if b then waits pass else rest)) (sym waiting)
+treated-more : (n : ℕ) (r : Request) (pass : Pass) → IsWaiting r pass.at pass.done.switch → IsStill pass.done.switch → pass.blocked ≡ false → AtLeast n pass → AtLeast (suc n) (treated r pass)
+treated-more n r pass is still free was =
+    subst (λ b. AtLeast (suc n) (if b then waits pass else rest)) (sym is.waiting)
     (chosen-if (AtLeast (suc n)) (is_denied pass.done.switch r) _ _
-    (λ t. let more = then-more pass.done (denied r) (omega arith) in omega (arith, more, was))
-    (λ f. for-more n r pass still free (still.placed r.write r.page (not-false (allows r.write (permission_at pass.done.switch.protect r.page)) f)) was))
+    (λ t. let more = then-more pass.done (denied_request r) (omega arith) in omega (arith, more, was))
+    (λ f. for-more n r pass is still free (still.placed r.write r.page (not-false (allows r.write (permission_at pass.done.switch.protect r.page)) f)) was))
   where
     rest : Pass
-    rest = if is_denied pass.done.switch r then does (denied r) pass else for_entry r (entry_for r.page pass.done.switch.directory.entries) pass
+    rest = if is_denied pass.done.switch r then does (denied_request r) pass else for_entry r (entry_for r.page pass.done.switch.directory.entries) pass
 
 -- A switch that has served, and where nothing is under way, has no request that waits first.
 pub none_waits_first : (switch : SwitchView) (r : Request) (rest : List Request) → IsStill switch → IsServed switch → switch.requests ≡ r ∷ rest → r.fetching ≡ false → ⊥
 none_waits_first switch r rest still served requests waiting =
-    let first : AtLeast (suc switch.last) (treated r (first_pass switch)) = treated-more switch.last r (first_pass switch) still refl waiting (omega arith) in
+    let first : AtLeast (suc switch.last) (treated r (first_pass switch)) = treated-more switch.last r (first_pass switch) (record { stands = ap (λ rs. slice_get rs 0) requests; waiting = waiting }) still refl (omega arith) in
     let next : AtLeast (suc switch.last) (treated_next (first_pass switch)) =
     subst (λ o. AtLeast (suc switch.last) (treated_if o (first_pass switch))) (sym (ap (λ rs. slice_get rs 0) requests)) first in
     let all : AtLeast (suc switch.last) (over (length switch.requests) (first_pass switch)) =
-    subst (λ rs. AtLeast (suc switch.last) (over (length rs) (first_pass switch))) (sym requests) (over-keeps (suc switch.last) (length rest) (treated_next (first_pass switch)) next) in
+    subst (λ rs. AtLeast (suc switch.last) (over (length rs) (first_pass switch))) (sym requests) (over-kept serving-keeps (suc switch.last) (length rest) (treated_next (first_pass switch)) next) in
     let same : much (one_pass switch) ≡ much (only switch) = ap much served in
     let none : much (only switch) ≡ switch.last = omega arith in
     omega (arith, all, same, none)

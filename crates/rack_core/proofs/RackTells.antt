@@ -16,7 +16,7 @@ use Rattle.page_image.specs.PageImage.{PageImageView, zero_image}
 use Rattle.compute_blade.specs.Blade.{BladeView}
 use Rattle.compute_blade.specs.Messages.{after_message}
 use Rattle.compute_blade.specs.Pages.{given_up}
-use Rattle.compute_blade.specs.Steps.{after_step, after_drain}
+use Rattle.compute_blade.specs.Steps.{after_step, blade_after_drain}
 use Rattle.region_directory.specs.Directory.{DirectoryView}
 use Rattle.coherence.specs.Facts.{IsCoherent}
 use Rattle.coherence.specs.Held.{held_after, entries_after, held_by, in_force, no_holdings, no_entries}
@@ -73,7 +73,7 @@ event_tells images plan (Step hart) old new noted fits safe room given =
     acted-told plan old new noted safe.flat room (hart_leaves (slice_get old.plan.threads hart) (after_step images hart) old new noted given).switch
     (λ newer. step_tells images hart plan old new noted safe.flat newer (lawful_then plan old safe room) safe.sound.blades room.frames given)
 event_tells images plan (Drain hart) old new noted fits safe room given =
-    acted-told plan old new noted safe.flat room (hart_leaves (slice_get old.plan.threads hart) (after_drain hart) old new noted given).switch
+    acted-told plan old new noted safe.flat room (hart_leaves (slice_get old.plan.threads hart) (blade_after_drain hart) old new noted given).switch
     (λ newer. drain_tells images hart plan old new noted safe.flat newer (lawful_then plan old safe room) safe.sound.blades room.frames given)
 event_tells images plan (Evict blade page) old new noted fits safe room given =
     acted-told plan old new noted safe.flat room (blade_leaves blade (λ b. Some (given_up page b)) old new noted given).switch

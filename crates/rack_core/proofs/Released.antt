@@ -1,6 +1,5 @@
 -- All hits, with those that are under way, grow by no more than what is noted as given up or lowered.
 use Rattle.std.proofs.Common.{◌≡◌, refl, sym, ◌∙◌, ap, subst, ℕ, ◌+◌, ◌<◌, ◌≤◌, List, [], ◌∷◌, ◌++◌, Option, Some, None, append-nil, arith}
-use Rattle.std.specs.List.{AllByRecursion}
 use Rattle.std.proofs.lemmas.Option.{same_Some}
 use Rattle.mind_base.specs.Page.{PageView}
 use Rattle.mind_base.specs.declared.events.Event.{Event}
@@ -18,16 +17,16 @@ use Rattle.page_image.specs.PageImage.{PageImageView}
 use Rattle.protect_table.proofs.Counting.{sum_below-none, sum_below-same}
 use Rattle.region_directory.specs.Directory.{DirectoryView}
 use Rattle.wire_msg.specs.declared.msgs.Msg.{Msg}
-use Rattle.compute_blade.specs.Blade.{BladeView, Effect}
+use Rattle.compute_blade.specs.Blade.{BladeView, BladeEffect}
 use Rattle.compute_blade.specs.Messages.{after_message}
 use Rattle.compute_blade.specs.Pages.{given_up}
-use Rattle.compute_blade.specs.Steps.{after_step, after_drain}
+use Rattle.compute_blade.specs.Steps.{after_step, blade_after_drain}
 use Rattle.memory_blade.specs.MemoryBlade as memory
 use Rattle.rack_net.specs.Net.{NetView, ChangesOnly, links_of}
 use Rattle.switch_core.specs.Switch.{place_in}
 use Rattle.coherence.specs.Facts.{IsCoherent}
-use Rattle.rack_core.specs.Events.{BladeActs, HartDoes, HandsTo, HandsAll, Delivers, Leads, SendsAll, SwitchHears, answers, on}
-use Rattle.rack_core.specs.Handing.{AsksOn, AskOn}
+use Rattle.rack_core.specs.Events.{BladeActs, HartDoes, HandsTo, HandsAll, Delivers, Leads, SendsAll, SwitchHears, answer_to_switch, on}
+use Rattle.rack_core.specs.Handing.{AskOn}
 use Rattle.rack_core.specs.Rack.{RackView, with_net}
 use Rattle.rack_core.specs.Released.{AreReleased, ack_counts, acks_under_way, all_hits, hits_of, released}
 use Rattle.rack_core.specs.Safe.{IsOfRack, IsSafe, IsSound}
@@ -38,7 +37,7 @@ use Rattle.rack_core.proofs.BladeDelivers.{other_link, flip}
 use Rattle.rack_core.proofs.BladeHanded.{did}
 use Rattle.rack_core.proofs.BladeSeen.{pending-away, pending-here}
 use Rattle.rack_core.proofs.Delivering.{gave_on, with_net-sound, asks_taken}
-use Rattle.rack_core.proofs.Handing.{handed_over}
+use Rattle.rack_core.proofs.Handing.{each-handed}
 use Rattle.rack_core.proofs.MemoryHanded.{answers-quiet}
 use Rattle.rack_core.proofs.ReleasedBlades.{CountsReleased, counts-then, drain-nothing, evicted-nothing, message-counts, nothing-counts, released-then, step-nothing}
 use Rattle.rack_core.proofs.ReleasedSwitch.{count_on, receives-added}
@@ -69,7 +68,7 @@ sent-acks c messages old new sends =
 -- ---- one message
 
 -- what a blade of the rack does
-acts-released : (c : ℕ) (e : Effect) (old new : RackView) (noted : List Note) → CountsReleased e → BladeActs c e old new noted → all_hits new ≤ all_hits old + released noted
+acts-released : (c : ℕ) (e : BladeEffect) (old new : RackView) (noted : List Note) → CountsReleased e → BladeActs c e old new noted → all_hits new ≤ all_hits old + released noted
 acts-released c e old new noted counts acts =
     let after : all_hits new ≡ hits_of old.switch.directory.entries + acks_under_way acts.net = ap all_hits acts.after in
     let links : acks_under_way acts.net ≤ acks_under_way old.net + ack_counts e.sent = sent-acks c e.sent old.net acts.net acts.sent in
@@ -99,7 +98,7 @@ one-released images To number message old new noted sound hands =
     omega (
       arith,
       after,
-      quiet-acks (answers number (memory.answer_to hands.images message)) old.net hands.net hands.sent (λ c. (answers-quiet number (memory.answer_to hands.images message) c).0),
+      quiet-acks (answer_to_switch number (memory.answer_to hands.images message)) old.net hands.net hands.sent (λ c. (answers-quiet number (memory.answer_to hands.images message) c).0),
     )
 
 -- ---- all messages that a link gave
@@ -120,16 +119,12 @@ on-cons From message rest = refl
 all-released : (images : List Image) (kind : LinkKind) (number : ℕ) (messages : List Msg) (old new : RackView) (flat : PageView → PageImageView) (noted : List Note)
     → IsCoherent (with_front kind number messages (seen old flat)) → IsSound old → number < 8 → AskOn kind (place_in old.switch) number messages
     → HandsAll images (record { kind = kind; number = number }) messages old new noted → all_hits new ≤ all_hits old + counts_on kind messages + released noted
-all-released images kind number [] old new flat noted coherent sound lt asks hands =
-    let same : all_hits new ≡ all_hits old = ap all_hits hands.0 in
-    omega (arith, same)
-all-released images kind number (message ∷ rest) old new flat noted coherent sound lt asks hands =
-    let first = handed_over images kind number message rest old hands.0 flat hands.1 coherent sound lt asks.0 hands.3 in
-    let asks_later = subst (λ f. AllByRecursion (AsksOn kind f number) rest) (sym first.places) asks.1 in
-    let one = one-released images kind number message old hands.0 hands.1 sound hands.3 in
-    let later = all-released images kind number rest hands.0 new first.flat hands.2 first.coherent first.sound lt asks_later hands.4 in
-    let notes : released noted ≡ released hands.1 + released hands.2 = ap released hands.5 ∙ released-then hands.1 hands.2 in
-    omega (arith, one, later, notes, on-cons kind message rest)
+all-released images kind number =
+    each-handed images kind number (λ messages old new noted. all_hits new ≤ all_hits old + counts_on kind messages + released noted)
+    (λ old new noted same none. let hits : all_hits new ≡ all_hits old = ap all_hits same in omega (arith, hits))
+    (λ message rest old mid new flat first later coherent sound hands fewer.
+    let one = one-released images kind number message old mid first sound hands in
+    omega (arith, one, fewer, released-then first later, on-cons kind message rest))
 
 -- what the link gave is under way no longer
 taken-acks : (kind : LinkKind) (c : ℕ) (taken : List Msg) (old net : NetView) → (8 ≤ c → ack_counts taken ≤ 0) → pending_on old kind c ≡ taken ++ pending_on net kind c
@@ -161,7 +156,7 @@ deliver-released images name side k old new noted lt safe given =
 -- ---- every event
 
 -- what a hart's blade does, by the plan
-hart-released : (act : BladeView → Option Effect) → ((blade : BladeView) (e : Effect) → act blade ≡ Some e → CountsReleased e) → (thread : Option ThreadPlan) (old new : RackView) (noted : List Note)
+hart-released : (act : BladeView → Option BladeEffect) → ((blade : BladeView) (e : BladeEffect) → act blade ≡ Some e → CountsReleased e) → (thread : Option ThreadPlan) (old new : RackView) (noted : List Note)
     → HartDoes thread act old new noted → all_hits new ≤ all_hits old + released noted
 hart-released act each None old new noted given = absurd given
 hart-released act each (Some thread) old new noted given =
@@ -181,7 +176,7 @@ pub event-released : (images : List Image) (event : Event) (old new : RackView) 
 event-released images (Step hart) old new noted fits safe given =
     hart-released (after_step images hart) (λ blade e does. nothing-counts e (step-nothing images hart blade e does)) _ old new noted given
 event-released images (Drain hart) old new noted fits safe given =
-    hart-released (after_drain hart) (λ blade e does. nothing-counts e (drain-nothing hart blade e does)) _ old new noted given
+    hart-released (blade_after_drain hart) (λ blade e does. nothing-counts e (drain-nothing hart blade e does)) _ old new noted given
 event-released images (Evict c page) old new noted fits safe given =
     let d = did c (λ blade. Some (given_up page blade)) old new noted given in
     acts-released c d.effect old new noted (subst CountsReleased (same_Some _ _ d.does) (nothing-counts (given_up page d.blade) (evicted-nothing page d.blade))) d.acts

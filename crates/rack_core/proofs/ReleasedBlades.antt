@@ -1,5 +1,5 @@
 -- What a compute blade acknowledges is at most what it notes as given up or lowered.
-use Rattle.std.proofs.Common.{◌≡◌, refl, sym, ◌∙◌, ap, subst, ℕ, suc, ◌+◌, ◌≤◌, Bool, true, false, cond, not, ◌&&◌, List, [], ◌∷◌, ◌++◌, length, filter, slice_get, Option, Some, None, option_map, arith}
+use Rattle.std.proofs.Common.{◌≡◌, refl, sym, ◌∙◌, ap, subst, ℕ, suc, ◌+◌, ◌≤◌, Bool, true, false, cond, not, List, [], ◌∷◌, ◌++◌, length, filter, slice_get, Option, Some, None, option_map, arith}
 use Rattle.std.specs.Prelude.{if◌then◌else◌, is_some, unwrap_or, option_and_then}
 use Rattle.std.specs.List.{AllByRecursion, IsDistinct}
 use Rattle.std.specs.Map.{keys_of, set_value}
@@ -18,19 +18,19 @@ use Rattle.mind_base.specs.declared.notes.Note.{Note}
 use Rattle.mind_base.specs.declared.plans.ThreadPlan.{ThreadPlan}
 use Rattle.hart_effect.specs.Deed.{Deed, carried_out, drains_first, found}
 use Rattle.hart_effect.specs.declared.finds.Found.{Found}
-use Rattle.page_cache.specs.PageCache.{IsPageCache, same_page, frame_of, without, with_change, lowered_frame, newest_first, oldest_first, put_of, stands_in, stands_writable_in}
+use Rattle.page_cache.specs.PageCache.{IsPageCache, same_page, frame_of, without_page, with_change, lowered_frame, newest_first, oldest_first, put_of, stands_in, stands_writable_in, is_writable}
 use Rattle.page_cache.specs.declared.frames.Frame.{Frame}
 use Rattle.page_cache.specs.declared.frames.Put.{Put}
 use Rattle.page_cache.specs.declared.frames.Put.TheVariants.{Fresh, Replaced, Pushed}
 use Rattle.page_cache.proofs.Laws.{same_page-true, same_page-refl}
 use Rattle.wire_msg.specs.declared.msgs.Msg.{Msg}
-use Rattle.wire_msg.specs.declared.msgs.Msg.TheVariants.{Get, Fill, Deny, Back, Inv, Lower, Ack, Close, Closed, Reopen, Read, Image as image_message, Write, Zero}
-use Rattle.compute_blade.specs.Blade.{HartView, BladeView, Effect, hart_of, with_hart, is_asked, request_for, answered, only}
+use Rattle.wire_msg.specs.declared.msgs.Msg.TheVariants.{Get, Fill, Deny, Back, Inv, Lower, Ack}
+use Rattle.compute_blade.specs.Blade.{HartView, BladeView, BladeEffect, hart_of, with_hart, is_asked, request_for, requests_without, only}
 use Rattle.compute_blade.specs.Denials.{denial_in, refused_by}
 use Rattle.compute_blade.specs.Frames.{around_held, thread_of}
-use Rattle.compute_blade.specs.Messages.{acknowledging, after_message, answered_by, awake, need_asked, needs_just, resumed_at, resumed_by, resumed_for, resumed_with}
-use Rattle.compute_blade.specs.Pages.{back_of, each_in, given_up, giving_up, held_in, lowered, lowering, sent_out, span_of, spared, taken, writable_in}
-use Rattle.compute_blade.specs.Steps.{after_drain, after_step, asking, drain_of, drained, draining_by, is_writable, need_in, performed, performed_by, serves, step_at, stepping_at, waiting}
+use Rattle.compute_blade.specs.Messages.{acknowledging, after_message, answered_by, awake, need_asked, resumed_by, resumed_for}
+use Rattle.compute_blade.specs.Pages.{back_of, each_in, given_up, giving_up, held_in, lowered, lowering, sent_out, run_of_block, spared, taken, writable_in}
+use Rattle.compute_blade.specs.Steps.{blade_after_drain, after_step, asking, drain_of, drained, draining_by, need_in, performed, performed_by, serves, step_at, stepping_at, waiting}
 use Rattle.compute_blade.specs.declared.kept.Answer.{Answer}
 use Rattle.compute_blade.specs.declared.kept.Answer.TheVariants.{Filled, Denied}
 use Rattle.compute_blade.specs.declared.kept.Asked.{Asked}
@@ -39,11 +39,11 @@ use Rattle.compute_blade.specs.declared.kept.Need.{Need}
 use Rattle.compute_blade.specs.declared.kept.Waits.{Waits}
 use Rattle.compute_blade.specs.declared.kept.Waits.TheVariants.{Step, Drain}
 use Rattle.coherence.specs.Counts.{bit}
-use Rattle.coherence.specs.Facts as facts
 use Rattle.rack_core.specs.Released.{ack_counts, released}
 use Rattle.rack_core.proofs.BladeCalls.{ChangesPages, block_gone, each, given_up-changes, lowered-changes}
 use Rattle.rack_core.proofs.BladeSteps.{for_hart-some}
 use Rattle.rack_core.proofs.Lookups.{Entries}
+use Rattle.rack_core.proofs.Resuming.{resumes-as}
 
 -- ---- one list behind another
 
@@ -57,7 +57,7 @@ counts-then (message ∷ first) later = omega (arith, counts-then first later)
 
 -- ---- what a hart's blade does acknowledges nothing
 
-abbrev AcksNothing : Effect → Type 0
+abbrev AcksNothing : BladeEffect → Type 0
 AcksNothing e = ack_counts e.sent ≡ 0
 
 performed-nothing : (h : ℕ) (plan : ThreadPlan) (found : Found) (pc : ℕ) (blade : BladeView) (hart : HartView) → AcksNothing (performed h plan found pc blade hart)
@@ -107,7 +107,7 @@ step_at-nothing (Running pc) h plan image blade hart = by hart.stepping (drains_
   by false true = drain_of-nothing h plan blade hart
   by false false = stepping-nothing (need_in (found image hart.regs pc) plan.domain) h plan (found image hart.regs pc) pc blade hart
 
-pub step-nothing : (images : List Image) (h : ℕ) (blade : BladeView) (e : Effect) → after_step images h blade ≡ Some e → AcksNothing e
+pub step-nothing : (images : List Image) (h : ℕ) (blade : BladeView) (e : BladeEffect) → after_step images h blade ≡ Some e → AcksNothing e
 step-nothing images h blade e given =
     let o = for_hart-some blade h (λ plan hart. option_map (λ image. step_at hart.end h plan image blade hart) (slice_get images plan.image)) e given in
     by o.plan o.hart (slice_get images o.plan.image) o.does
@@ -116,7 +116,7 @@ step-nothing images h blade e given =
     by plan hart None d = let never : ⊥ = cc in absurd never
     by plan hart (Some image) d = subst AcksNothing (same_Some _ _ d) (step_at-nothing hart.end h plan image blade hart)
 
-pub drain-nothing : (h : ℕ) (blade : BladeView) (e : Effect) → after_drain h blade ≡ Some e → AcksNothing e
+pub drain-nothing : (h : ℕ) (blade : BladeView) (e : BladeEffect) → blade_after_drain h blade ≡ Some e → AcksNothing e
 drain-nothing h blade e given =
     let o = for_hart-some blade h (λ plan hart. Some (drain_of h plan blade hart)) e given in
     subst AcksNothing (same_Some _ _ o.does) (drain_of-nothing h o.plan blade o.hart)
@@ -130,39 +130,24 @@ answered-nothing Denied h plan found pc blade hart = by (denial_in found) where
   by None = refl
   by (Some denial) = refl
 
-with-nothing : (answer : Answer) (asked : Need) (h : ℕ) (plan : ThreadPlan) (found : Found) (pc : ℕ) (blade : BladeView) (hart : HartView)
-    → AcksNothing (resumed_with answer asked h plan found pc blade hart)
-with-nothing answer asked h plan found pc blade hart = by (needs_just asked (need_in found plan.domain) && not (drains_first found hart.queue.stores hart.queue.capacity)) where
-  by : (b : Bool) → AcksNothing (if b then answered_by answer h plan found pc blade hart else only blade)
-  by true = answered-nothing answer h plan found pc blade hart
-  by false = refl
-
-at-nothing : (end : End) (answer : Answer) (asked : Need) (images : List Image) (h : ℕ) (plan : ThreadPlan) (blade : BladeView) (hart : HartView)
-    → AcksNothing (resumed_at end answer asked images h plan blade hart)
-at-nothing (Running pc) answer asked images h plan blade hart = by (slice_get images plan.image) where
-  by : (image : Option Image) → AcksNothing (unwrap_or (option_map (λ image. resumed_with answer asked h plan (found image hart.regs pc) pc blade hart) image) (only blade))
-  by None = refl
-  by (Some image) = with-nothing answer asked h plan (found image hart.regs pc) pc blade hart
-at-nothing (Exit value) answer asked images h plan blade hart = refl
-at-nothing (Fault kind value pc) answer asked images h plan blade hart = refl
-
 by-nothing : (waits : Waits) (answer : Answer) (asked : Need) (images : List Image) (h : ℕ) (plan : ThreadPlan) (blade : BladeView) (hart : HartView)
     → AcksNothing (resumed_by waits answer asked images h plan blade hart)
-by-nothing Step answer asked images h plan blade hart = at-nothing hart.end answer asked images h plan blade hart
+by-nothing Step answer asked images h plan blade hart =
+    resumes-as AcksNothing answer asked images h plan blade hart refl (λ image pc code runs just ready. answered-nothing answer h plan (found image hart.regs pc) pc blade hart)
 by-nothing Drain answer asked images h plan blade hart = draining-nothing h plan hart.queue.stores blade hart
 
 resumed-nothing : (answer : Answer) (images : List Image) (request : Option Asked) (blade : BladeView) → AcksNothing (resumed_for answer images request blade)
 resumed-nothing answer images None blade = refl
 resumed-nothing answer images (Some asked) blade = by (slice_get blade.plan.threads asked.hart) (hart_of blade asked.hart) where
-  goes : ThreadPlan → HartView → Effect
+  goes : ThreadPlan → HartView → BladeEffect
   goes plan hart = resumed_by asked.waits answer (need_asked asked) images asked.hart plan
-      (with_hart asked.hart (awake asked.waits hart) (record blade { requests = answered asked.page blade.requests })) (awake asked.waits hart)
+      (with_hart asked.hart (awake asked.waits hart) (record blade { requests = requests_without asked.page blade.requests })) (awake asked.waits hart)
 
   by : (p : Option ThreadPlan) (x : Option HartView) → AcksNothing (unwrap_or (option_and_then (λ plan. option_and_then (λ hart. Some (goes plan hart)) x) p) (only blade))
   by None x = refl
   by (Some plan) None = refl
   by (Some plan) (Some hart) = by-nothing asked.waits answer (need_asked asked) images asked.hart plan
-      (with_hart asked.hart (awake asked.waits hart) (record blade { requests = answered asked.page blade.requests })) (awake asked.waits hart)
+      (with_hart asked.hart (awake asked.waits hart) (record blade { requests = requests_without asked.page blade.requests })) (awake asked.waits hart)
 
 -- ---- pages
 
@@ -192,12 +177,12 @@ bit-most true = omega arith
 bit-most false = omega arith
 
 -- one entry fewer, or changed
-marked-without : (test : PageView × Frame → Bool) (page : PageView) (entries : Entries) → marked test entries ≤ marked test (without page entries) + 1
+marked-without : (test : PageView × Frame → Bool) (page : PageView) (entries : Entries) → marked test entries ≤ marked test (without_page page entries) + 1
 marked-without test page [] = omega arith
 marked-without test page (first ∷ entries) = by (marked-without test page entries) (same_page page first.0) where
-  by : marked test entries ≤ marked test (without page entries) + 1 → (b : Bool) → marked test (first ∷ entries) ≤ marked test (cond b entries (first ∷ without page entries)) + 1
+  by : marked test entries ≤ marked test (without_page page entries) + 1 → (b : Bool) → marked test (first ∷ entries) ≤ marked test (cond b entries (first ∷ without_page page entries)) + 1
   by rest true = omega (arith, marked-cons test first entries, bit-most (test first))
-  by rest false = omega (arith, marked-cons test first entries, marked-cons test first (without page entries), rest)
+  by rest false = omega (arith, marked-cons test first entries, marked-cons test first (without_page page entries), rest)
 
 marked-set : (test : PageView × Frame → Bool) (page : PageView) (new : Frame) (entries : Entries) → marked test entries ≤ marked test (set_value (same_page page) entries new) + 1
 marked-set test page new [] = omega arith
@@ -214,7 +199,7 @@ marked-change test change page entries = by (frame_of page entries) where
   by (Some frame) = marked-set test page (change frame) entries
 
 -- what is done acknowledges nothing, and there is a note for each entry that passes the test no longer
-record Releases (test : PageView × Frame → Bool) (blade : BladeView) (e : Effect) : Type 0 where
+record Releases (test : PageView × Frame → Bool) (blade : BladeView) (e : BladeEffect) : Type 0 where
   none : AcksNothing e
   noted : marked test blade.cache.entries ≤ marked test e.blade.cache.entries + released e.noted
 
@@ -230,7 +215,7 @@ lowers-released test page blade = by (frame_of page blade.cache.entries) where
   by None = record { none = refl; noted = omega arith }
   by (Some frame) = record { none = back-nothing page frame; noted = marked-change test lowered_frame page blade.cache.entries }
 
-each-released : (test : PageView × Frame → Bool) (change : PageView → BladeView → Effect) → ((page : PageView) (blade : BladeView) → Releases test blade (change page blade))
+each-released : (test : PageView × Frame → Bool) (change : PageView → BladeView → BladeEffect) → ((page : PageView) (blade : BladeView) → Releases test blade (change page blade))
     → (pages : List PageView) (blade : BladeView) → Releases test blade (each_in change pages blade)
 each-released test change one [] blade = record { none = refl; noted = omega arith }
 each-released test change one (page ∷ pages) blade =
@@ -264,7 +249,7 @@ none-marked test (entry ∷ entries) distinct fails =
       by false e = fails page frame (ap (λ b. cond b (Some entry.1) (frame_of page entries)) e ∙ held)
 
 -- pages that pass a test were changed until none of them does
-all-released : (on : Option Frame → Bool) (test : PageView × Frame → Bool) (change : PageView → BladeView → Effect) (blade : BladeView)
+all-released : (on : Option Frame → Bool) (test : PageView × Frame → Bool) (change : PageView → BladeView → BladeEffect) (blade : BladeView)
     → ((page : PageView) (frame : Frame) → test (page, frame) ≡ true → on (Some frame) ≡ true)
     → ((page : PageView) (frame other : Frame) → test (page, frame) ≡ true → on (Some other) ≡ true → test (page, other) ≡ true) → on None ≡ false
     → ChangesPages on blade (oldest_first test blade.cache.entries) (each_in change (oldest_first test blade.cache.entries) blade)
@@ -298,13 +283,13 @@ spared-few (Some asked) pages = few pages where
 -- ---- messages
 
 -- the acknowledgements that are sent count at most the pages that are noted
-abbrev pub CountsReleased : Effect → Type 0
+abbrev pub CountsReleased : BladeEffect → Type 0
 CountsReleased e = ack_counts e.sent ≤ released e.noted
 
-pub nothing-counts : (e : Effect) → AcksNothing e → CountsReleased e
+pub nothing-counts : (e : BladeEffect) → AcksNothing e → CountsReleased e
 nothing-counts e none = omega (arith, none)
 
-acknowledges : (test : PageView × Frame → Bool) (change : PageView → BladeView → Effect) (pages : List PageView) (number : ℕ) (asked : Option PageView) (blade : BladeView)
+acknowledges : (test : PageView × Frame → Bool) (change : PageView → BladeView → BladeEffect) (pages : List PageView) (number : ℕ) (asked : Option PageView) (blade : BladeView)
     → Releases test blade (each_in change pages blade) → length pages ≤ released (each_in change pages blade).noted → CountsReleased (acknowledging change pages number asked blade)
 acknowledges test change pages number asked blade releases few =
     omega (
@@ -318,18 +303,18 @@ acknowledges test change pages number asked blade releases few =
 
 invalidated-counts : (range : RangeView) (number : ℕ) (asked : Option PageView) (blade : BladeView) → IsPageCache blade.cache → CountsReleased (acknowledging given_up (held_in range blade) number asked blade)
 invalidated-counts range number asked blade is =
-    let test = stands_in (span_of range) in
+    let test = stands_in (run_of_block range) in
     let releases = each-released test given_up (gives-released test) (held_in range blade) blade in
     acknowledges test given_up (held_in range blade) number asked blade releases
     (all-released is_some test given_up blade (λ page frame e. refl) (λ page frame other e o. e) refl (each is_some given_up given_up-changes (held_in range blade) blade is) releases)
 
 lowered-counts : (range : RangeView) (number : ℕ) (asked : Option PageView) (blade : BladeView) → IsPageCache blade.cache → CountsReleased (acknowledging lowered (writable_in range blade) number asked blade)
 lowered-counts range number asked blade is =
-    let test = stands_writable_in (span_of range) in
+    let test = stands_writable_in (run_of_block range) in
     let releases = each-released test lowered (lowers-released test) (writable_in range blade) blade in
     acknowledges test lowered (writable_in range blade) number asked blade releases
-    (all-released facts.is_writable test lowered blade (λ page frame e. (and_parts _ _ e).1) (λ page frame other e o. and_from _ _ (and_parts _ _ e).0 o) refl
-    (each facts.is_writable lowered lowered-changes (writable_in range blade) blade is) releases)
+    (all-released is_writable test lowered blade (λ page frame e. (and_parts _ _ e).1) (λ page frame other e o. and_from _ _ (and_parts _ _ e).0 o) refl
+    (each is_writable lowered lowered-changes (writable_in range blade) blade is) releases)
 
 pub message-counts : (images : List Image) (message : Msg) (blade : BladeView) → IsPageCache blade.cache → CountsReleased (after_message images message blade)
 message-counts images (Fill page perm writable image) blade is =
@@ -342,16 +327,7 @@ message-counts images (Fill page perm writable image) blade is =
 message-counts images (Deny page) blade is = nothing-counts (after_message images (Deny page) blade) (resumed-nothing Denied images (request_for page blade.requests) blade)
 message-counts images (Inv number range asked) blade is = invalidated-counts range number asked blade is
 message-counts images (Lower number range asked) blade is = lowered-counts range number (Some asked) blade is
-message-counts images (Get page write) blade is = omega arith
-message-counts images (Back page image) blade is = omega arith
-message-counts images (Ack number count) blade is = omega arith
-message-counts images (Close number span ends) blade is = omega arith
-message-counts images (Closed number) blade is = omega arith
-message-counts images (Reopen number) blade is = omega arith
-message-counts images (Read phys for page) blade is = omega arith
-message-counts images (image_message for page image) blade is = omega arith
-message-counts images (Write phys image) blade is = omega arith
-message-counts images (Zero phys pages) blade is = omega arith
+message-counts images message blade is = omega arith
 
 pub evicted-nothing : (page : PageView) (blade : BladeView) → AcksNothing (given_up page blade)
 evicted-nothing page blade = (gives-released (λ entry. true) page blade).none

@@ -1,5 +1,5 @@
 -- Messages of a node go onto their links, one after another; and what a blade sends may be sent.
-use Rattle.std.proofs.Common.{◌≡◌, sym, ap, subst, ◌∙◌, ◌<◌, Bool, true, false, List, [], ◌∷◌, ◌++◌}
+use Rattle.std.proofs.Common.{◌≡◌, sym, ap, subst, ◌∙◌, ◌<◌, Bool, true, false, List, [], ◌∷◌}
 use Rattle.std.specs.Prelude.{if◌then◌else◌}
 use Rattle.std.specs.List.{AllByRecursion}
 use Rattle.mind_base.specs.declared.links.LinkName.{LinkName}
@@ -8,10 +8,11 @@ use Rattle.wire_msg.specs.WellFormed.{FieldsAgree}
 use Rattle.wire_msg.specs.declared.msgs.Msg.{Msg}
 use Rattle.mind_base.specs.Page.{PageView}
 use Rattle.compute_blade.specs.Actions.{Action, GivesUp, Lowers, Takes, Asks, Wakes, Performs, Refuses, Drains, Acks, after_action, after_actions, IsActions}
-use Rattle.compute_blade.specs.Blade.{BladeView, Effect}
+use Rattle.compute_blade.specs.Blade.{BladeView, BladeEffect}
 use Rattle.compute_blade.specs.Pages.{back_of}
 use Rattle.rack_net.specs.Net.{NetView, IsLinkOf, links_of_kind}
 use Rattle.rack_core.specs.Events.{SendsOn, SendsAll}
+use Rattle.switch_core.proofs.Lists.{all-append}
 
 -- ---- one after another
 
@@ -45,10 +46,6 @@ as-many (message ∷ messages) old new sent =
 
 -- ---- what a blade sends
 
-pub all-both : {X : Type 0} (P : X → Type 0) (xs ys : List X) → AllByRecursion P xs → AllByRecursion P ys → AllByRecursion P (xs ++ ys)
-all-both P [] ys all more = more
-all-both P (x ∷ xs) ys all more = (all.0, all-both P xs ys all.1 more)
-
 back-agrees : (page : PageView) (frame : Frame) → AllByRecursion FieldsAgree (back_of page frame)
 back-agrees page frame = by frame.dirty where
   by : (b : Bool) → AllByRecursion FieldsAgree (if b then Rattle.wire_msg.specs.declared.msgs.Msg.TheVariants.Back page frame.image ∷ [] else [])
@@ -69,9 +66,9 @@ action-agrees (Acks number count) blade = (tt, tt)
 actions-agree : (actions : List Action) (blade : BladeView) → AllByRecursion FieldsAgree (after_actions actions blade).sent
 actions-agree [] blade = tt
 actions-agree (action ∷ actions) blade =
-    all-both FieldsAgree (after_action action blade).sent (after_actions actions (after_action action blade).blade).sent
+    all-append FieldsAgree (after_action action blade).sent (after_actions actions (after_action action blade).blade).sent
     (action-agrees action blade) (actions-agree actions (after_action action blade).blade)
 
 -- what actions send may be sent
-pub sent-agrees : (blade : BladeView) (e : Effect) → IsActions blade e → AllByRecursion FieldsAgree e.sent
-sent-agrees blade e is = subst (λ (x : Effect). AllByRecursion FieldsAgree x.sent) (sym is.done) (actions-agree is.actions blade)
+pub sent-agrees : (blade : BladeView) (e : BladeEffect) → IsActions blade e → AllByRecursion FieldsAgree e.sent
+sent-agrees blade e is = subst (λ (x : BladeEffect). AllByRecursion FieldsAgree x.sent) (sym is.done) (actions-agree is.actions blade)

@@ -10,10 +10,10 @@ use Rattle.mind_base.specs.declared.notes.Note.{Note}
 use Rattle.mind_base.specs.declared.plans.RackPlan.{RackPlan}
 use Rattle.mind_base.specs.declared.plans.ThreadPlan.{ThreadPlan}
 use Rattle.wire_msg.specs.declared.msgs.Msg.{Msg}
-use Rattle.compute_blade.specs.Blade.{BladeView, Effect}
+use Rattle.compute_blade.specs.Blade.{BladeView, BladeEffect}
 use Rattle.compute_blade.specs.Messages.{after_message}
 use Rattle.compute_blade.specs.Pages.{given_up}
-use Rattle.compute_blade.specs.Steps.{after_step, after_drain}
+use Rattle.compute_blade.specs.Steps.{after_step, blade_after_drain}
 use Rattle.switch_core.specs.Serving.{IsServed, first_pass, over}
 use Rattle.rack_core.specs.Events.{BladeDoes, HartDoes, HandsTo, HandsAll, Leads, SwitchHears}
 use Rattle.rack_core.specs.Rack.{RackView}
@@ -24,10 +24,10 @@ use Rattle.rack_core.proofs.Handing.{blade_leaves}
 same-served : (old new : RackView) → new.switch ≡ old.switch → IsServed old.switch → IsServed new.switch
 same-served old new same served = subst IsServed (sym same) served
 
-does-served : (number : ℕ) (act : BladeView → Option Effect) (old new : RackView) (noted : List Note) → IsServed old.switch → BladeDoes number act old new noted → IsServed new.switch
+does-served : (number : ℕ) (act : BladeView → Option BladeEffect) (old new : RackView) (noted : List Note) → IsServed old.switch → BladeDoes number act old new noted → IsServed new.switch
 does-served number act old new noted served given = same-served old new (blade_leaves number act old new noted given).switch served
 
-hart-served : (thread : Option ThreadPlan) (act : BladeView → Option Effect) (old new : RackView) (noted : List Note) → IsServed old.switch → HartDoes thread act old new noted → IsServed new.switch
+hart-served : (thread : Option ThreadPlan) (act : BladeView → Option BladeEffect) (old new : RackView) (noted : List Note) → IsServed old.switch → HartDoes thread act old new noted → IsServed new.switch
 hart-served None act old new noted served given = absurd given
 hart-served (Some thread) act old new noted served given = does-served thread.blade act old new noted served given
 
@@ -49,7 +49,7 @@ all-served images name (message ∷ messages) old new noted served (mid, first, 
 
 pub event-served : (images : List Image) (event : Event) (old new : RackView) (noted : List Note) → IsServed old.switch → Leads images event old new noted → IsServed new.switch
 event-served images (Step hart) old new noted served given = hart-served (slice_get old.plan.threads hart) (after_step images hart) old new noted served given
-event-served images (Drain hart) old new noted served given = hart-served (slice_get old.plan.threads hart) (after_drain hart) old new noted served given
+event-served images (Drain hart) old new noted served given = hart-served (slice_get old.plan.threads hart) (blade_after_drain hart) old new noted served given
 event-served images (Evict blade page) old new noted served given = does-served blade (λ b. Some (given_up page b)) old new noted served given
 event-served images (Deliver link side k) old new noted served given = all-served images link given.taken _ new noted served given.handed
 event-served images (Lose link side k) old new noted served given = same-served old new (ap (λ (r : RackView). r.switch) given.after) served

@@ -5,7 +5,7 @@ use Rattle.mind_base.specs.declared.images.Image.{Image}
 use Rattle.page_cache.specs.PageCache.{IsPageCache}
 use Rattle.page_image.specs.PageImage.{PageImageView}
 use Rattle.protect_table.specs.Protect.{permission_at}
-use Rattle.compute_blade.specs.Blade.{HartView, BladeView, Effect, with_entries, request_for, answered}
+use Rattle.compute_blade.specs.Blade.{HartView, BladeView, BladeEffect, with_frames, request_for, requests_without}
 use Rattle.compute_blade.specs.Messages.{awake, need_asked, resumed_for, resumed_by}
 use Rattle.compute_blade.specs.declared.kept.Answer.{Answer}
 use Rattle.compute_blade.specs.declared.kept.Asked.{Asked}
@@ -13,7 +13,7 @@ use Rattle.coherence.specs.Facts.{AreFrames}
 use Rattle.tso_machine.specs.State.{Setup, State}
 use Rattle.rack_core.specs.BladeMoves.{with_seen_blade, IsSoundBlade, IsRequest}
 use Rattle.rack_core.specs.Events.{BladeActs}
-use Rattle.rack_core.specs.Rack.{RackView, with_blade}
+use Rattle.rack_core.specs.Rack.{RackView, with_blade_at}
 use Rattle.rack_core.specs.Seen.{seen}
 use Rattle.rack_core.specs.Stands.{IsHartAt}
 use Rattle.rack_core.specs.StandLog.{AreHartsPlaced}
@@ -47,27 +47,27 @@ pub record Between (answer : Answer) (images : List Image) (setup : Setup) (old 
   pub holds : at.blade.cache.entries ≡ entries
   pub here : at.plan.blade ≡ c
   pub became : BladeBecame c at.blade old mid
-  pub goes_on : resumed_for answer images (request_for page blade.requests) (with_entries blade entries)
+  pub goes_on : resumed_for answer images (request_for page blade.requests) (with_frames blade entries)
       ≡ resumed_by asked.waits answer (need_asked asked) images asked.hart at.plan at.blade hart
 
 pub between : (answer : Answer) (images : List Image) (setup : Setup) (old : RackView) (flat : PageView → PageImageView) (m : State) → GoesWith images setup old flat m → AreHartsPlaced old
-    → (c : ℕ) (blade : BladeView) → slice_get old.blades c ≡ Some blade → (entries : Entries) (page : PageView) (asked : Asked) → request_for page blade.requests ≡ Some asked → IsPageCache (with_entries blade entries).cache
-    → AreFrames (with_seen_blade c (record (with_entries blade entries) { requests = answered page blade.requests }) [] flat (seen old flat))
+    → (c : ℕ) (blade : BladeView) → slice_get old.blades c ≡ Some blade → (entries : Entries) (page : PageView) (asked : Asked) → request_for page blade.requests ≡ Some asked → IsPageCache (with_frames blade entries).cache
+    → AreFrames (with_seen_blade c (record (with_frames blade entries) { requests = requests_without page blade.requests }) [] flat (seen old flat))
     → Between answer images setup old flat m c blade entries page asked
 unfolding awaking
 between answer images setup old flat m goes placed c blade there entries page asked out cache frames =
     let sound = goes.sound c blade there in
-    let after = with_entries blade entries in
+    let after = with_frames blade entries in
     let found_it = of_found (IsRequest blade.plan.threads blade.harts) page blade.requests asked sound.requests out in
     let ends = ends-by blade asked asked.waits found_it.0 in
     let hart = ends.1 in
     let h = asked.hart in
     let next = awaking asked hart after in
-    let mid = with_blade c next old in
-    let act : Effect = record { blade = next; sent = []; noted = [] } in
+    let mid = with_blade_at c next old in
+    let act : BladeEffect = record { blade = next; sent = []; noted = [] } in
     let acts : BladeActs c act old mid [] = record { net = old.net; sent = refl; after = refl; notes = refl } in
     let frames_mid : AreFrames (seen mid flat) = subst AreFrames (sym (seen-acted c blade act old mid [] flat flat there acts))
-    (subst (λ q. AreFrames (with_seen_blade c (record after { requests = answered q blade.requests }) [] flat (seen old flat))) (sym found_it.1) frames) in
+    (subst (λ q. AreFrames (with_seen_blade c (record after { requests = requests_without q blade.requests }) [] flat (seen old flat))) (sym found_it.1) frames) in
     let after_sound : IsSoundBlade (permission_at old.switch.protect) after =
     record { cache = cache; apart = sound.apart; waiters = sound.waiters; requests = sound.requests; waiting = sound.waiting; stores = sound.stores } in
     let sounds = still_sound c blade act old mid [] there acts goes.sound
@@ -99,12 +99,12 @@ between answer images setup old flat m goes placed c blade there entries page as
 
 -- The request for a page ends when the blade has these pages, and what waited for it leads the machine on.
 pub answers-run : (answer : Answer) (images : List Image) (setup : Setup) (old : RackView) (flat : PageView → PageImageView) (m : State) → GoesWith images setup old flat m → AreHartsPlaced old
-    → (c : ℕ) (blade : BladeView) → slice_get old.blades c ≡ Some blade → (entries : Entries) (page : PageView) (asked : Asked) → request_for page blade.requests ≡ Some asked → IsPageCache (with_entries blade entries).cache
-    → AreFrames (with_seen_blade c (record (with_entries blade entries) { requests = answered page blade.requests }) [] flat (seen old flat)) → Resumes answer images setup old flat m entries asked
-    → Runs images setup old flat m c (resumed_for answer images (request_for page blade.requests) (with_entries blade entries))
+    → (c : ℕ) (blade : BladeView) → slice_get old.blades c ≡ Some blade → (entries : Entries) (page : PageView) (asked : Asked) → request_for page blade.requests ≡ Some asked → IsPageCache (with_frames blade entries).cache
+    → AreFrames (with_seen_blade c (record (with_frames blade entries) { requests = requests_without page blade.requests }) [] flat (seen old flat)) → Resumes answer images setup old flat m entries asked
+    → Runs images setup old flat m c (resumed_for answer images (request_for page blade.requests) (with_frames blade entries))
 answers-run answer images setup old flat m goes placed c blade there entries page asked out cache frames resumes new newer whole counted newest =
     let b = between answer images setup old flat m goes placed c blade there entries page asked out cache frames in
-    let e : Effect = resumed_for answer images (request_for page blade.requests) (with_entries blade entries) in
+    let e : BladeEffect = resumed_for answer images (request_for page blade.requests) (with_frames blade entries) in
     let runs = resumes b.mid b.perms b.frames b.goes b.hart b.at b.holds in
     let does : Runs images setup b.mid flat m c e = subst (Runs images setup b.mid flat m c) (sym b.goes_on)
     (subst (λ k. Runs images setup b.mid flat m k (resumed_by asked.waits answer (need_asked asked) images asked.hart b.at.plan b.at.blade b.hart)) b.here runs) in

@@ -17,13 +17,12 @@ use Rattle.hart_effect.specs.Deed.{Deed, Alone, Storing, found, carried_out, dra
 use Rattle.mind_base.specs.Place.{place_of, page_at}
 use Rattle.hart_effect.specs.Thread.{Thread}
 use Rattle.hart_effect.specs.declared.finds.Found.{Found}
-use Rattle.page_cache.specs.PageCache.{frame_of, same_page}
+use Rattle.page_cache.specs.PageCache.{frame_of, same_page, is_writable}
 use Rattle.page_cache.specs.declared.frames.Frame.{Frame}
 use Rattle.page_image.specs.PageImage.{PageImageView}
-use Rattle.compute_blade.specs.Blade.{HartView, BladeView, Effect, with_hart, is_asked, only}
+use Rattle.compute_blade.specs.Blade.{HartView, BladeView, BladeEffect, with_hart, is_asked, only}
 use Rattle.compute_blade.specs.Frames.{around_held, thread_of}
-use Rattle.compute_blade.specs.Steps as steps
-use Rattle.compute_blade.specs.Steps.{need_in, serves, next_tag, frames_with, frames_after, used_by, hart_after, performed_by, performed, asking, waiting, drained, draining_by, drain_of, stepping_at, stepping_by, step_at, one_more}
+use Rattle.compute_blade.specs.Steps.{need_in, serves, next_tag, frames_with, frames_after, hart_after, performed_by, performed, asking, waiting, drained, draining_by, drain_of, stepping_at, stepping_by, step_at, one_more_store, blade_done_by}
 use Rattle.compute_blade.specs.declared.kept.Need.{Need}
 use Rattle.compute_blade.specs.declared.kept.Reservation.{Reservation}
 use Rattle.compute_blade.specs.declared.kept.Waits.{Waits}
@@ -34,7 +33,7 @@ use Rattle.tso_machine.specs.Step.{done_by}
 use Rattle.wire_msg.specs.declared.msgs.Msg.TheVariants.{Get}
 use Rattle.rack_core.specs.BladeMoves.{hart_in, image_or}
 use Rattle.rack_core.specs.Rack.{RackView}
-use Rattle.rack_core.specs.Stands.{IsHartAt, StandsFor, machine_thread}
+use Rattle.rack_core.specs.Stands.{IsHartAt, RackStandsFor, machine_thread}
 use Rattle.rack_core.specs.StandRuns.{ArePending, AreQueuesPending, AreCounted, HasOnePlan, GoesWith, BladeBecame, AreNewest, LeadsMachine}
 use Rattle.rack_core.proofs.BladeDeeds.{storing}
 use Rattle.rack_core.proofs.BladeSound.{hart_in-set}
@@ -50,7 +49,7 @@ use Rattle.rack_core.proofs.StandBytes.{flat_with}
 use Rattle.rack_core.proofs.StandTags.{hart-below}
 
 -- what a blade did leads the machine on, whatever the new rack is and whatever its newest images are called
-abbrev pub Runs : List Image → Setup → RackView → (PageView → PageImageView) → State → ℕ → Effect → Type 0
+abbrev pub Runs : List Image → Setup → RackView → (PageView → PageImageView) → State → ℕ → BladeEffect → Type 0
 Runs images setup old flat m c e = (new : RackView) (newer : PageView → PageImageView) → BladeBecame c e.blade old new → AreCounted new → AreNewest e.blade.cache.entries flat newer
     → LeadsMachine setup m e.noted new newer
 
@@ -117,7 +116,7 @@ at-now h was now old new at blade plan blades harts = record {
 
 -- a hart that changed in nothing that the machine sees
 quiet : (images : List Image) (setup : Setup) (old : RackView) (flat : PageView → PageImageView) (m : State) → GoesWith images setup old flat m → (h : ℕ) (hart : HartView) (at : IsHartAt old h hart)
-    → (now : HartView) (e : Effect) → e.blade.plan ≡ at.blade.plan → e.blade.harts ≡ slice_set at.blade.harts h (Some now) → e.blade.cache.entries ≡ at.blade.cache.entries → e.noted ≡ []
+    → (now : HartView) (e : BladeEffect) → e.blade.plan ≡ at.blade.plan → e.blade.harts ≡ slice_set at.blade.harts h (Some now) → e.blade.cache.entries ≡ at.blade.cache.entries → e.noted ≡ []
     → machine_thread flat now ≡ machine_thread flat hart → now.queue.stores ≡ hart.queue.stores → now.stores ≡ hart.stores → now.reserved ≡ hart.reserved
     → Runs images setup old flat m at.plan.blade e
 quiet images setup old flat m goes h hart at now e plan harts entries noted thread stores counts reserved new newer became counted newest =
@@ -126,7 +125,7 @@ quiet images setup old flat m goes h hart at now e plan harts entries noted thre
     record {
       next = m;
       run = ap (λ n. replay setup m (labels n)) noted;
-      stands = subst (λ f. StandsFor new f m) (sym same) (stands-same h hart now old new flat m
+      stands = subst (λ f. RackStandsFor new f m) (sym same) (stands-same h hart now old new flat m
           (record { one = one; counts = counts; keeps = λ r k. goes.stands.kept h hart r at (sym reserved ∙ k); perms = became.perms }) goes.stands thread);
       pending = queues-one h hart now old new one goes.pending (subst ArePending (sym stores) (goes.pending h hart at));
       one = plan-one at.plan.blade e.blade old new became (plan ∙ goes.one.blades at.plan.blade at.blade at.there) goes.one;
@@ -141,7 +140,7 @@ idles images setup old flat m goes h hart at = quiet images setup old flat m goe
 pub asks : (images : List Image) (setup : Setup) (old : RackView) (flat : PageView → PageImageView) (m : State) → GoesWith images setup old flat m → (h : ℕ) (hart : HartView) (at : IsHartAt old h hart)
     → (waits : Waits) (need : Need) → Runs images setup old flat m at.plan.blade (asking h waits need at.blade hart)
 asks images setup old flat m goes h hart at waits need = by (is_asked need.page at.blade.requests) waits where
-  asking-it : Waits → Effect
+  asking-it : Waits → BladeEffect
   asking-it waits = record {
     blade = with_hart h (waiting waits hart) (record at.blade {
       requests = at.blade.requests ++ record { page = need.page; write = need.write; hart = h; waits = waits } ∷ [];
@@ -159,7 +158,7 @@ asks images setup old flat m goes h hart at waits need = by (is_asked need.page 
 
 -- hart h let a store take effect in a page that its blade holds, and the machine did so by a label
 stores-run : (images : List Image) (setup : Setup) (old : RackView) (flat : PageView → PageImageView) (m : State) → GoesWith images setup old flat m → (h : ℕ) (hart : HartView) (at : IsHartAt old h hart)
-    → (now : HartView) (store : PendingView) (e : Effect) → e.blade.plan ≡ at.blade.plan → e.blade.harts ≡ slice_set at.blade.harts h (Some now)
+    → (now : HartView) (store : PendingView) (e : BladeEffect) → e.blade.plan ≡ at.blade.plan → e.blade.harts ≡ slice_set at.blade.harts h (Some now)
     → e.blade.cache.entries ≡ frames_with at.plan.domain store (next_tag h hart.stores) at.blade.cache.entries
     → IsHeld old flat at.blade.cache.entries (page_at (place_of at.plan.domain store.address))
     → now.stores ≡ hart.stores + 1 → ((r : Reservation) → now.reserved ≡ Some r → hart.reserved ≡ Some r)
@@ -176,7 +175,7 @@ stores-run images setup old flat m goes h hart at now store e plan harts entries
     record {
       next = done_by h at.plan.domain m (Storing (machine_thread flat now) store);
       run = run;
-      stands = subst (λ f. StandsFor new f (done_by h at.plan.domain m (Storing (machine_thread flat now) store))) (sym same)
+      stands = subst (λ f. RackStandsFor new f (done_by h at.plan.domain m (Storing (machine_thread flat now) store))) (sym same)
           (stands-stored h at.plan.domain hart now store old new flat m
           (record { one = one; below = hart-below old h hart goes.one.fit at; unspent = (let more : now.stores ≡ hart.stores + 1 = counts in omega arith); counts = counts; keeps = keeps; pending = pending; perms = became.perms }) goes.stands);
       pending = queues-one h hart now old new one goes.pending queue;
@@ -224,7 +223,7 @@ performs-run images setup old flat m goes h hart at image pc exec = by (carried_
   alone : (new : Thread) → carried_out finds around pc thread ≡ Some (Alone new) → Runs images setup old flat m at.plan.blade (performed_by (Some (Alone new)) h at.plan finds at.blade hart)
   alone new e rack newer became counted newest =
       let now = hart_after at.plan.domain finds at.blade.cache.entries hart (Alone new) in
-      let blade = steps.done_by h at.plan finds at.blade hart (Alone new) in
+      let blade = blade_done_by h at.plan finds at.blade hart (Alone new) in
       let one = one-changed h hart now old rack at blade became.plan became.blades refl in
       let sound = goes.sound at.plan.blade at.blade at.there in
       let same : newer ≡ flat = newest-same at.blade.cache.entries blade.cache.entries flat newer (are-held images setup old flat m goes h hart at)
@@ -232,7 +231,7 @@ performs-run images setup old flat m goes h hart at image pc exec = by (carried_
       record {
         next = done_by h at.plan.domain m (Alone (machine_thread flat now));
         run = done (Alone new) e;
-        stands = subst (λ f. StandsFor rack f (done_by h at.plan.domain m (Alone (machine_thread flat now)))) (sym same)
+        stands = subst (λ f. RackStandsFor rack f (done_by h at.plan.domain m (Alone (machine_thread flat now)))) (sym same)
             (stands-alone h at.plan.domain hart now old rack flat m
             (record { one = one; counts = refl; keeps = kept-past old flat m goes.stands goes.frames h hart at finds at.plan.domain new.end; perms = became.perms }) goes.stands);
         pending = queues-one h hart now old rack one goes.pending (fits (Alone new) e);
@@ -257,23 +256,23 @@ performs-run images setup old flat m goes h hart at image pc exec = by (carried_
 
 -- a page that may be written is held
 writable-held : (images : List Image) (setup : Setup) (old : RackView) (flat : PageView → PageImageView) (m : State) → GoesWith images setup old flat m → (h : ℕ) (hart : HartView) (at : IsHartAt old h hart)
-    → (page : PageView) → steps.is_writable (frame_of page at.blade.cache.entries) ≡ true → IsHeld old flat at.blade.cache.entries page
+    → (page : PageView) → is_writable (frame_of page at.blade.cache.entries) ≡ true → IsHeld old flat at.blade.cache.entries page
 writable-held images setup old flat m goes h hart at page e = by (frame_of page at.blade.cache.entries) refl e where
-  by : (held : Option Frame) → frame_of page at.blade.cache.entries ≡ held → steps.is_writable held ≡ true → IsHeld old flat at.blade.cache.entries page
+  by : (held : Option Frame) → frame_of page at.blade.cache.entries ≡ held → is_writable held ≡ true → IsHeld old flat at.blade.cache.entries page
   by None is e = let never : ⊥ = cc in absurd never
   by (Some frame) is e = held-coherent old flat goes.frames h hart at page frame is
 
 pub draining-runs : (images : List Image) (setup : Setup) (old : RackView) (flat : PageView → PageImageView) (m : State) → GoesWith images setup old flat m → (h : ℕ) (hart : HartView) (at : IsHartAt old h hart)
     → (queue : List PendingView) → hart.queue.stores ≡ queue → Runs images setup old flat m at.plan.blade (draining_by h at.plan queue at.blade hart)
 draining-runs images setup old flat m goes h hart at [] is = idles images setup old flat m goes h hart at
-draining-runs images setup old flat m goes h hart at (oldest ∷ newer) is = by (steps.is_writable (frame_of (page_at (place_of at.plan.domain oldest.address)) at.blade.cache.entries)) refl where
+draining-runs images setup old flat m goes h hart at (oldest ∷ newer) is = by (is_writable (frame_of (page_at (place_of at.plan.domain oldest.address)) at.blade.cache.entries)) refl where
   fits : ArePending (oldest ∷ newer)
   fits = subst ArePending is (goes.pending h hart at)
 
-  by : (b : Bool) → steps.is_writable (frame_of (page_at (place_of at.plan.domain oldest.address)) at.blade.cache.entries) ≡ b
+  by : (b : Bool) → is_writable (frame_of (page_at (place_of at.plan.domain oldest.address)) at.blade.cache.entries) ≡ b
       → Runs images setup old flat m at.plan.blade (if b then drained h at.plan oldest newer at.blade hart
       else asking h Drain (record { page = page_at (place_of at.plan.domain oldest.address); write = true }) at.blade hart)
-  by true e = stores-run images setup old flat m goes h hart at (one_more (record hart { queue = record hart.queue { stores = newer } })) oldest (drained h at.plan oldest newer at.blade hart)
+  by true e = stores-run images setup old flat m goes h hart at (one_more_store (record hart { queue = record hart.queue { stores = newer } })) oldest (drained h at.plan oldest newer at.blade hart)
       refl refl refl (writable-held images setup old flat m goes h hart at (page_at (place_of at.plan.domain oldest.address)) e) refl (λ r k. k) fits.0 fits.1
       (ap (advanced 0 m) (drain-stands old flat m goes.stands setup goes.plan h hart at oldest newer is))
   by false e = asks images setup old flat m goes h hart at Drain (record { page = page_at (place_of at.plan.domain oldest.address); write = true })

@@ -1,7 +1,8 @@
 -- One hart of the rack changed, and every other is where it was, as it was.
-use Rattle.std.proofs.Common.{◌≡◌, ℕ, ◌==◌, ◌∙◌, Bool, true, false, ap, sym, refl, Option, Some, None, slice_get, slice_set, unwrap_or}
+use Rattle.std.proofs.Common.{◌≡◌, ℕ, ◌==◌, ◌∙◌, Bool, true, false, ap, sym, refl, Option, Some, None, slice_get, slice_set}
 use Rattle.std.specs.Prelude.{option_and_then}
 use Rattle.std.proofs.lemmas.Bool.{eqb-true}
+use Rattle.std.proofs.lemmas.Option.{same_Some}
 use Rattle.compute_blade.specs.Blade.{HartView, BladeView, hart_of}
 use Rattle.rack_core.specs.Rack.{RackView}
 use Rattle.rack_core.specs.Stands.{IsHartAt}
@@ -12,9 +13,6 @@ pub record OneChanged (h : ℕ) (was now : HartView) (old new : RackView) : Type
   pub before : IsHartAt old h was
   pub own : (hart : HartView) → IsHartAt new h hart → hart ≡ now
   pub others : (n : ℕ) (hart : HartView) → (n == h) ≡ false → IsHartAt new n hart → IsHartAt old n hart
-
-same-value : {X : Type 0} (x y : X) → Some x ≡ Some y → x ≡ y
-same-value x y e = ap (λ o. unwrap_or o x) e
 
 -- a hart that a blade has stands at its number
 pub has-place : (found : Option (Option HartView)) (hart : HartView) → option_and_then (λ own. own) found ≡ Some hart → found ≡ Some (Some hart)
@@ -45,16 +43,16 @@ one-changed h was now old new at changed planned blades harts = record { before 
 
   own : (hart : HartView) → IsHartAt new h hart → hart ≡ now
   own hart there =
-      let plan : there.plan ≡ at.plan = same-value there.plan at.plan (sym (threads h hart there) ∙ at.thread) in
-      let blade : there.blade ≡ changed = same-value there.blade changed (sym there.there ∙ ap (λ p. slice_get new.blades p.blade) plan ∙ here) in
-      same-value hart now (sym there.own ∙ ap (λ b. hart_of b h) blade ∙ hart-here)
+      let plan : there.plan ≡ at.plan = same_Some there.plan at.plan (sym (threads h hart there) ∙ at.thread) in
+      let blade : there.blade ≡ changed = same_Some there.blade changed (sym there.there ∙ ap (λ p. slice_get new.blades p.blade) plan ∙ here) in
+      same_Some hart now (sym there.own ∙ ap (λ b. hart_of b h) blade ∙ hart-here)
 
   others : (n : ℕ) (hart : HartView) → (n == h) ≡ false → IsHartAt new n hart → IsHartAt old n hart
   others n hart e there = by (there.plan.blade == at.plan.blade) refl where
     by : (b : Bool) → (there.plan.blade == at.plan.blade) ≡ b → IsHartAt old n hart
     by true s =
         let number : there.plan.blade ≡ at.plan.blade = eqb-true there.plan.blade at.plan.blade s in
-        let blade : there.blade ≡ changed = same-value there.blade changed (sym there.there ∙ ap (λ k. slice_get new.blades k) number ∙ here) in
+        let blade : there.blade ≡ changed = same_Some there.blade changed (sym there.there ∙ ap (λ k. slice_get new.blades k) number ∙ here) in
         record {
           plan = there.plan;
           blade = at.blade;

@@ -10,10 +10,10 @@ use Rattle.hart_effect.specs.Deed.{Deed, Alone, Storing}
 use Rattle.hart_effect.specs.declared.finds.Found.{Found}
 use Rattle.page_cache.specs.declared.frames.Frame.{Frame}
 use Rattle.compute_blade.specs.Actions.{Action, GivesUp, Lowers, Takes, Asks, Wakes, Performs, Refuses, Drains, Acks, IsActions, MayAct, MayActEach, after_action, after_actions}
-use Rattle.compute_blade.specs.Blade.{HartView, BladeView, Effect, hart_of}
+use Rattle.compute_blade.specs.Blade.{HartView, BladeView, BladeEffect, hart_of}
 use Rattle.compute_blade.specs.Denials.{faulting}
 use Rattle.compute_blade.specs.Messages.{awake}
-use Rattle.compute_blade.specs.Steps.{hart_after, one_more, waiting}
+use Rattle.compute_blade.specs.Steps.{hart_after, one_more_store, waiting}
 use Rattle.compute_blade.specs.declared.kept.Waits.{Waits}
 use Rattle.compute_blade.specs.declared.kept.Waits.TheVariants.{Step, Drain}
 use Rattle.rack_core.specs.Events.{BladeDoes, HartDoes}
@@ -113,7 +113,7 @@ action-stays (Performs h hart plan found pc deed) blade may =
 action-stays (Refuses h hart denial pc) blade may =
     stay-one blade (after_action (Refuses h hart denial pc) blade).blade h hart (faulting denial.kind denial.address pc hart) refl refl refl may.own (omega arith)
 action-stays (Drains h hart plan oldest newer) blade may =
-    stay-one blade (after_action (Drains h hart plan oldest newer) blade).blade h hart (one_more (record hart { queue = record hart.queue { stores = newer } })) refl refl refl may.own (omega arith)
+    stay-one blade (after_action (Drains h hart plan oldest newer) blade).blade h hart (one_more_store (record hart { queue = record hart.queue { stores = newer } })) refl refl refl may.own (omega arith)
 action-stays (Acks number count) blade may = stay-same blade (after_action (Acks number count) blade).blade refl refl refl
 
 actions-stay : (actions : List Action) (blade : BladeView) → MayActEach actions blade → HartsStay blade (after_actions actions blade).blade
@@ -122,8 +122,8 @@ actions-stay (action ∷ actions) blade may = stay-then blade (after_action acti
     (action-stays action blade may.0) (actions-stay actions (after_action action blade).blade may.1)
 
 -- what is actions in a row
-pub acts-stay : (blade : BladeView) (effect : Effect) → IsActions blade effect → HartsStay blade effect.blade
-acts-stay blade effect acts = subst (λ (e : Effect). HartsStay blade e.blade) (sym acts.done) (actions-stay acts.actions blade acts.may)
+pub acts-stay : (blade : BladeView) (effect : BladeEffect) → IsActions blade effect → HartsStay blade effect.blade
+acts-stay blade effect acts = subst (λ (e : BladeEffect). HartsStay blade e.blade) (sym acts.done) (actions-stay acts.actions blade acts.may)
 
 -- ---- a rack
 
@@ -180,14 +180,14 @@ blades-one old new c was now there plan blades stay = record { plan = plan; fort
     by false e = (blade, sym (away n e) ∙ is, stay-same blade blade refl refl refl)
 
 -- what a blade does is actions in a row
-pub does-stay : (c : ℕ) (act : BladeView → Option Effect) (old new : RackView) (noted : List Note)
+pub does-stay : (c : ℕ) (act : BladeView → Option BladeEffect) (old new : RackView) (noted : List Note)
     → ((blade : BladeView) → slice_get old.blades c ≡ Some blade → IfSome (act blade) (IsActions blade)) → BladeDoes c act old new noted → BladesStay old new
 does-stay c act old new noted each given =
     let d = did c act old new noted given in
     blades-one old new c d.blade d.effect.blade d.there (ap (λ (r : RackView). r.plan) d.acts.after) (ap (λ (r : RackView). r.blades) d.acts.after)
     (acts-stay d.blade d.effect (subst (λ o. IfSome o (IsActions d.blade)) d.does (each d.blade d.there)))
 
-pub hart-stays : (thread : Option ThreadPlan) (act : BladeView → Option Effect) (old new : RackView) (noted : List Note)
+pub hart-stays : (thread : Option ThreadPlan) (act : BladeView → Option BladeEffect) (old new : RackView) (noted : List Note)
     → ((blade : BladeView) → IfSome (act blade) (IsActions blade)) → HartDoes thread act old new noted → BladesStay old new
 hart-stays None act old new noted each given = absurd given
 hart-stays (Some thread) act old new noted each given = does-stay thread.blade act old new noted (λ blade there. each blade) given

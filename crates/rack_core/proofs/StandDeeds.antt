@@ -19,9 +19,10 @@ use Rattle.hart_core.specs.declared.outcome.Act.{Act}
 use Rattle.hart_core.specs.declared.outcome.Act.TheVariants as act
 use Rattle.hart_core.specs.declared.outcome.LockedKind.{LockedKind}
 use Rattle.hart_core.specs.declared.outcome.LockedKind.TheVariants as locked
-use Rattle.hart_effect.specs.Access.{memory_byte, seen_byte, number_of, may_read, may_write, denied}
+use Rattle.hart_effect.specs.Access.{memory_byte, seen_byte, spelled_number, denied}
 use Rattle.hart_effect.specs.Deed.{Deed, Alone, Storing, acted, carried_out, called, faulted, put_out, continued, reserving, exchanged, unless_denied, stored_if, holds_reservation, must_wait}
 use Rattle.mind_base.specs.Place.{place_of, page_at, granule_at, Granule}
+use Rattle.mind_base.specs.Permission.{may_read, may_write}
 use Rattle.hart_effect.specs.Thread.{Thread}
 use Rattle.hart_effect.specs.declared.finds.Found.{Found}
 use Rattle.hart_effect.specs.declared.finds.Found.TheVariants.{Outside, Unknown, Asks}
@@ -80,11 +81,11 @@ HoldAlike found domain reserved kept = (rd address operand : ℕ) → found ≡ 
 
 -- ---- the bytes of an access
 
-number_of-alike : (f g : ℕ → ℕ) (address size : ℕ) → ((a : ℕ) → address ≤ a → a < address + size → f a ≡ g a) → number_of f address size ≡ number_of g address size
+number_of-alike : (f g : ℕ → ℕ) (address size : ℕ) → ((a : ℕ) → address ≤ a → a < address + size → f a ≡ g a) → spelled_number f address size ≡ spelled_number g address size
 number_of-alike f g address zero h = refl
 number_of-alike f g address (suc size) h =
     let first : f address ≡ g address = h address (omega arith) (omega arith) in
-    let rest : number_of f (address + 1) size ≡ number_of g (address + 1) size = number_of-alike f g (address + 1) size (λ a l u. h a (omega arith) (omega arith)) in
+    let rest : spelled_number f (address + 1) size ≡ spelled_number g (address + 1) size = number_of-alike f g (address + 1) size (λ a l u. h a (omega arith) (omega arith)) in
     λ i. first i + 256 * rest i
 
 -- the addresses of an access at a multiple of its size lie in one page
@@ -111,13 +112,13 @@ byte-alike domain byte other perm given address size sizes e agree a l u =
 
 seen-alike : (domain : ℕ) (byte other : ℕ → ℕ → ℕ) (perm given : PageView → Perm) (address size : ℕ) (buffer : List PendingView) → IsAccessSize size → (address % size == 0) ≡ true
     → AgreeAt domain byte other perm given (page_at (place_of domain address))
-    → number_of (seen_byte byte domain buffer) address size ≡ number_of (seen_byte other domain buffer) address size
+    → spelled_number (seen_byte byte domain buffer) address size ≡ spelled_number (seen_byte other domain buffer) address size
 seen-alike domain byte other perm given address size buffer sizes e agree = number_of-alike (seen_byte byte domain buffer) (seen_byte other domain buffer) address size
     (λ a l u. ap (λ b. unwrap_or (newest_byte buffer a) b) (byte-alike domain byte other perm given address size sizes e agree a l u))
 
 word-alike : (domain : ℕ) (byte other : ℕ → ℕ → ℕ) (perm given : PageView → Perm) (address : ℕ) → (address % 4 == 0) ≡ true
     → AgreeAt domain byte other perm given (page_at (place_of domain address))
-    → number_of (memory_byte byte domain) address 4 ≡ number_of (memory_byte other domain) address 4
+    → spelled_number (memory_byte byte domain) address 4 ≡ spelled_number (memory_byte other domain) address 4
 word-alike domain byte other perm given address e agree = number_of-alike (memory_byte byte domain) (memory_byte other domain) address 4
     (byte-alike domain byte other perm given address 4 (inr (inr refl)) e agree)
 
@@ -168,8 +169,8 @@ acted-alike (act.Next rd value next) h domain byte other perm given pc thread re
 acted-alike (act.Load kind rd address) h domain byte other perm given pc thread reserved agree hold =
     access-alike (Asks (act.Load kind rd address)) domain fault.Load may_read perm given address (load_size kind) pc thread reserved _ _ at where
       at : (address % load_size kind == 0) ≡ true → (perm (page_at (place_of domain address)) ≡ given (page_at (place_of domain address)))
-          × (Alone (continued rd (extended kind (number_of (seen_byte byte domain thread.buffer) address (load_size kind))) (word_sum pc 4) (reserving reserved thread))
-          ≡ Alone (reserving reserved (continued rd (extended kind (number_of (seen_byte other domain thread.buffer) address (load_size kind))) (word_sum pc 4) thread)))
+          × (Alone (continued rd (extended kind (spelled_number (seen_byte byte domain thread.buffer) address (load_size kind))) (word_sum pc 4) (reserving reserved thread))
+          ≡ Alone (reserving reserved (continued rd (extended kind (spelled_number (seen_byte other domain thread.buffer) address (load_size kind))) (word_sum pc 4) thread)))
       at e =
           let there : AgreeAt domain byte other perm given (page_at (place_of domain address)) =
           agree _ (ap (λ b. if b then Some (record { page = page_at (place_of domain address); write = false }) else None) e) in (
@@ -183,8 +184,8 @@ acted-alike (act.Store size address value) h domain byte other perm given pc thr
 acted-alike (act.Locked locked.Lr rd address operand) h domain byte other perm given pc thread reserved agree hold =
     access-alike (Asks (act.Locked locked.Lr rd address operand)) domain fault.Load may_read perm given address 4 pc thread reserved _ _ at where
       at : (address % 4 == 0) ≡ true → (perm (page_at (place_of domain address)) ≡ given (page_at (place_of domain address)))
-          × (Alone (continued rd (number_of (memory_byte byte domain) address 4) (word_sum pc 4) (reserving (Some (granule_at (place_of domain address))) thread))
-          ≡ Alone (continued rd (number_of (memory_byte other domain) address 4) (word_sum pc 4) (reserving (Some (granule_at (place_of domain address))) thread)))
+          × (Alone (continued rd (spelled_number (memory_byte byte domain) address 4) (word_sum pc 4) (reserving (Some (granule_at (place_of domain address))) thread))
+          ≡ Alone (continued rd (spelled_number (memory_byte other domain) address 4) (word_sum pc 4) (reserving (Some (granule_at (place_of domain address))) thread)))
       at e =
           let there : AgreeAt domain byte other perm given (page_at (place_of domain address)) =
           agree _ (ap (λ b. if b then Some (record { page = page_at (place_of domain address); write = false }) else None) e) in (
@@ -206,8 +207,8 @@ acted-alike (act.Locked locked.Sc rd address operand) h domain byte other perm g
 acted-alike (act.Locked (locked.Amo kind) rd address operand) h domain byte other perm given pc thread reserved agree hold =
     access-alike (Asks (act.Locked (locked.Amo kind) rd address operand)) domain fault.Store may_write perm given address 4 pc thread reserved _ _ at where
       at : (address % 4 == 0) ≡ true → (perm (page_at (place_of domain address)) ≡ given (page_at (place_of domain address)))
-          × (exchanged rd (number_of (memory_byte byte domain) address 4) address (combined kind (number_of (memory_byte byte domain) address 4) operand) pc (reserving reserved thread)
-          ≡ exchanged rd (number_of (memory_byte other domain) address 4) address (combined kind (number_of (memory_byte other domain) address 4) operand) pc (reserving reserved thread))
+          × (exchanged rd (spelled_number (memory_byte byte domain) address 4) address (combined kind (spelled_number (memory_byte byte domain) address 4) operand) pc (reserving reserved thread)
+          ≡ exchanged rd (spelled_number (memory_byte other domain) address 4) address (combined kind (spelled_number (memory_byte other domain) address 4) operand) pc (reserving reserved thread))
       at e =
           let there : AgreeAt domain byte other perm given (page_at (place_of domain address)) =
           agree _ (ap (λ b. if b then Some (record { page = page_at (place_of domain address); write = true }) else None) e) in

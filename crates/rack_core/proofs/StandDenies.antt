@@ -1,5 +1,5 @@
 -- A page that is denied, with what waited for it, leads the machine on: the permissions deny the access there too.
-use Rattle.std.proofs.Common.{◌≡◌, ℕ, ◌%◌, ◌==◌, ◌∙◌, Bool, true, false, not, ◌&&◌, ap, sym, refl, subst, List, ◌∷◌, Option, Some, None, slice_get, option_map, unwrap_or}
+use Rattle.std.proofs.Common.{◌≡◌, ℕ, ◌%◌, ◌==◌, ◌∙◌, Bool, true, false, ap, sym, refl, subst, List, ◌∷◌, Option, Some, None, slice_get, option_map}
 use Rattle.std.specs.Prelude.{if◌then◌else◌, option_and_then}
 use Rattle.std.proofs.lemmas.Bool.{or_parts}
 use Rattle.std.proofs.lemmas.Option.{same_Some}
@@ -7,17 +7,17 @@ use Rattle.mind_base.specs.Page.{PageView}
 use Rattle.mind_base.specs.Place.{place_of, page_at}
 use Rattle.mind_base.specs.declared.commands.Perm.{Perm}
 use Rattle.mind_base.specs.declared.commands.Perm.TheVariants.{No, R, Rw}
-use Rattle.mind_base.specs.declared.ends.End.{End}
-use Rattle.mind_base.specs.declared.ends.End.TheVariants.{Running, Exit, Fault}
+use Rattle.mind_base.specs.declared.ends.End.TheVariants.{Running}
 use Rattle.mind_base.specs.declared.ends.FaultKind.{FaultKind}
 use Rattle.mind_base.specs.declared.ends.FaultKind.TheVariants as fault
 use Rattle.mind_base.specs.declared.images.Image.{Image}
 use Rattle.mind_base.specs.declared.notes.Note.TheVariants as note
+use Rattle.mind_base.specs.Permission.{allows, may_read, may_write}
 use Rattle.hart_core.specs.Memory.{load_size}
 use Rattle.hart_core.specs.declared.outcome.Act.{Act}
 use Rattle.hart_core.specs.declared.outcome.Act.TheVariants as act
 use Rattle.hart_core.specs.declared.outcome.LockedKind.TheVariants as locked
-use Rattle.hart_effect.specs.Access.{Around, may_read, may_write, denied}
+use Rattle.hart_effect.specs.Access.{Around, denied}
 use Rattle.hart_effect.specs.Deed.{Deed, Alone, found, acted, carried_out, executed, executed_at, faulted, unless_denied, must_wait, drains_first}
 use Rattle.hart_effect.specs.Thread.{Thread}
 use Rattle.hart_effect.specs.declared.finds.Found.{Found}
@@ -26,23 +26,23 @@ use Rattle.page_image.specs.PageImage.{PageImageView}
 use Rattle.protect_table.specs.Protect.{permission_at}
 use Rattle.wire_msg.specs.declared.msgs.Msg.{Msg}
 use Rattle.wire_msg.specs.declared.msgs.Msg.TheVariants.{Deny}
-use Rattle.compute_blade.specs.Blade.{HartView, BladeView, noting, only, with_hart}
+use Rattle.compute_blade.specs.Blade.{HartView, BladeView, noting, with_hart}
 use Rattle.compute_blade.specs.Denials.{denial_in, faulting, refused_by}
-use Rattle.compute_blade.specs.Messages.{after_message, need_asked, needs_just, resumed_at, resumed_by, resumed_with}
+use Rattle.compute_blade.specs.Messages.{after_message, need_asked, needs_just, resumed_by}
 use Rattle.compute_blade.specs.Steps.{need_at, need_in}
 use Rattle.compute_blade.specs.declared.kept.Answer.TheVariants.{Denied}
 use Rattle.compute_blade.specs.declared.kept.Denial.{Denial}
 use Rattle.compute_blade.specs.declared.kept.Need.{Need}
 use Rattle.compute_blade.specs.declared.kept.Waits.{Waits}
 use Rattle.compute_blade.specs.declared.kept.Waits.TheVariants.{Step, Drain}
-use Rattle.coherence.specs.Facts.{IsCoherent, allows}
+use Rattle.coherence.specs.Facts.{IsCoherent}
 use Rattle.tso_machine.specs.Replay.{advanced}
 use Rattle.tso_machine.specs.State.{Setup, State}
 use Rattle.tso_machine.specs.Step.{around_in, done_by, after_exec}
 use Rattle.rack_core.specs.BladeMoves.{handing}
 use Rattle.rack_core.specs.Rack.{RackView}
 use Rattle.rack_core.specs.Seen.{seen}
-use Rattle.rack_core.specs.Stands.{IsHartAt, StandsFor, machine_thread}
+use Rattle.rack_core.specs.Stands.{IsHartAt, RackStandsFor, machine_thread}
 use Rattle.rack_core.specs.StandLog.{AreHartsPlaced}
 use Rattle.rack_core.specs.StandRuns.{ArePending, GoesWith}
 use Rattle.rack_core.proofs.BladeFills.{just-page}
@@ -55,6 +55,7 @@ use Rattle.rack_core.proofs.StandImages.{newest-same}
 use Rattle.rack_core.proofs.StandMids.{one-of}
 use Rattle.rack_core.proofs.StandPages.{blade-held}
 use Rattle.rack_core.proofs.StandSteps.{stands-alone}
+use Rattle.rack_core.proofs.Resuming.{resumes-as}
 
 -- ---- an access that the permission does not allow
 
@@ -112,7 +113,7 @@ abbrev pub FaultsIn : Option Denial → ℕ → Thread → Option Deed → Type 
 FaultsIn None pc thread deed = ⊥
 FaultsIn (Some denial) pc thread deed = deed ≡ Some (Alone (faulted denial.kind denial.address pc thread))
 
-pub found-faults : (found : Found) (around : Around) (pc capacity : ℕ) (thread : Thread) (need : Need) → need_in found around.domain ≡ Some need → allows need.write (around.perm need.page) ≡ false
+found-faults : (found : Found) (around : Around) (pc capacity : ℕ) (thread : Thread) (need : Need) → need_in found around.domain ≡ Some need → allows need.write (around.perm need.page) ≡ false
     → drains_first found thread.buffer capacity ≡ false → FaultsIn (denial_in found) pc thread (carried_out found around pc thread)
 found-faults Outside around pc capacity thread need is off ready = let never : ⊥ = cc in absurd never
 found-faults (Unknown word) around pc capacity thread need is off ready = let never : ⊥ = cc in absurd never
@@ -123,6 +124,17 @@ found-faults (Asks asked) around pc capacity thread need is off ready =
         → FaultsIn denial pc thread (if must_wait asked thread.buffer then None else Some (acted asked around pc thread))
     by None faults waits = absurd faults
     by (Some denial) faults waits = ap (λ b. if b then None else Some (acted asked around pc thread)) waits ∙ ap (λ deed. Some deed) faults
+
+-- so it is where the instruction needs just what the permissions do not allow
+pub just-faults : (found : Found) (around : Around) (pc capacity : ℕ) (thread : Thread) (asked : Need) → allows asked.write (around.perm asked.page) ≡ false → needs_just asked (need_in found around.domain) ≡ true
+    → drains_first found thread.buffer capacity ≡ false → FaultsIn (denial_in found) pc thread (carried_out found around pc thread)
+just-faults found around pc capacity thread asked off just ready = by (need_in found around.domain) refl just where
+  by : (need : Option Need) → need_in found around.domain ≡ need → needs_just asked need ≡ true → FaultsIn (denial_in found) pc thread (carried_out found around pc thread)
+  by None is just = let never : ⊥ = cc in absurd never
+  by (Some need) is just =
+      let same = just-page asked (Some need) need refl just in
+      found-faults found around pc capacity thread need is
+      (ap (λ b. allows b (around.perm need.page)) (sym same.1) ∙ ap (λ p. allows asked.write (around.perm p)) (sym same.0) ∙ off) ready
 
 -- ---- the hart that is refused
 
@@ -152,7 +164,7 @@ faults-run images setup old flat m goes h hart at denial pc does new newer becam
     record {
       next = done_by h at.plan.domain m (Alone (machine_thread flat now));
       run = ap (advanced 0 m) does;
-      stands = subst (λ f. StandsFor new f (done_by h at.plan.domain m (Alone (machine_thread flat now)))) (sym same)
+      stands = subst (λ f. RackStandsFor new f (done_by h at.plan.domain m (Alone (machine_thread flat now)))) (sym same)
           (stands-alone h at.plan.domain hart now old new flat m
           (record { one = one; counts = refl; keeps = λ r k. goes.stands.kept h hart r at k; perms = became.perms }) goes.stands);
       pending = one-of (λ x. ArePending x.queue.stores) h hart now old new one goes.pending (goes.pending h hart at);
@@ -164,57 +176,25 @@ refuses-run : (images : List Image) (setup : Setup) (old : RackView) (flat : Pag
     → (asked : Need) → allows asked.write (permission_at old.switch.protect asked.page) ≡ false → (image : Image) (pc : ℕ) → slice_get images at.plan.image ≡ Some image → hart.end ≡ Running pc
     → needs_just asked (need_in (found image hart.regs pc) at.plan.domain) ≡ true → drains_first (found image hart.regs pc) hart.queue.stores hart.queue.capacity ≡ false
     → Runs images setup old flat m at.plan.blade (refused_by (denial_in (found image hart.regs pc)) h pc at.blade hart)
-refuses-run images setup old flat m goes h hart at asked off image pc code runs just ready = needed (need_in (found image hart.regs pc) at.plan.domain) refl just where
-  refused : (denial : Option Denial) → FaultsIn denial pc (machine_thread flat hart) (carried_out (found image hart.regs pc) (around_in m h at.plan.domain) pc (machine_thread flat hart))
-      → Runs images setup old flat m at.plan.blade (refused_by denial h pc at.blade hart)
-  refused None faults = absurd faults
-  refused (Some denial) faults = faults-run images setup old flat m goes h hart at denial pc
-      (exec-faults images setup old flat m goes h hart at image pc code runs (Alone (faulted denial.kind denial.address pc (machine_thread flat hart))) faults)
-
-  needed : (need : Option Need) → need_in (found image hart.regs pc) at.plan.domain ≡ need → needs_just asked need ≡ true
-      → Runs images setup old flat m at.plan.blade (refused_by (denial_in (found image hart.regs pc)) h pc at.blade hart)
-  needed None is just = let never : ⊥ = cc in absurd never
-  needed (Some need) is just =
-      let same = just-page asked (Some need) need refl just in
-      let denies : allows need.write (permission_at old.switch.protect need.page) ≡ false =
-      ap (λ b. allows b (permission_at old.switch.protect need.page)) (sym same.1) ∙ ap (λ p. allows asked.write (permission_at old.switch.protect p)) (sym same.0) ∙ off in
-      refused (denial_in (found image hart.regs pc))
-      (found-faults (found image hart.regs pc) (around_in m h at.plan.domain) pc hart.queue.capacity (machine_thread flat hart) need is
-      (ap (λ f. allows need.write (f need.page)) goes.stands.perms ∙ denies) ready)
+refuses-run images setup old flat m goes h hart at asked off image pc code runs just ready =
+    refused (denial_in (found image hart.regs pc))
+    (just-faults (found image hart.regs pc) (around_in m h at.plan.domain) pc hart.queue.capacity (machine_thread flat hart) asked (ap (λ f. allows asked.write (f asked.page)) goes.stands.perms ∙ off) just ready)
+  where
+    refused : (denial : Option Denial) → FaultsIn denial pc (machine_thread flat hart) (carried_out (found image hart.regs pc) (around_in m h at.plan.domain) pc (machine_thread flat hart))
+        → Runs images setup old flat m at.plan.blade (refused_by denial h pc at.blade hart)
+    refused None faults = absurd faults
+    refused (Some denial) faults = faults-run images setup old flat m goes h hart at denial pc
+        (exec-faults images setup old flat m goes h hart at image pc code runs (Alone (faulted denial.kind denial.address pc (machine_thread flat hart))) faults)
 
 -- ---- what waited for it
-
-pub not-true : (b : Bool) → not b ≡ true → b ≡ false
-not-true true e = sym e
-not-true false e = refl
-
-denies-with : (images : List Image) (setup : Setup) (old : RackView) (flat : PageView → PageImageView) (m : State) → GoesWith images setup old flat m → (h : ℕ) (hart : HartView) (at : IsHartAt old h hart)
-    → (asked : Need) → allows asked.write (permission_at old.switch.protect asked.page) ≡ false → (image : Image) (pc : ℕ) → slice_get images at.plan.image ≡ Some image → hart.end ≡ Running pc
-    → Runs images setup old flat m at.plan.blade (resumed_with Denied asked h at.plan (found image hart.regs pc) pc at.blade hart)
-denies-with images setup old flat m goes h hart at asked off image pc code runs =
-    by (needs_just asked (need_in (found image hart.regs pc) at.plan.domain)) refl (not (drains_first (found image hart.regs pc) hart.queue.stores hart.queue.capacity)) refl where
-      by : (b : Bool) → needs_just asked (need_in (found image hart.regs pc) at.plan.domain) ≡ b → (r : Bool) → not (drains_first (found image hart.regs pc) hart.queue.stores hart.queue.capacity) ≡ r
-          → Runs images setup old flat m at.plan.blade (if b && r then refused_by (denial_in (found image hart.regs pc)) h pc at.blade hart else only at.blade)
-      by true e true f = refuses-run images setup old flat m goes h hart at asked off image pc code runs e (not-true _ f)
-      by true e false f = idles images setup old flat m goes h hart at
-      by false e r f = idles images setup old flat m goes h hart at
-
-denies-at : (images : List Image) (setup : Setup) (old : RackView) (flat : PageView → PageImageView) (m : State) → GoesWith images setup old flat m → (h : ℕ) (hart : HartView) (at : IsHartAt old h hart)
-    → (asked : Need) → allows asked.write (permission_at old.switch.protect asked.page) ≡ false → (end : End) → hart.end ≡ end
-    → Runs images setup old flat m at.plan.blade (resumed_at end Denied asked images h at.plan at.blade hart)
-denies-at images setup old flat m goes h hart at asked off (Running pc) runs = by (slice_get images at.plan.image) refl where
-  by : (code : Option Image) → slice_get images at.plan.image ≡ code
-      → Runs images setup old flat m at.plan.blade (unwrap_or (option_map (λ image. resumed_with Denied asked h at.plan (found image hart.regs pc) pc at.blade hart) code) (only at.blade))
-  by None e = idles images setup old flat m goes h hart at
-  by (Some image) e = denies-with images setup old flat m goes h hart at asked off image pc e runs
-denies-at images setup old flat m goes h hart at asked off (Exit value) runs = idles images setup old flat m goes h hart at
-denies-at images setup old flat m goes h hart at asked off (Fault kind value pc) runs = idles images setup old flat m goes h hart at
 
 -- What waited for a page goes on where the permissions deny what was asked for: it leads the machine on.
 denies-run : (images : List Image) (setup : Setup) (old : RackView) (flat : PageView → PageImageView) (m : State) → GoesWith images setup old flat m → (h : ℕ) (hart : HartView) (at : IsHartAt old h hart)
     → (asked : Need) → allows asked.write (permission_at old.switch.protect asked.page) ≡ false → (waits : Waits)
     → Runs images setup old flat m at.plan.blade (resumed_by waits Denied asked images h at.plan at.blade hart)
-denies-run images setup old flat m goes h hart at asked off Step = denies-at images setup old flat m goes h hart at asked off hart.end refl
+denies-run images setup old flat m goes h hart at asked off Step =
+    resumes-as (Runs images setup old flat m at.plan.blade) Denied asked images h at.plan at.blade hart (idles images setup old flat m goes h hart at)
+    (λ image pc code runs just ready. refuses-run images setup old flat m goes h hart at asked off image pc code runs just ready)
 denies-run images setup old flat m goes h hart at asked off Drain = draining-runs images setup old flat m goes h hart at hart.queue.stores refl
 
 -- ---- a page that is denied

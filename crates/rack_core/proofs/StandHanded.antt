@@ -33,7 +33,7 @@ use Rattle.rack_core.specs.StandRuns.{AreCounted, GoesWith, LeadsMachine}
 use Rattle.rack_core.specs.SwitchMoves.{AsksAt, with_front}
 use Rattle.rack_core.proofs.BladeHanded.{did, blade_handed, handed_may_come}
 use Rattle.rack_core.specs.Handing.{AsksOn, AskOn}
-use Rattle.rack_core.proofs.Handing.{handed_over, lies_up}
+use Rattle.rack_core.proofs.Handing.{handed_over, lies_up, each-handed, After}
 use Rattle.rack_core.proofs.MemoryHanded.{memory_handed, asked_for}
 use Rattle.rack_core.proofs.StandBlades.{Runs}
 use Rattle.rack_core.proofs.StandCame.{fill-runs}
@@ -158,12 +158,10 @@ one-stays images To number message rest old new flat noted coherent sound hands 
 pub hands-stay : (images : List Image) (kind : LinkKind) (number : ℕ) (messages : List Msg) (old new : RackView) (flat : PageView → PageImageView) (noted : List Note)
     → IsCoherent (with_front kind number messages (seen old flat)) → IsSound old → number < 8 → AskOn kind (place_in old.switch) number messages
     → HandsAll images (record { kind = kind; number = number }) messages old new noted → BladesStay old new
-hands-stay images kind number [] old new flat noted coherent sound lt asks hands = blades-same old new (ap (λ (r : RackView). r.plan) hands.0) (ap (λ (r : RackView). r.blades) hands.0)
-hands-stay images kind number (message ∷ rest) old new flat noted coherent sound lt asks hands =
-    let first = handed_over images kind number message rest old hands.0 flat hands.1 coherent sound lt asks.0 hands.3 in
-    let asks_later = subst (λ f. AllByRecursion (AsksOn kind f number) rest) (sym first.places) asks.1 in
-    blades-then old hands.0 new (one-stays images kind number message rest old hands.0 flat hands.1 coherent sound hands.3)
-    (hands-stay images kind number rest hands.0 new first.flat hands.2 first.coherent first.sound lt asks_later hands.4)
+hands-stay images kind number =
+    each-handed images kind number (λ messages old new noted. BladesStay old new)
+    (λ old new noted same none. blades-same old new (ap (λ (r : RackView). r.plan) same) (ap (λ (r : RackView). r.blades) same))
+    (λ message rest old mid new flat first later coherent sound hands stay. blades-then old mid new (one-stays images kind number message rest old mid flat first coherent sound hands) stay)
 
 -- frames are those of the world without the messages
 pub front-frames : (kind : LinkKind) (number : ℕ) (messages : List Msg) (w : World) → AreFrames (with_front kind number messages w) → AreFrames w
@@ -171,6 +169,33 @@ front-frames Up number messages w frames = frames
 front-frames Down number messages w frames = frames
 front-frames To number messages w frames = frames
 front-frames From number messages w frames = frames
+
+-- What is so when the first of the messages was handed over.
+pub record GoesFirst (images : List Image) (setup : Setup) (kind : LinkKind) (number : ℕ) (rest : List Msg) (old mid : RackView) (m : State) (noted : List Note) : Type 0 where
+  pub on : HandedOn setup kind number rest m noted mid
+  pub after : After kind number rest old mid
+  pub asks : AskOn kind (place_in mid.switch) number rest
+  pub goes : GoesWith images setup mid on.flat on.machine.next
+  pub placed : AreHartsPlaced mid
+
+pub goes-first : (images : List Image) (setup : Setup) (kind : LinkKind) (number : ℕ) (message : Msg) (rest : List Msg) (old new : RackView) (flat : PageView → PageImageView) (noted : List Note) (m : State)
+    → IsCoherent (with_front kind number (message ∷ rest) (seen old flat)) → IsSound old → number < 8 → AskOn kind (place_in old.switch) number (message ∷ rest)
+    → GoesWith images setup old flat m → AreHartsPlaced old → (hands : HandsAll images (record { kind = kind; number = number }) (message ∷ rest) old new noted) → AreCounted new
+    → GoesFirst images setup kind number rest old hands.0 m hands.1
+goes-first images setup kind number message rest old new flat noted m coherent sound lt asks goes placed hands counted =
+    let mid = hands.0 in
+    let after = handed_over images kind number message rest old mid flat hands.1 coherent sound lt asks.0 hands.3 in
+    let asks_later = subst (λ f. AllByRecursion (AsksOn kind f number) rest) (sym after.places) asks.1 in
+    let stay = one-stays images kind number message rest old mid flat hands.1 coherent sound hands.3 in
+    let stays = hands-stay images kind number rest mid new after.flat hands.2 after.coherent after.sound lt asks_later hands.4 in
+    let on = one-goes images setup kind number message rest old mid flat hands.1 m coherent sound lt asks.0 goes placed hands.3 (counted-before mid new stays counted) in
+    record {
+      on = on;
+      after = after;
+      asks = asks_later;
+      goes = goes-led images setup m hands.1 old mid flat on.flat goes stay.plan (front-frames kind number rest (seen mid on.flat) on.coherent.frames) after.sound.blades on.machine;
+      placed = placed-after old mid stay placed;
+    }
 
 pub all-go : (images : List Image) (setup : Setup) (kind : LinkKind) (number : ℕ) (messages : List Msg) (old new : RackView) (flat : PageView → PageImageView) (noted : List Note) (m : State)
     → IsCoherent (with_front kind number messages (seen old flat)) → IsSound old → number < 8 → AskOn kind (place_in old.switch) number messages
@@ -189,15 +214,10 @@ all-go images setup kind number [] old new flat noted m coherent sound lt asks g
 }
 all-go images setup kind number (message ∷ rest) old new flat noted m coherent sound lt asks goes placed hands counted =
     let mid = hands.0 in
-    let after = handed_over images kind number message rest old mid flat hands.1 coherent sound lt asks.0 hands.3 in
-    let asks_later = subst (λ f. AllByRecursion (AsksOn kind f number) rest) (sym after.places) asks.1 in
-    let stay = one-stays images kind number message rest old mid flat hands.1 coherent sound hands.3 in
-    let stays = hands-stay images kind number rest mid new after.flat hands.2 after.coherent after.sound lt asks_later hands.4 in
-    let on = one-goes images setup kind number message rest old mid flat hands.1 m coherent sound lt asks.0 goes placed hands.3 (counted-before mid new stays counted) in
-    let goes_mid = goes-led images setup m hands.1 old mid flat on.flat goes stay.plan (front-frames kind number rest (seen mid on.flat) on.coherent.frames) after.sound.blades on.machine in
-    let later = all-go images setup kind number rest mid new on.flat hands.2 on.machine.next on.coherent after.sound lt asks_later goes_mid (placed-after old mid stay placed) hands.4 counted in
+    let first = goes-first images setup kind number message rest old new flat noted m coherent sound lt asks goes placed hands counted in
+    let later = all-go images setup kind number rest mid new first.on.flat hands.2 first.on.machine.next first.on.coherent first.after.sound lt first.asks first.goes first.placed hands.4 counted in
     record {
       flat = later.flat;
       coherent = later.coherent;
-      machine = subst (λ n. LeadsMachine setup m n new later.flat) (sym hands.5) (machine-then setup m hands.1 hands.2 mid new on.flat later.flat on.machine later.machine);
+      machine = subst (λ n. LeadsMachine setup m n new later.flat) (sym hands.5) (machine-then setup m hands.1 hands.2 mid new first.on.flat later.flat first.on.machine later.machine);
     }

@@ -8,7 +8,7 @@ use Rattle.mind_base.specs.Pending.{PendingView}
 use Rattle.mind_base.specs.Permission.{permission_of}
 use Rattle.mind_base.specs.declared.ends.End.TheVariants.{Running}
 use Rattle.mind_base.specs.declared.images.Image.{Image}
-use Rattle.hart_effect.specs.Deed.{Storing, found, carried_out, executed, executed_at, drained, drained_of, holds_reservation}
+use Rattle.hart_effect.specs.Deed.{Storing, found, carried_out, executed, executed_at, drain_deed, drained_of, holds_reservation}
 use Rattle.mind_base.specs.Place.{place_of, page_at, page_with, granule_at, same_granule, Granule}
 use Rattle.hart_effect.specs.declared.finds.Found.{Found}
 use Rattle.page_cache.specs.PageCache.{frame_of}
@@ -16,8 +16,8 @@ use Rattle.page_cache.specs.declared.frames.Frame.{Frame}
 use Rattle.page_image.specs.PageImage.{PageImageView, tag_at}
 use Rattle.protect_table.specs.Protect.{permission_at}
 use Rattle.compute_blade.specs.Blade.{HartView}
-use Rattle.compute_blade.specs.Frames.{around_held, held_byte, byte_in, held_perm, perm_in, held_tag, tag_in, if_same_tag, still_reserved, thread_of}
-use Rattle.compute_blade.specs.Steps.{need_in, serves, one_more}
+use Rattle.compute_blade.specs.Frames.{around_held, held_byte, frame_byte, held_perm, perm_in, held_tag, tag_in, if_same_tag, still_reserved, thread_of}
+use Rattle.compute_blade.specs.Steps.{need_in, serves, one_more_store}
 use Rattle.compute_blade.specs.declared.kept.Need.{Need}
 use Rattle.compute_blade.specs.declared.kept.Reservation.{Reservation}
 use Rattle.coherence.specs.Facts.{AreFrames}
@@ -26,7 +26,7 @@ use Rattle.tso_machine.specs.State.{Setup, State}
 use Rattle.tso_machine.specs.Step.{around_in, done_by, after_exec, after_drain}
 use Rattle.rack_core.specs.Rack.{RackView}
 use Rattle.rack_core.specs.Seen.{seen}
-use Rattle.rack_core.specs.Stands.{IsHartAt, StandsFor, machine_thread, reserved_in}
+use Rattle.rack_core.specs.Stands.{IsHartAt, RackStandsFor, machine_thread, reserved_in}
 use Rattle.rack_core.proofs.StandDeeds.{AgreeAt, HoldAlike, deed_with, carried_out-alike}
 
 abbrev pub Entries : Type 0
@@ -46,14 +46,14 @@ abbrev pub HoldsFor : RackView → (PageView → PageImageView) → Entries → 
 HoldsFor rack flat entries found domain = (need : Need) → need_in found domain ≡ Some need → IsHeld rack flat entries need.page
 
 -- a hart finds in a page that it holds what the machine has there
-pub agree-held : (rack : RackView) (flat : PageView → PageImageView) (m : State) → StandsFor rack flat m → (entries : Entries) (domain : ℕ) (page : PageView)
+pub agree-held : (rack : RackView) (flat : PageView → PageImageView) (m : State) → RackStandsFor rack flat m → (entries : Entries) (domain : ℕ) (page : PageView)
     → IsHeld rack flat entries page → AgreeAt domain (byte_of m.writes) (held_byte entries) (permission_of m.perms) (held_perm entries) page
 agree-held rack flat m stands entries domain page held = record {
   bytes = λ address here. stands.bytes domain address
       ∙ ap (λ p. slice_index (flat p).bytes (address % 4096)) here
       ∙ ap (λ image. slice_index image.bytes (address % 4096)) (sym held.newest)
-      ∙ ap (λ frame. byte_in frame (address % 4096)) (sym held.held)
-      ∙ ap (λ p. byte_in (frame_of p entries) (address % 4096)) (sym here);
+      ∙ ap (λ frame. frame_byte frame (address % 4096)) (sym held.held)
+      ∙ ap (λ p. frame_byte (frame_of p entries) (address % 4096)) (sym here);
   perms = ap (λ f. f page) stands.perms ∙ sym held.perm ∙ ap perm_in (sym held.held);
 }
 
@@ -111,7 +111,7 @@ hold-found rack flat entries kept found domain holds rd address operand is e = h
 -- ---- an instruction
 
 -- what a hart of a blade does is what its thread of the machine does, but for the reservation
-pub deed-stands : (rack : RackView) (flat : PageView → PageImageView) (m : State) → StandsFor rack flat m
+pub deed-stands : (rack : RackView) (flat : PageView → PageImageView) (m : State) → RackStandsFor rack flat m
     → (entries : Entries) (hart : HartView) (found : Found) (h domain pc : ℕ) → HoldsFor rack flat entries found domain
     → carried_out found (around_in m h domain) pc (machine_thread flat hart)
     ≡ option_map (deed_with found domain (reserved_in flat hart.reserved)) (carried_out found (around_held entries h domain) pc (thread_of entries hart))
@@ -142,7 +142,7 @@ pub holds-serving : (rack : RackView) (flat : PageView → PageImageView) → Ar
 holds-serving rack flat frames h hart at found serving need e = held-serving rack flat frames h hart at need.page found (serving need e)
 
 -- a machine made from the rack's plan, in a state that the rack stands for, executes a hart's thread as the blade performs it
-pub exec-stands : (rack : RackView) (flat : PageView → PageImageView) (m : State) → StandsFor rack flat m → (setup : Setup) → setup.plan ≡ rack.plan
+pub exec-stands : (rack : RackView) (flat : PageView → PageImageView) (m : State) → RackStandsFor rack flat m → (setup : Setup) → setup.plan ≡ rack.plan
     → (h : ℕ) (hart : HartView) (at : IsHartAt rack h hart) (image : Image) → slice_get setup.images at.plan.image ≡ Some image → (pc : ℕ) → hart.end ≡ Running pc
     → HoldsFor rack flat at.blade.cache.entries (found image hart.regs pc) at.plan.domain
     → after_exec setup m h ≡ option_map (done_by h at.plan.domain m)
@@ -161,11 +161,11 @@ exec-stands rack flat m stands setup same h hart at image code pc runs holds =
 -- ---- a drain
 
 -- and it drains a hart's oldest store, whatever is held; the thread is that of the hart afterwards
-pub drain-stands : (rack : RackView) (flat : PageView → PageImageView) (m : State) → StandsFor rack flat m → (setup : Setup) → setup.plan ≡ rack.plan
+pub drain-stands : (rack : RackView) (flat : PageView → PageImageView) (m : State) → RackStandsFor rack flat m → (setup : Setup) → setup.plan ≡ rack.plan
     → (h : ℕ) (hart : HartView) (at : IsHartAt rack h hart) (oldest : PendingView) (newer : List PendingView) → hart.queue.stores ≡ oldest ∷ newer
-    → after_drain setup m h ≡ Some (done_by h at.plan.domain m (Storing (machine_thread flat (one_more (record hart { queue = record hart.queue { stores = newer } }))) oldest))
+    → after_drain setup m h ≡ Some (done_by h at.plan.domain m (Storing (machine_thread flat (one_more_store (record hart { queue = record hart.queue { stores = newer } }))) oldest))
 drain-stands rack flat m stands setup same h hart at oldest newer stores =
-    ap (option_and_then (λ plan. option_and_then (λ thread. option_map (done_by h plan.domain m) (drained thread)) (slice_get m.threads h)))
+    ap (option_and_then (λ plan. option_and_then (λ thread. option_map (done_by h plan.domain m) (drain_deed thread)) (slice_get m.threads h)))
     (ap (λ plan. slice_get plan.threads h) same ∙ at.thread)
-    ∙ ap (option_and_then (λ thread. option_map (done_by h at.plan.domain m) (drained thread))) (stands.threads h hart at)
+    ∙ ap (option_and_then (λ thread. option_map (done_by h at.plan.domain m) (drain_deed thread))) (stands.threads h hart at)
     ∙ ap (λ queue. option_map (done_by h at.plan.domain m) (drained_of queue (machine_thread flat hart))) stores

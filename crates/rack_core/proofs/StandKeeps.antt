@@ -17,9 +17,10 @@ use Rattle.hart_core.specs.Values.{word_sum}
 use Rattle.hart_core.specs.declared.outcome.Act.{Act}
 use Rattle.hart_core.specs.declared.outcome.Act.TheVariants as act
 use Rattle.hart_core.specs.declared.outcome.LockedKind.TheVariants as locked
-use Rattle.hart_effect.specs.Access.{may_read, may_write, denied}
+use Rattle.hart_effect.specs.Access.{denied}
 use Rattle.hart_effect.specs.Deed.{Deed, Alone, Storing, found, acted, carried_out, called, faulted, put_out, continued, unless_denied, stored_if, holds_reservation, must_wait, reserving}
 use Rattle.mind_base.specs.Place.{place_of, page_at, page_with, granule_at, Granule}
+use Rattle.mind_base.specs.Permission.{may_read, may_write}
 use Rattle.hart_effect.specs.Thread.{Thread}
 use Rattle.hart_effect.specs.declared.finds.Found.{Found}
 use Rattle.hart_effect.specs.declared.finds.Found.TheVariants.{Outside, Unknown, Asks}
@@ -31,7 +32,7 @@ use Rattle.compute_blade.specs.declared.kept.Reservation.{Reservation}
 use Rattle.tso_machine.specs.State.{Setup, State}
 use Rattle.tso_machine.specs.Step.{done_by, after_exec, reservation_off, thread_off, bytes_of}
 use Rattle.rack_core.specs.Rack.{RackView}
-use Rattle.rack_core.specs.Stands.{IsHartAt, StandsFor, machine_thread, reserved_in}
+use Rattle.rack_core.specs.Stands.{IsHartAt, RackStandsFor, machine_thread, reserved_in}
 use Rattle.rack_core.proofs.StandDeeds.{HoldAlike, deed_with, reserved_after}
 use Rattle.rack_core.proofs.StandHarts.{Entries, IsHeld, HoldsFor, page_with-at, hold-found, exec-stands}
 
@@ -148,7 +149,7 @@ done-alike flat entries found h domain m hart (Storing thread store) keeps =
 
 -- A machine made from the rack's plan, in a state that the rack stands for, executes a hart's thread as the blade
 -- performs it, and the thread is that of the hart afterwards. A store that takes effect is still to change the images.
-pub exec-done : (rack : RackView) (flat : PageView → PageImageView) (m : State) → StandsFor rack flat m → (setup : Setup) → setup.plan ≡ rack.plan
+pub exec-done : (rack : RackView) (flat : PageView → PageImageView) (m : State) → RackStandsFor rack flat m → (setup : Setup) → setup.plan ≡ rack.plan
     → (h : ℕ) (hart : HartView) (at : IsHartAt rack h hart) (image : Image) → slice_get setup.images at.plan.image ≡ Some image → (pc : ℕ) → hart.end ≡ Running pc
     → HoldsFor rack flat at.blade.cache.entries (found image hart.regs pc) at.plan.domain
     → (deed : Deed) → carried_out (found image hart.regs pc) (around_held at.blade.cache.entries h at.plan.domain) pc (thread_of at.blade.cache.entries hart) ≡ Some deed

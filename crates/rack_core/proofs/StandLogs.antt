@@ -10,7 +10,7 @@ use Rattle.mind_base.specs.declared.links.Side.{Side}
 use Rattle.mind_base.specs.declared.notes.Note.{Note}
 use Rattle.page_image.specs.PageImage.{PageImageView}
 use Rattle.compute_blade.specs.Pages.{given_up}
-use Rattle.compute_blade.specs.Steps.{after_step, after_drain}
+use Rattle.compute_blade.specs.Steps.{after_step, blade_after_drain}
 use Rattle.compute_blade.proofs.Acting.{step_acts, drain_acts, gives}
 use Rattle.rack_net.specs.Net.{NetView, links_of, ChangesOnly}
 use Rattle.coherence.specs.Facts.{IsCoherent}
@@ -84,7 +84,7 @@ net-goes images setup name old new net noted flat m coherent goes same only afte
 
 pub event-stays : (images : List Image) (event : Event) (old new : RackView) (noted : List Note) → IsOfRack event → IsSafe old → Leads images event old new noted → BladesStay old new
 event-stays images (Step hart) old new noted fits safe given = hart-stays (slice_get old.plan.threads hart) (after_step images hart) old new noted (λ blade. step_acts images hart blade) given
-event-stays images (Drain hart) old new noted fits safe given = hart-stays (slice_get old.plan.threads hart) (after_drain hart) old new noted (λ blade. drain_acts hart blade) given
+event-stays images (Drain hart) old new noted fits safe given = hart-stays (slice_get old.plan.threads hart) (blade_after_drain hart) old new noted (λ blade. drain_acts hart blade) given
 event-stays images (Evict blade page) old new noted fits safe given = does-stay blade (λ b. Some (given_up page b)) old new noted (λ b there. gives page b) given
 event-stays images (Deliver link side k) old new noted fits safe given = deliver-stays images link side k old new noted safe.flat fits safe.coherent safe.sound given
 event-stays images (Lose link side k) old new noted fits safe given = blades-same old new (ap (λ (r : RackView). r.plan) given.after) (ap (λ (r : RackView). r.blades) given.after)

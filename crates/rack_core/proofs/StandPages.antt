@@ -9,12 +9,13 @@ use Rattle.mind_base.specs.Range.{RangeView}
 use Rattle.mind_base.specs.declared.events.Event.TheVariants.{Evict}
 use Rattle.mind_base.specs.declared.images.Image.{Image}
 use Rattle.mind_base.specs.declared.notes.Note.{Note}
-use Rattle.page_cache.specs.PageCache.{IsPageCache, frame_of, same_page, lowered_frame}
+use Rattle.page_cache.specs.PageCache.{IsPageCache, frame_of, same_page, lowered_frame, without_page, with_change}
 use Rattle.page_cache.specs.declared.frames.Frame.{Frame}
 use Rattle.page_cache.proofs.Laws.{same_page-true}
 use Rattle.page_image.specs.PageImage.{PageImageView}
 use Rattle.wire_msg.specs.declared.msgs.Msg.TheVariants.{Inv, Lower}
-use Rattle.compute_blade.specs.Blade.{HartView, BladeView, Effect, hart_of}
+use Rattle.wire_msg.specs.declared.msgs.Msg.{Msg}
+use Rattle.compute_blade.specs.Blade.{HartView, BladeView, BladeEffect, hart_of, with_frames}
 use Rattle.compute_blade.specs.Messages.{after_message, acknowledging}
 use Rattle.compute_blade.specs.Pages.{giving_up, given_up, lowering, lowered, each_in, held_in, writable_in}
 use Rattle.coherence.specs.Facts.{AreFrames, IsCoherent}
@@ -24,7 +25,7 @@ use Rattle.tso_machine.specs.State.{Setup, State}
 use Rattle.rack_core.specs.Events.{Leads}
 use Rattle.rack_core.specs.Rack.{RackView}
 use Rattle.rack_core.specs.Seen.{seen}
-use Rattle.rack_core.specs.Stands.{IsHartAt, StandsFor}
+use Rattle.rack_core.specs.Stands.{IsHartAt, RackStandsFor}
 use Rattle.rack_core.specs.StandRuns.{AreCounted, GoesWith, BladeBecame, GoesOn}
 use Rattle.rack_core.proofs.BladeCalls.{given_up-changes, lowered-changes}
 use Rattle.rack_core.proofs.BladeHanded.{did, evict_leads}
@@ -36,7 +37,7 @@ use Rattle.rack_core.proofs.StandImages.{AreHeld, newest-same}
 -- ---- a blade of which the harts are as they were
 
 -- the pages of a blade that are held have their newest images, its harts are as they were, and no label was noted
-pub record PagesAlone (flat : PageView → PageImageView) (blade : BladeView) (e : Effect) : Type 0 where
+pub record PagesAlone (flat : PageView → PageImageView) (blade : BladeView) (e : BladeEffect) : Type 0 where
   pub plan : e.blade.plan ≡ blade.plan
   pub harts : e.blade.harts ≡ blade.harts
   pub silent : labels e.noted ≡ []
@@ -71,14 +72,14 @@ hart-before c blade changed old new there became harts n hart at = by (at.plan.b
 
 -- the rack stands for the same state
 pub pages-run : (images : List Image) (setup : Setup) (old : RackView) (flat : PageView → PageImageView) (m : State) → GoesWith images setup old flat m → (c : ℕ) (blade : BladeView)
-    → slice_get old.blades c ≡ Some blade → (e : Effect) → PagesAlone flat blade e → Runs images setup old flat m c e
+    → slice_get old.blades c ≡ Some blade → (e : BladeEffect) → PagesAlone flat blade e → Runs images setup old flat m c e
 pages-run images setup old flat m goes c blade there e alone new newer became counted newest =
     let same : newer ≡ flat = newest-same e.blade.cache.entries e.blade.cache.entries flat newer alone.held (λ page. refl) newest in
     let before = hart-before c blade e.blade old new there became alone.harts in
     record {
       next = m;
       run = ap (replay setup m) alone.silent;
-      stands = subst (λ f. StandsFor new f m) (sym same) (record {
+      stands = subst (λ f. RackStandsFor new f m) (sym same) (record {
         threads = λ n hart at. goes.stands.threads n hart (before n hart at);
         bytes = goes.stands.bytes;
         perms = goes.stands.perms ∙ sym became.perms;
@@ -96,6 +97,11 @@ pages-run images setup old flat m goes c blade there e alone new newer became co
 silent-more : (xs ys : List Note) → labels xs ≡ [] → labels ys ≡ [] → labels (xs ++ ys) ≡ []
 silent-more xs ys e f = filter_map-append label_of xs ys ∙ ap (λ l. l ++ labels ys) e ∙ f
 
+-- a blade with other pages, which hold their newest images
+alone-with : (flat : PageView → PageImageView) (blade : BladeView) (entries : List (PageView × Frame)) (sent : List Msg) (noted : List Note) → labels noted ≡ [] → IsPageCache (with_frames blade entries).cache → AreHeld entries flat
+    → PagesAlone flat blade (record { blade = with_frames blade entries; sent = sent; noted = noted })
+alone-with flat blade entries sent noted silent shape held = record { plan = refl; harts = refl; silent = silent; shape = shape; held = held }
+
 pub given_up-alone : (flat : PageView → PageImageView) (page : PageView) (blade : BladeView) → IsPageCache blade.cache → AreHeld blade.cache.entries flat → PagesAlone flat blade (given_up page blade)
 given_up-alone flat page blade is held = by (frame_of page blade.cache.entries) refl (given_up-changes page blade is).shape where
   less : (q : PageView) (frame : Frame) (b : Bool) → (if b then None else frame_of q blade.cache.entries) ≡ Some frame → frame.image ≡ flat q
@@ -104,31 +110,21 @@ given_up-alone flat page blade is held = by (frame_of page blade.cache.entries) 
 
   by : (f : Option Frame) → frame_of page blade.cache.entries ≡ f → IsPageCache (giving_up page (frame_of page blade.cache.entries) blade).blade.cache → PagesAlone flat blade (giving_up page f blade)
   by None e shape = record { plan = refl; harts = refl; silent = refl; shape = is; held = held }
-  by (Some frame) e shape = record {
-    plan = refl;
-    harts = refl;
-    silent = refl;
-    shape = subst (λ f. IsPageCache (giving_up page f blade).blade.cache) e shape;
-    held = λ q other is_held. less q other (same_page q page) (sym (found-without page blade.cache.entries is.distinct q) ∙ is_held);
-  }
+  by (Some frame) e shape = alone-with flat blade (without_page page blade.cache.entries) _ _ refl (subst (λ f. IsPageCache (giving_up page f blade).blade.cache) e shape)
+      (λ q other is_held. less q other (same_page q page) (sym (found-without page blade.cache.entries is.distinct q) ∙ is_held))
 
 pub lowered-alone : (flat : PageView → PageImageView) (page : PageView) (blade : BladeView) → IsPageCache blade.cache → AreHeld blade.cache.entries flat → PagesAlone flat blade (lowered page blade)
 lowered-alone flat page blade is held = by (frame_of page blade.cache.entries) refl (lowered-changes page blade is).shape where
   by : (f : Option Frame) → frame_of page blade.cache.entries ≡ f → IsPageCache (lowering page (frame_of page blade.cache.entries) blade).blade.cache → PagesAlone flat blade (lowering page f blade)
   by None e shape = record { plan = refl; harts = refl; silent = refl; shape = is; held = held }
-  by (Some frame) e shape = record {
-    plan = refl;
-    harts = refl;
-    silent = refl;
-    shape = subst (λ f. IsPageCache (lowering page f blade).blade.cache) e shape;
-    held = λ q other is_held. less q other (same_page q page) refl (sym (found-with_change lowered_frame page frame blade.cache.entries e q) ∙ is_held);
-  } where
-    less : (q : PageView) (other : Frame) (b : Bool) → same_page q page ≡ b → (if b then Some (lowered_frame frame) else frame_of q blade.cache.entries) ≡ Some other → other.image ≡ flat q
-    less q other true s found = ap (λ (f : Frame). f.image) (sym (same_Some _ _ found)) ∙ held page frame e ∙ ap flat (sym (same_page-true q page s))
-    less q other false s found = held q other found
+  by (Some frame) e shape = alone-with flat blade (with_change lowered_frame page blade.cache.entries) _ _ refl (subst (λ f. IsPageCache (lowering page f blade).blade.cache) e shape)
+      (λ q other is_held. less q other (same_page q page) refl (sym (found-with_change lowered_frame page frame blade.cache.entries e q) ∙ is_held)) where
+        less : (q : PageView) (other : Frame) (b : Bool) → same_page q page ≡ b → (if b then Some (lowered_frame frame) else frame_of q blade.cache.entries) ≡ Some other → other.image ≡ flat q
+        less q other true s found = ap (λ (f : Frame). f.image) (sym (same_Some _ _ found)) ∙ held page frame e ∙ ap flat (sym (same_page-true q page s))
+        less q other false s found = held q other found
 
 -- one page after another
-each-alone : (flat : PageView → PageImageView) (change : PageView → BladeView → Effect)
+each-alone : (flat : PageView → PageImageView) (change : PageView → BladeView → BladeEffect)
     → ((page : PageView) (blade : BladeView) → IsPageCache blade.cache → AreHeld blade.cache.entries flat → PagesAlone flat blade (change page blade))
     → (pages : List PageView) (blade : BladeView) → IsPageCache blade.cache → AreHeld blade.cache.entries flat → PagesAlone flat blade (each_in change pages blade)
 each-alone flat change one [] blade is held = record { plan = refl; harts = refl; silent = refl; shape = is; held = held }
@@ -143,7 +139,7 @@ each-alone flat change one (page ∷ pages) blade is held =
       held = more.held;
     }
 
-acknowledging-alone : (flat : PageView → PageImageView) (change : PageView → BladeView → Effect) (pages : List PageView) (number : ℕ) (asked : Option PageView) (blade : BladeView)
+acknowledging-alone : (flat : PageView → PageImageView) (change : PageView → BladeView → BladeEffect) (pages : List PageView) (number : ℕ) (asked : Option PageView) (blade : BladeView)
     → PagesAlone flat blade (each_in change pages blade) → PagesAlone flat blade (acknowledging change pages number asked blade)
 acknowledging-alone flat change pages number asked blade alone = record {
   plan = alone.plan;

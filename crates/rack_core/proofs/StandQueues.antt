@@ -15,7 +15,7 @@ use Rattle.mind_base.specs.declared.images.Image.{Image}
 use Rattle.hart_core.specs.Act.{act_of, goes_to}
 use Rattle.hart_core.specs.Memory.{load_size, store_size, IsAccessSize}
 use Rattle.hart_core.specs.Registers.{register}
-use Rattle.hart_core.specs.Values.{word_sum, word_of, is_taken}
+use Rattle.hart_core.specs.Values.{word_sum, word_from, is_taken}
 use Rattle.hart_core.specs.declared.outcome.Act.{Act}
 use Rattle.hart_core.specs.declared.outcome.Act.TheVariants as act
 use Rattle.hart_core.specs.declared.outcome.LockedKind.TheVariants as locked
@@ -27,7 +27,7 @@ use Rattle.hart_effect.specs.declared.finds.Found.{Found}
 use Rattle.hart_effect.specs.declared.finds.Found.TheVariants.{Outside, Unknown, Asks}
 use Rattle.rack_core.specs.StandRuns.{ArePending}
 use Rattle.rack_core.proofs.BladeDeeds.{of_deed, unless-written}
-use Rattle.rack_core.proofs.SwitchLookups.{all-last}
+use Rattle.rack_core.proofs.Lists.{all-last}
 
 -- ---- what is found
 
@@ -68,7 +68,7 @@ act-size (instr.Lui rd imm) regs pc = tt
 act-size (instr.Auipc rd imm) regs pc = tt
 act-size (instr.Jal rd offset) regs pc = goes-size _ _ _ _
 act-size (instr.Jalr rd rs1 offset) regs pc = goes-size _ _ _ _
-act-size (instr.Branch kind rs1 rs2 offset) regs pc = branch-size (is_taken kind (register regs rs1) (register regs rs2)) (goes_to 0 0 (word_sum pc (word_of offset))) 0 0 (word_sum pc 4) (goes-size _ _ _ _)
+act-size (instr.Branch kind rs1 rs2 offset) regs pc = branch-size (is_taken kind (register regs rs1) (register regs rs2)) (goes_to 0 0 (word_sum pc (word_from offset))) 0 0 (word_sum pc 4) (goes-size _ _ _ _)
 act-size (instr.Load kind rd rs1 offset) regs pc = tt
 act-size (instr.Store kind rs1 rs2 offset) regs pc = store_sizes kind
 act-size (instr.OpImm kind rd rs1 imm) regs pc = tt

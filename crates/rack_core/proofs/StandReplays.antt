@@ -1,36 +1,19 @@
 -- What was noted in two parts leads the machine on in two parts.
-use Rattle.std.proofs.Common.{◌≡◌, ℕ, suc, ◌+◌, ◌∙◌, ap, sym, refl, List, [], ◌∷◌, ◌++◌, length, Option, Some, None}
+use Rattle.std.proofs.Common.{◌≡◌, ◌+◌, ◌∙◌, ap, sym, List, ◌++◌, length}
 use Rattle.std.proofs.lemmas.List.Elements.{filter_map-append}
 use Rattle.mind_base.specs.Page.{PageView}
 use Rattle.mind_base.specs.declared.images.Image.{Image}
 use Rattle.mind_base.specs.declared.notes.Note.{Note}
 use Rattle.page_image.specs.PageImage.{PageImageView}
 use Rattle.coherence.specs.Facts.{AreFrames}
-use Rattle.tso_machine.specs.Replay.{Whole, Stuck, advanced, advance_all, label_of, labels, replay}
+use Rattle.tso_machine.specs.Replay.{Whole, advance_all, label_of, labels, replay}
 use Rattle.tso_machine.specs.State.{Setup, State}
-use Rattle.tso_machine.specs.Step.{after}
-use Rattle.tso_machine.specs.declared.labels.Label.{Label}
-use Rattle.tso_machine.proofs.Runs.{advance_all-append, advance_all-stuck}
+use Rattle.tso_machine.proofs.Runs.{advance_all-append}
+use Rattle.tso_machine.proofs.LawsRuns.{renumbered}
 use Rattle.rack_core.specs.BladeMoves.{AreBladesSound}
 use Rattle.rack_core.specs.Rack.{RackView}
 use Rattle.rack_core.specs.Seen.{seen}
 use Rattle.rack_core.specs.StandRuns.{GoesWith, LeadsMachine}
-
--- the first label of a whole run is enabled, and the others go on from where it leads
-pub enabled : (u : Setup) (n : ℕ) (s t : State) (l : Label) (ls : List Label) → advance_all u n (Whole s) (l ∷ ls) ≡ Whole t
-    → (m : State) × (after u s l ≡ Some m) × (advance_all u (suc n) (Whole m) ls ≡ Whole t)
-enabled u n s t l ls e = by (after u s l) refl e where
-  by : (o : Option State) → after u s l ≡ o → advance_all u (suc n) (advanced n s o) ls ≡ Whole t
-      → (m : State) × (after u s l ≡ Some m) × (advance_all u (suc n) (Whole m) ls ≡ Whole t)
-  by None is e = absurd (let no_whole : Stuck n s ≡ Whole t = sym (advance_all-stuck u (suc n) n s ls) ∙ e in cc)
-  by (Some m) is e = (m, is, e)
-
--- where a whole run leads does not hang on the number of its first label
-renumbered : (u : Setup) (n k : ℕ) (s t : State) (ls : List Label) → advance_all u n (Whole s) ls ≡ Whole t → advance_all u k (Whole s) ls ≡ Whole t
-renumbered u n k s t [] e = e
-renumbered u n k s t (l ∷ ls) e =
-    let first = enabled u n s t l ls e in
-    ap (λ o. advance_all u (suc k) (advanced k s o) ls) first.1 ∙ renumbered u (suc n) (suc k) first.0 t ls first.2
 
 -- the labels of two parts of a log are replayed one part after the other
 pub replay-then : (u : Setup) (s m t : State) (first later : List Note) → replay u s (labels first) ≡ Whole m → replay u m (labels later) ≡ Whole t → replay u s (labels (first ++ later)) ≡ Whole t

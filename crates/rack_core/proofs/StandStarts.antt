@@ -8,18 +8,19 @@ use Rattle.mind_base.specs.Fit.{IsFit}
 use Rattle.mind_base.specs.declared.images.Image.{Image}
 use Rattle.mind_base.specs.declared.plans.RackPlan.{RackPlan}
 use Rattle.mind_base.specs.declared.plans.ThreadPlan.{ThreadPlan}
+use Rattle.mind_base.specs.Plan.{image_place}
 use Rattle.hart_effect.specs.Thread.{first_thread}
 use Rattle.page_image.specs.PageImage.{tag_at, zero_image}
 use Rattle.page_image.proofs.Laws.{IsPageImage-zero_image}
 use Rattle.compute_blade.specs.Blade.{HartView, BladeView, hart_of}
 use Rattle.compute_blade.specs.Harts.{first_hart}
-use Rattle.compute_blade.specs.Start.{first_blade, hart_for, image_place}
-use Rattle.tso_machine.specs.State.{image_at, start_state}
+use Rattle.compute_blade.specs.Start.{first_blade, hart_for}
+use Rattle.tso_machine.specs.State.{start_state}
 use Rattle.rack_core.specs.Rack.{RackView}
 use Rattle.rack_core.specs.Start.{IsStart}
 use Rattle.rack_core.specs.StandLog.{made_from, StandsAt, StandsForLog}
 use Rattle.rack_core.specs.StandRuns.{ArePending}
-use Rattle.rack_core.specs.Stands.{IsHartAt, IsPast, StandsFor, machine_thread}
+use Rattle.rack_core.specs.Stands.{IsHartAt, IsPast, RackStandsFor, machine_thread}
 use Rattle.rack_core.specs.Telling.{HasRoom, IsLogOf}
 use Rattle.rack_core.proofs.Released.{start-released}
 use Rattle.rack_core.proofs.RackTells.{starts_log, starts_room}
@@ -67,7 +68,7 @@ past-zero rack tag none hart at = omega (arith, none)
 
 -- ---- the state at the start
 
-first-stands : (images : List Image) (plan : RackPlan) (rack : RackView) → IsStart plan rack → StandsFor rack (λ page. zero_image) (start_state (made_from images plan))
+first-stands : (images : List Image) (plan : RackPlan) (rack : RackView) → IsStart plan rack → RackStandsFor rack (λ page. zero_image) (start_state (made_from images plan))
 first-stands images plan rack start = record {
   threads = threads;
   bytes = λ domain address. sym (zero-bytes (address % 4096) (omega arith));
@@ -79,11 +80,11 @@ first-stands images plan rack start = record {
       let never : ⊥ = cc in absurd never;
 } where
   threads : (h : ℕ) (hart : HartView) → IsHartAt rack h hart
-      → slice_get (map (λ (t : ThreadPlan). first_thread (image_at plan.images t.image)) plan.threads) h ≡ Some (machine_thread (λ page. zero_image) hart)
+      → slice_get (map (λ (t : ThreadPlan). first_thread (image_place plan.images t.image)) plan.threads) h ≡ Some (machine_thread (λ page. zero_image) hart)
   threads h hart at =
       let first = hart-first plan rack start h hart at in
-      slice_get-map (λ (t : ThreadPlan). first_thread (image_at plan.images t.image)) plan.threads h
-      ∙ ap (option_map (λ (t : ThreadPlan). first_thread (image_at plan.images t.image))) first.planned
+      slice_get-map (λ (t : ThreadPlan). first_thread (image_place plan.images t.image)) plan.threads h
+      ∙ ap (option_map (λ (t : ThreadPlan). first_thread (image_place plan.images t.image))) first.planned
       ∙ ap (λ x. Some (machine_thread (λ page. zero_image) x)) (sym first.own)
 
 start-stands : (images : List Image) (plan : RackPlan) (rack : RackView) → IsFit plan → IsStart plan rack → StandsAt images (made_from images plan) rack (start_state (made_from images plan))

@@ -26,7 +26,7 @@ use Rattle.tso_machine.specs.State.{State}
 use Rattle.tso_machine.specs.Step.{done_by}
 use Rattle.rack_core.specs.Rack.{RackView}
 use Rattle.rack_core.specs.Seen.{seen}
-use Rattle.rack_core.specs.Stands.{IsHartAt, IsPast, StandsFor, machine_thread}
+use Rattle.rack_core.specs.Stands.{IsHartAt, IsPast, RackStandsFor, machine_thread}
 use Rattle.rack_core.proofs.Lookups.{slice_get-set, slice_get-set_other}
 use Rattle.rack_core.proofs.StandChanges.{OneChanged}
 use Rattle.rack_core.proofs.StandHarts.{Entries, held-coherent}
@@ -41,7 +41,7 @@ pub record HasChanged (h : ℕ) (was now : HartView) (old new : RackView) : Type
   pub perms : permission_at new.switch.protect ≡ permission_at old.switch.protect
 
 -- the machine's threads are those of the new rack's harts, where hart h's is
-threads-changed : (h : ℕ) (was now : HartView) (old new : RackView) (flat : PageView → PageImageView) (state : State) → HasChanged h was now old new → StandsFor old flat state
+threads-changed : (h : ℕ) (was now : HartView) (old new : RackView) (flat : PageView → PageImageView) (state : State) → HasChanged h was now old new → RackStandsFor old flat state
     → (threads : List Thread) → slice_get threads h ≡ Some (machine_thread flat now) → ((n : ℕ) → (n == h) ≡ false → slice_get threads n ≡ slice_get state.threads n)
     → (n : ℕ) (hart : HartView) → IsHartAt new n hart → slice_get threads n ≡ Some (machine_thread flat hart)
 threads-changed h was now old new flat state has stands threads here away n hart at = by (n == h) refl where
@@ -53,7 +53,7 @@ threads-changed h was now old new flat state has stands threads here away n hart
   by false s = away n s ∙ stands.threads n hart (has.one.others n hart s at)
 
 -- a hart of the new rack keeps a reservation that was past
-past-changed : (h : ℕ) (was now : HartView) (old new : RackView) (flat : PageView → PageImageView) (state : State) → HasChanged h was now old new → StandsFor old flat state
+past-changed : (h : ℕ) (was now : HartView) (old new : RackView) (flat : PageView → PageImageView) (state : State) → HasChanged h was now old new → RackStandsFor old flat state
     → (n : ℕ) (hart : HartView) (reservation : Reservation) → IsHartAt new n hart → hart.reserved ≡ Some reservation → IsPast old reservation.tag
 past-changed h was now old new flat state has stands n hart reservation at e = by (n == h) refl where
   by : (b : Bool) → (n == h) ≡ b → IsPast old reservation.tag
@@ -63,9 +63,9 @@ past-changed h was now old new flat state has stands n hart reservation at e = b
   by false s = stands.kept n hart reservation (has.one.others n hart s at) e
 
 -- the rack stands for the machine's state with threads that are those of its harts
-with-threads : (h : ℕ) (was now : HartView) (old new : RackView) (flat : PageView → PageImageView) (state : State) → HasChanged h was now old new → StandsFor old flat state
+with-threads : (h : ℕ) (was now : HartView) (old new : RackView) (flat : PageView → PageImageView) (state : State) → HasChanged h was now old new → RackStandsFor old flat state
     → (threads : List Thread) → slice_get threads h ≡ Some (machine_thread flat now) → ((n : ℕ) → (n == h) ≡ false → slice_get threads n ≡ slice_get state.threads n)
-    → StandsFor new flat (record state { threads = threads })
+    → RackStandsFor new flat (record state { threads = threads })
 with-threads h was now old new flat state has stands threads here away =
     let counts : now.stores ≡ was.stores = has.counts in
     let more : was.stores ≤ now.stores = omega arith in
@@ -79,15 +79,15 @@ with-threads h was now old new flat state has stands threads here away =
     }
 
 -- The rack stands for the machine's state after the deed in which the thread became that of the hart.
-pub stands-alone : (h domain : ℕ) (was now : HartView) (old new : RackView) (flat : PageView → PageImageView) (state : State) → HasChanged h was now old new → StandsFor old flat state
-    → StandsFor new flat (done_by h domain state (Alone (machine_thread flat now)))
+pub stands-alone : (h domain : ℕ) (was now : HartView) (old new : RackView) (flat : PageView → PageImageView) (state : State) → HasChanged h was now old new → RackStandsFor old flat state
+    → RackStandsFor new flat (done_by h domain state (Alone (machine_thread flat now)))
 stands-alone h domain was now old new flat state has stands = with-threads h was now old new flat state has stands (slice_set state.threads h (machine_thread flat now))
     (slice_get-set state.threads h (machine_thread flat was) (machine_thread flat now) (stands.threads h was has.one.before))
     (λ n e. slice_get-set_other state.threads h (machine_thread flat now) n e)
 
 -- Where the hart changed in nothing that the machine sees, the rack stands for the same state.
-pub stands-same : (h : ℕ) (was now : HartView) (old new : RackView) (flat : PageView → PageImageView) (state : State) → HasChanged h was now old new → StandsFor old flat state
-    → machine_thread flat now ≡ machine_thread flat was → StandsFor new flat state
+pub stands-same : (h : ℕ) (was now : HartView) (old new : RackView) (flat : PageView → PageImageView) (state : State) → HasChanged h was now old new → RackStandsFor old flat state
+    → machine_thread flat now ≡ machine_thread flat was → RackStandsFor new flat state
 stands-same h was now old new flat state has stands same = with-threads h was now old new flat state has stands state.threads
     (stands.threads h was has.one.before ∙ ap (λ x. Some x) (sym same)) (λ n e. refl)
 
@@ -101,7 +101,7 @@ unless_denied-kept P (Exit value) after before new old = old
 unless_denied-kept P (Fault kind value pc) after before new old = old
 
 -- a tag in a page that is held is one of the newest images
-tag-past : (rack : RackView) (flat : PageView → PageImageView) (state : State) → StandsFor rack flat state → AreFrames (seen rack flat) → (h : ℕ) (hart : HartView) (at : IsHartAt rack h hart)
+tag-past : (rack : RackView) (flat : PageView → PageImageView) (state : State) → RackStandsFor rack flat state → AreFrames (seen rack flat) → (h : ℕ) (hart : HartView) (at : IsHartAt rack h hart)
     → (granule : Granule) (tag : ℕ) → tag_in (frame_of (page_with granule) at.blade.cache.entries) granule ≡ Some tag → IsPast rack tag
 tag-past rack flat state stands frames h hart at granule tag e = by (frame_of (page_with granule) at.blade.cache.entries) refl e where
   by : (held : Option Frame) → frame_of (page_with granule) at.blade.cache.entries ≡ held → tag_in held granule ≡ Some tag → IsPast rack tag
@@ -113,7 +113,7 @@ tag-past rack flat state stands frames h hart at granule tag e = by (frame_of (p
       (stands.tags (page_with granule) (granule.number % 64) (omega arith))
 
 -- what a hart keeps after its deed is past
-pub kept-past : (rack : RackView) (flat : PageView → PageImageView) (state : State) → StandsFor rack flat state → AreFrames (seen rack flat) → (h : ℕ) (hart : HartView) (at : IsHartAt rack h hart)
+pub kept-past : (rack : RackView) (flat : PageView → PageImageView) (state : State) → RackStandsFor rack flat state → AreFrames (seen rack flat) → (h : ℕ) (hart : HartView) (at : IsHartAt rack h hart)
     → (found : Found) (domain : ℕ) (end : End) (r : Reservation) → kept_after found domain at.blade.cache.entries end hart.reserved ≡ Some r → IsPast rack r.tag
 kept-past rack flat state stands frames h hart at found domain end r e = by found r e where
   before : (r : Reservation) → hart.reserved ≡ Some r → IsPast rack r.tag

@@ -14,7 +14,7 @@ use Rattle.compute_blade.specs.declared.kept.Reservation.{Reservation}
 use Rattle.tso_machine.specs.State.{State}
 use Rattle.tso_machine.specs.Step.{thread_off, threads_off, done_by}
 use Rattle.rack_core.specs.Rack.{RackView}
-use Rattle.rack_core.specs.Stands.{IsHartAt, IsPast, StandsFor, machine_thread}
+use Rattle.rack_core.specs.Stands.{IsHartAt, IsPast, RackStandsFor, machine_thread}
 use Rattle.rack_core.proofs.Lookups.{slice_get-set, slice_get-set_other}
 use Rattle.rack_core.proofs.StandBytes.{flat_with, bytes-stored, images-stored}
 use Rattle.rack_core.proofs.StandChanges.{OneChanged}
@@ -32,7 +32,7 @@ pub record HasStored (h : ℕ) (was now : HartView) (store : PendingView) (old n
   pub perms : permission_at new.switch.protect ≡ permission_at old.switch.protect
 
 -- a hart of the new rack keeps a reservation that was past
-kept-before : (h : ℕ) (was now : HartView) (store : PendingView) (old new : RackView) (flat : PageView → PageImageView) (state : State) → HasStored h was now store old new → StandsFor old flat state
+kept-before : (h : ℕ) (was now : HartView) (store : PendingView) (old new : RackView) (flat : PageView → PageImageView) (state : State) → HasStored h was now store old new → RackStandsFor old flat state
     → (n : ℕ) (hart : HartView) (reservation : Reservation) → IsHartAt new n hart → hart.reserved ≡ Some reservation → IsPast old reservation.tag
 kept-before h was now store old new flat state has stands n hart reservation at e = by (n == h) refl where
   by : (b : Bool) → (n == h) ≡ b → IsPast old reservation.tag
@@ -43,8 +43,8 @@ kept-before h was now store old new flat state has stands n hart reservation at 
 
 -- The rack stands for the machine's state after the deed, with the store in the newest image of its page.
 pub stands-stored : (h domain : ℕ) (was now : HartView) (store : PendingView) (old new : RackView) (flat : PageView → PageImageView) (state : State)
-    → HasStored h was now store old new → StandsFor old flat state
-    → StandsFor new (flat_with domain store (next_tag h was.stores) flat) (done_by h domain state (Storing (machine_thread flat now) store))
+    → HasStored h was now store old new → RackStandsFor old flat state
+    → RackStandsFor new (flat_with domain store (next_tag h was.stores) flat) (done_by h domain state (Storing (machine_thread flat now) store))
 stands-stored h domain was now store old new flat state has stands = record {
   threads = threads;
   bytes = bytes-stored flat state.writes domain store tag (stands.images (page_of domain store.address)) has.pending stands.bytes;

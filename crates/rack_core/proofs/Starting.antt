@@ -17,11 +17,11 @@ use Rattle.mind_base.specs.declared.plans.MemoryPlan.{MemoryPlan}
 use Rattle.mind_base.specs.declared.plans.RackPlan.{RackPlan}
 use Rattle.page_image.specs.PageImage.{PageImageView, zero_image}
 use Rattle.protect_table.specs.Protect.{permission_at}
-use Rattle.range_translate.specs.Place.{pages_of, place_of}
+use Rattle.range_translate.specs.Place.{pages_of, physical_place}
 use Rattle.range_translate.specs.Table.{TableView}
 use Rattle.region_directory.specs.Directory.{DirectoryView}
 use Rattle.request_list.specs.declared.requests.Request.{Request}
-use Rattle.request_list.specs.Requests.{AreApart}
+use Rattle.request_list.specs.Requests.{AskOncePerPage}
 use Rattle.compute_blade.specs.Blade.{BladeView}
 use Rattle.compute_blade.specs.Start.{first_blade}
 use Rattle.memory_blade.specs.MemoryBlade.{image_at}
@@ -83,14 +83,14 @@ first_seen plan rack h = λ i. record (start (place_in rack.switch) (permission_
 -- ---- where pages lie
 
 -- a page lies at its home
-at_home : (memories : List MemoryPlan) (page : PageView) → place_of memories [] page ≡ home_of memories page
+at_home : (memories : List MemoryPlan) (page : PageView) → physical_place memories [] page ≡ home_of memories page
 at_home memories page = by (home_of memories page) where
   by : (home : Option (ℕ × ℕ)) → option_map {T = ℕ × ℕ} {U = ℕ × ℕ} (λ place. place) home ≡ home
   by None = refl
   by (Some place) = refl
 
 lies : (plan : RackPlan) (switch : SwitchView) (page : PageView) → IsFirstSwitch plan switch → place_in switch page ≡ home_of plan.memories page
-lies plan switch page h = ap (λ (table : TableView). place_of table.homes table.outliers page) h.table ∙ at_home plan.memories page
+lies plan switch page h = ap (λ (table : TableView). physical_place table.homes table.outliers page) h.table ∙ at_home plan.memories page
 
 are_placed : (plan : RackPlan) (switch : SwitchView) → IsFit plan → IsFirstSwitch plan switch → ArePlaced (start (place_in switch) (permission_at switch.protect))
 are_placed plan switch fit h = record {
@@ -121,7 +121,7 @@ blades_sound plan rack fit h c blade e =
 
 switch_sound : (plan : RackPlan) (switch : SwitchView) → IsFit plan → IsFirstSwitch plan switch → IsSoundSwitch switch
 switch_sound plan switch fit h = record {
-  requests = subst AreApart (sym h.requests) tt;
+  requests = subst AskOncePerPage (sym h.requests) tt;
   blades = subst (λ (requests : List Request). AllByRecursion (λ r. r.blade < 8) requests) (sym h.requests) tt;
   blocks = subst (λ (directory : DirectoryView). AreEntriesApart directory.entries) (sym h.directory) tt;
   entries = subst (λ (directory : DirectoryView). AllByRecursion (IsFitEntry 8) directory.entries) (sym h.directory) tt;

@@ -20,13 +20,14 @@ use Rattle.wire_msg.specs.declared.msgs.Msg.{Msg}
 use Rattle.wire_msg.specs.declared.msgs.Msg.TheVariants.{Inv, Lower}
 use Rattle.switch_core.specs.Invariant.{IsFitState, IsFitEntry}
 use Rattle.switch_core.specs.Switch.{SwitchView, to_blade}
-use Rattle.switch_core.specs.Treating.{begun, cleared, invalidated, lowered, invalidations, left_to, holders, grants, is_fetched}
+use Rattle.switch_core.specs.Treating.{with_transition, cleared, invalidated, lowered, invalidations, left_to, holders, grants, is_fetched}
+use Rattle.switch_core.proofs.Lists.{all-at}
 use Rattle.coherence.specs.Facts.{names, owns, is_fetching}
 use Rattle.coherence.specs.Moves.{Begins, IsCallOf, call_to}
 use Rattle.coherence.specs.World.{World}
 use Rattle.rack_core.specs.Seen.{sent_on, region_of}
-use Rattle.rack_core.specs.SwitchMoves.{shown, Shows, IsSoundSwitch, IsQuiet, AsksAt}
-use Rattle.rack_core.proofs.SwitchLookups.{all-got, all-changed, apart-changed}
+use Rattle.rack_core.specs.SwitchMoves.{shown, Shows, IsSoundSwitch, SendsNoneUp, AsksAt}
+use Rattle.rack_core.proofs.SwitchLookups.{all-changed, apart-changed}
 use Rattle.rack_core.proofs.SwitchRequests.{unfetched}
 use Rattle.rack_core.proofs.SwitchRuns.{one_move}
 use Rattle.rack_core.proofs.SwitchSets.{one-here, one-only, one-other, one-fits, calls-down, calls-to, calls-quiet}
@@ -45,14 +46,14 @@ pub record IsFor (state : State) (busy : Busy) : Type 0 where
 pub record AreCalls (busy : Busy) (message : Msg) (messages : List (LinkName × Msg)) : Type 0 where
   pub down : (blade : ℕ) → sent_on Down blade messages ≡ call_to busy message blade
   pub to : (memory : ℕ) → sent_on To memory messages ≡ []
-  pub quiet : IsQuiet messages
+  pub quiet : SendsNoneUp messages
 
 module _ (v : World) (switch : SwitchView) (i : ℕ) (entry : Entry) (shows : Shows v switch) (sound : IsSoundSwitch switch)
     (stands : slice_get switch.directory.entries i ≡ Some entry) (free : entry.busy ≡ None) (still : is_fetched entry.range switch.requests ≡ false) where
   pub begins_it : (busy : Busy) (message : Msg) (messages : List (LinkName × Msg)) → busy.number ≡ switch.last + 1 → IsFor entry.state busy → IsCallOf entry.range busy message → AreCalls busy message messages
-      → Follows v switch (begun i busy messages switch)
+      → Follows v switch (with_transition i busy messages switch)
   begins_it busy message messages number fits call calls = record {
-    moves = one_move v (shown v (begun i busy messages switch)) (Begins (region_of entry) busy message)
+    moves = one_move v (shown v (with_transition i busy messages switch)) (Begins (region_of entry) busy message)
         (record {
           entry = λ page within. regions-got v.regions switch.directory.entries i entry page shows.regions sound.blocks stands within;
           idle = free;
@@ -81,7 +82,7 @@ module _ (v : World) (switch : SwitchView) (i : ℕ) (entry : Entry) (shows : Sh
       region = sound.region;
     };
     places = record { places = shows.places.places; perms = shows.places.perms };
-    told = kept-told v switch i (with_busy (Some busy)) entry shows.regions (λ x. refl) sound.blocks stands (begun i busy messages switch) refl refl refl refl;
+    told = kept-told v switch i (with_busy (Some busy)) entry shows.regions (λ x. refl) sound.blocks stands (with_transition i busy messages switch) refl refl refl refl;
   }
 
 -- ---- invalidations
@@ -199,7 +200,7 @@ lowering-calls busy owner message is = record { down = λ blade. ap (λ t. if t 
 module _ (v : World) (switch : SwitchView) (i : ℕ) (entry : Entry) (shows : Shows v switch) (sound : IsSoundSwitch switch)
     (stands : slice_get switch.directory.entries i ≡ Some entry) (free : entry.busy ≡ None) (still : is_fetched entry.range switch.requests ≡ false) where
   fit : IsFitState 8 entry.state
-  fit = (all-got (IsFitEntry 8) switch.directory.entries i entry sound.entries stands).state
+  fit = (all-at (IsFitEntry 8) switch.directory.entries i entry sound.entries stands).state
 
   pub clears : Follows v switch (cleared i entry switch)
   clears =

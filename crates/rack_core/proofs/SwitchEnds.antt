@@ -1,26 +1,28 @@
 -- Entries that end their transitions, and the notes of it, one for each.
-use Rattle.std.proofs.Common.{◌≡◌, ◌⊎◌, inl, inr, refl, sym, ◌∙◌, ap, subst, ℕ, ◌==◌, Bool, true, false, List, [], ◌∷◌, ◌++◌, map, zero, suc, Option, Some, None}
-use Rattle.std.specs.Prelude.{if◌then◌else◌, slice_get, is_some, option_map}
+use Rattle.std.proofs.Common.{◌≡◌, ◌⊎◌, inl, inr, refl, sym, ◌∙◌, ap, subst, ◌==◌, Bool, true, false, List, [], ◌∷◌, ◌++◌, map, Option, Some, None}
+use Rattle.std.specs.Prelude.{if◌then◌else◌, is_some, option_map}
 use Rattle.std.specs.List.{AllByRecursion, flat_map}
-use Rattle.mind_base.specs.Range.{RangeView, in_range}
+use Rattle.mind_base.specs.Range.{RangeView, in_range, same_range}
 use Rattle.mind_base.specs.declared.notes.Note.TheVariants as note
 use Rattle.mind_base.specs.declared.plans.RackPlan.{RackPlan}
+use Rattle.mind_base.proofs.SameRange.{same_range-true}
 use Rattle.invalidate_multicast.specs.Transition as transition
 use Rattle.invalidate_multicast.specs.Transition.{is_answered, finished, target_of}
 use Rattle.region_directory.specs.declared.entries.Busy.{Busy}
 use Rattle.region_directory.specs.declared.entries.Entry.{Entry}
 use Rattle.switch_core.specs.Handling.{ended, noted_end}
 use Rattle.coherence.specs.Facts.{IsCoherent}
-use Rattle.coherence.specs.Held.{Entries, same_block}
+use Rattle.coherence.specs.Held.{Entries}
 use Rattle.coherence.specs.Lawful.{IsWithin, Tells, first_page, state_in}
 use Rattle.coherence.specs.Moves as moves
 use Rattle.coherence.specs.World.{Region, World}
-use Rattle.coherence.proofs.Telling.{first_page-in, same_block-true, state-found}
+use Rattle.coherence.proofs.Telling.{first_page-in, state-found}
 use Rattle.coherence.proofs.TellingEnds.{SetsTo, IsAmongSet, sets_told}
 use Rattle.rack_core.specs.Seen.{region_of, region_at}
 use Rattle.rack_core.specs.SwitchMoves.{AreEntriesApart}
 use Rattle.rack_core.proofs.SwitchLookups.{apart-map, first_region, first-got, first-map, region_at-first}
 use Rattle.rack_core.proofs.SwitchNotes.{state_of}
+use Rattle.rack_core.proofs.Lists.{all-from_got}
 
 pub ended-range : (e : Entry) → (ended e).range ≡ e.range
 ended-range e = by (is_answered e.busy) where
@@ -39,11 +41,6 @@ ended-region e = by_busy e.busy where
     by false = refl
 
 -- ---- the notes
-
--- what is true of each element by its number is true of all
-all-from_got : {X : Type 0} (P : X → Type 0) (xs : List X) → ((i : ℕ) (x : X) → slice_get xs i ≡ Some x → P x) → AllByRecursion P xs
-all-from_got P [] h = tt
-all-from_got P (x ∷ xs) h = (h zero x refl, all-from_got P xs (λ i y at. h (suc i) y at))
 
 all-of_map : {X : Type 0} (P : X → Type 0) (f : X → X) (xs : List X) → AllByRecursion P (map f xs) → AllByRecursion (λ x. P (f x)) xs
 all-of_map P f [] h = tt
@@ -75,16 +72,16 @@ reaches (e ∷ es) range = by (is_answered e.busy) (in_range e.range (first_page
   notes_after b = (if b then note.Region e.range (target_of e e.busy) ∷ [] else []) ++ flat_map noted_end es
 
   -- of another block, whatever its state is
-  elsewhere : (t : Bool) → same_block e.range range ≡ t
+  elsewhere : (t : Bool) → same_range e.range range ≡ t
       → ((if t then Some e.state else None) ≡ (if t then Some (target_of e e.busy) else None)) ⊎ IsAmongSet range (notes_after true)
-  elsewhere true same = inr (inl (same_block-true e.range range same))
+  elsewhere true same = inr (inl (same_range-true e.range range same))
   elsewhere false same = inl refl
 
   by : (b t : Bool) → in_range e.range (first_page range) ≡ t
       → (state_of range (first_region es (first_page range)) ≡ state_of range (first_region (map ended es) (first_page range))) ⊎ IsAmongSet range (flat_map noted_end es)
       → (state_of range (if t then Some (region_of e) else first_region es (first_page range)) ≡ state_of range (first_after b)) ⊎ IsAmongSet range (notes_after b)
   by true true within rest = subst (λ t. (state_of range (Some (region_of e)) ≡ state_of range (if t then Some (region_of (finished e)) else first_region (map ended es) (first_page range))) ⊎ IsAmongSet range (notes_after true))
-      (sym within) (elsewhere (same_block e.range range) refl)
+      (sym within) (elsewhere (same_range e.range range) refl)
   by false true within rest = inl (ap (λ t. state_of range (if t then Some (region_of e) else first_region (map ended es) (first_page range))) (sym within))
   by true false away (inl same) = inl (same ∙ ap (λ t. state_of range (if t then Some (region_of (finished e)) else first_region (map ended es) (first_page range))) (sym away))
   by true false away (inr later) = inr (inr later)
@@ -104,7 +101,7 @@ same-blocks range (Some region) = by_busy region.busy where
   by_busy (Some busy) = by (busy.waiting == 0) where
     by : (b : Bool) → is_some (state_of range (Some region))
         ≡ is_some (state_of range (Some (if b then record { range = region.range; state = busy.target; busy = None } else record { range = region.range; state = region.state; busy = Some busy })))
-    by true = by_state (same_block region.range range) busy.target
+    by true = by_state (same_range region.range range) busy.target
     by false = refl
 
 -- entries that end their transitions are told of by their notes, where the rack is coherent before and after

@@ -18,12 +18,13 @@ use Rattle.wire_msg.specs.declared.msgs.Msg.TheVariants.{Read}
 use Rattle.switch_core.specs.Invariant.{IsFitState, IsFitEntry}
 use Rattle.switch_core.specs.Switch.{SwitchView, place_in}
 use Rattle.switch_core.specs.Treating.{is_denied, granted, grants, granted_state, reading}
+use Rattle.switch_core.proofs.Lists.{all-at}
 use Rattle.coherence.specs.Facts.{IsCoherent}
 use Rattle.coherence.specs.Moves.{GrantsIt, Grants}
 use Rattle.coherence.specs.World.{World, put}
 use Rattle.rack_core.specs.Seen.{sent_on, region_of}
-use Rattle.rack_core.specs.SwitchMoves.{shown, Shows, IsSoundSwitch, IsQuiet, AsksAt, Leads}
-use Rattle.rack_core.proofs.SwitchLookups.{all-got, all-changed, apart-changed}
+use Rattle.rack_core.specs.SwitchMoves.{shown, Shows, IsSoundSwitch, SendsNoneUp, AsksAt, LeadsByMoves}
+use Rattle.rack_core.proofs.SwitchLookups.{all-changed, apart-changed}
 use Rattle.rack_core.proofs.SwitchRefuses.{allowed}
 use Rattle.rack_core.proofs.SwitchRuns.{one_move}
 use Rattle.rack_core.proofs.SwitchSets.{one-here, empty-has, with-here, with-others, with-fits, one-fits}
@@ -74,7 +75,7 @@ all-fetching (r ∷ rs) (suc i) h = (h.0, all-fetching rs i h.1)
 module _ (v : World) (switch : SwitchView) (at : ℕ) (r : Request) (i : ℕ) (entry : Entry) (safe : IsCoherent v) (shows : Shows v switch) (sound : IsSoundSwitch switch)
     (is : slice_get switch.requests at ≡ Some r) (idle : r.fetching ≡ false) (may : is_denied switch r ≡ false)
     (stands : slice_get switch.directory.entries i ≡ Some entry) (within : in_range entry.range r.page ≡ true) (free : entry.busy ≡ None) (can : grants r.write r.blade entry.state ≡ true) where
-  grant_moves : (place : ℕ × ℕ) → place_in switch r.page ≡ Some place → Leads v (shown v (granted r at i entry switch))
+  grant_moves : (place : ℕ × ℕ) → place_in switch r.page ≡ Some place → LeadsByMoves v (shown v (granted r at i entry switch))
   grant_moves place lies =
       let downs : (λ n. v.downs n ++ sent_on Down n (reading r (place_in switch r.page))) ≡ v.downs =
       ap (λ o. λ n. v.downs n ++ sent_on Down n (reading r o)) lies ∙ none_sent v.downs in
@@ -97,7 +98,7 @@ module _ (v : World) (switch : SwitchView) (at : ℕ) (r : Request) (i : ℕ) (e
         tos = tos j;
       })
 
-  read_quiet : (o : Option (ℕ × ℕ)) → IsQuiet (reading r o)
+  read_quiet : (o : Option (ℕ × ℕ)) → SendsNoneUp (reading r o)
   read_quiet None n = (refl, refl)
   read_quiet (Some place) n = (refl, refl)
 
@@ -106,7 +107,7 @@ module _ (v : World) (switch : SwitchView) (at : ℕ) (r : Request) (i : ℕ) (e
   read_asks m (Some place) lies = asked_there v.places m place (Read place.1 (Some r.blade) r.page) (λ same. ap (λ f. f r.page) shows.places.places ∙ lies ∙ ap (λ n. Some (n, place.1)) (sym same))
 
   -- a page that may be read lies somewhere
-  by_place : (o : Option (ℕ × ℕ)) → place_in switch r.page ≡ o → Leads v (shown v (granted r at i entry switch))
+  by_place : (o : Option (ℕ × ℕ)) → place_in switch r.page ≡ o → LeadsByMoves v (shown v (granted r at i entry switch))
   by_place (Some place) lies = grant_moves place lies
   by_place None none = absurd (false≢true (ap is_some (sym (ap (λ f. f r.page) shows.places.places ∙ none)) ∙ safe.placed.placed r.page (not_no r.write (v.perms r.page) (allowed v switch r shows may))))
 
@@ -121,7 +122,7 @@ module _ (v : World) (switch : SwitchView) (at : ℕ) (r : Request) (i : ℕ) (e
       blocks = apart-changed i (in_state (granted_state r.write r.blade entry.state)) switch.directory.entries (λ x. refl) sound.blocks;
       entries = all-changed (IsFitEntry 8) i (in_state (granted_state r.write r.blade entry.state)) switch.directory.entries
           (λ e at_e h. record {
-            state = fits-so r.write r.blade entry.state (all-got (λ q. q.blade < 8) switch.requests at r sound.blades is) (all-got (IsFitEntry 8) switch.directory.entries i entry sound.entries stands).state;
+            state = fits-so r.write r.blade entry.state (all-at (λ q. q.blade < 8) switch.requests at r sound.blades is) (all-at (IsFitEntry 8) switch.directory.entries i entry sound.entries stands).state;
             target = h.target;
           }) sound.entries;
       region = sound.region;

@@ -1,5 +1,5 @@
 -- A message that comes to the switch is taken by a move, and what is served then is moves.
-use Rattle.std.proofs.Common.{◌≡◌, refl, sym, ◌∙◌, ap, subst, ℕ, ◌<◌, ◌≤◌, Bool, true, false, not, ◌==◌, List, [], ◌∷◌, ◌++◌, length, map, suc, arith, Option, Some, None}
+use Rattle.std.proofs.Common.{◌≡◌, refl, sym, ◌∙◌, ap, subst, ℕ, ◌<◌, ◌≤◌, Bool, true, false, ◌==◌, List, [], ◌∷◌, ◌++◌, length, map, suc, arith, Option, Some, None}
 use Rattle.std.specs.Prelude.{if◌then◌else◌, find, is_some, option_map}
 use Rattle.std.specs.List.{AllByRecursion}
 use Rattle.std.proofs.Math.Path.{fun_ext}
@@ -16,7 +16,7 @@ use Rattle.protect_table.specs.Protect.{permission_at}
 use Rattle.invalidate_multicast.specs.First.{first_changed}
 use Rattle.invalidate_multicast.specs.Transition as transition
 use Rattle.invalidate_multicast.specs.Transition.{is_number, after_answer, is_answered}
-use Rattle.region_directory.specs.Block.{IsApart}
+use Rattle.region_directory.specs.Block.{AreBlocksApart}
 use Rattle.mind_base.specs.Range.{RangeView, in_range}
 use Rattle.mind_base.specs.declared.plans.RackPlan.{RackPlan}
 use Rattle.region_directory.specs.Entry.{with_busy, plus_hits}
@@ -24,36 +24,37 @@ use Rattle.region_directory.specs.declared.entries.Busy.{Busy}
 use Rattle.region_directory.specs.declared.entries.Entry.{Entry}
 use Rattle.request_list.specs.Requests.{is_of}
 use Rattle.request_list.specs.declared.requests.Request.{Request}
-use Rattle.request_list.proofs.RequestFacts.{apart-push, apart-filter}
+use Rattle.request_list.proofs.RequestFacts.{apart-push}
 use Rattle.wire_msg.specs.declared.msgs.Msg.{Msg}
 use Rattle.wire_msg.specs.declared.msgs.Msg.TheVariants.{Get, Fill, Back, Ack, Image, Write}
-use Rattle.switch_core.specs.Handling.{all_ended, asked, filling, filled, writing, went_back, ended, answered, from_blade, from_memory, handled_from, Receives}
+use Rattle.switch_core.specs.Handling.{all_ended, request_noted, filling, filled, writing, went_back, ended, answered, from_blade, from_memory, handled_from, Receives}
 use Rattle.switch_core.specs.Invariant.{IsFitState, IsFitTarget, IsFitEntry}
-use Rattle.switch_core.specs.Switch.{SwitchView, Effect, place_in}
+use Rattle.switch_core.specs.Switch.{SwitchView, SwitchEffect, place_in}
 use Rattle.switch_core.specs.Treating.{without_request}
 use Rattle.switch_core.proofs.EachEnding.{answered-is}
 use Rattle.coherence.specs.Facts.{IsCoherent, AreAnswered, AreUps, AreFroms, is_fetching}
 use Rattle.coherence.specs.Moves as moves
-use Rattle.coherence.specs.Moves.{HearsGet, HearsBack, HearsAck, HearsImage, heard, answered_by}
+use Rattle.coherence.specs.Moves.{HearsGet, HearsBack, HearsAck, HearsImage, heard, region_answered}
 use Rattle.coherence.specs.Lawful.{Tells, first_page, state_in}
 use Rattle.coherence.specs.World.{Region, World, put, put_both}
 use Rattle.coherence.proofs.Telling.{tells_then}
 use Rattle.rack_core.specs.Seen.{sent_on, region_of, region_at, wanted_at}
-use Rattle.rack_core.specs.SwitchMoves.{shown, Shows, HasPlaces, IsSoundSwitch, IsQuiet, AsksAt, AskPlaces, Leads, AreEntriesApart, HasSlots, LiesWhere, IsFirstOn, taken_from}
-use Rattle.rack_core.proofs.SwitchLookups.{all-map, all-last, all-filter, apart-map, first_region, region_at-first, first-map}
+use Rattle.rack_core.specs.SwitchMoves.{shown, Shows, HasPlaces, IsSoundSwitch, SendsNoneUp, AsksAt, AskPlaces, LeadsByMoves, AreEntriesApart, HasSlots, LiesWhere, IsFirstOn, taken_from}
+use Rattle.rack_core.proofs.SwitchLookups.{apart-map, first_region, region_at-first, first-map}
 use Rattle.rack_core.proofs.SwitchNotes.{HoldsWithin, state_of, within_slots}
 use Rattle.rack_core.proofs.SwitchPasses.{serving_goes}
 use Rattle.rack_core.proofs.SwitchRequests.{wanted_of, found-of, wanted-last, wanted-without, unwanted-none}
 use Rattle.rack_core.proofs.SwitchRuns.{one_move, leads_on, leads_keeps}
 use Rattle.rack_core.proofs.SwitchEnds.{ended-range, ended-region, ends_told}
 use Rattle.rack_core.proofs.SwitchTold.{nothing_noted}
-use Rattle.rack_core.proofs.SwitchWorlds.{asked_there, Stands, none_sent, one_sent}
+use Rattle.rack_core.proofs.SwitchWorlds.{asked_there, Stands, none_sent, one_sent, without-sound, entries-sound}
+use Rattle.rack_core.proofs.Lists.{all-map, all-last}
 
 -- a message was taken: moves, and the switch is sound still, with the same places and permissions, and its notes tell
 -- of it
-pub record Hears (w taken : World) (switch : SwitchView) (effect : Effect) : Type 0 where
-  pub moves : Leads w (shown taken effect)
-  pub quiet : IsQuiet effect.sent
+pub record Hears (w taken : World) (switch : SwitchView) (effect : SwitchEffect) : Type 0 where
+  pub moves : LeadsByMoves w (shown taken effect)
+  pub quiet : SendsNoneUp effect.sent
   pub asks : AskPlaces taken.places effect.sent
   pub sound : IsSoundSwitch effect.switch
   pub places : HasPlaces taken effect.switch
@@ -67,7 +68,7 @@ pub unwanted_before : (w : World) (blade : ℕ) (page : PageView) (write : Bool)
 unwanted_before w blade page write behind head answers = grind (arith, nat_tests, answers blade page, same_page-refl page)
 
 hears_get : (w : World) (switch : SwitchView) (blade : ℕ) (page : PageView) (write : Bool) (behind : List Msg) → IsCoherent w → Shows w switch → IsSoundSwitch switch → blade < 8
-    → w.ups blade ≡ Get page write ∷ behind → Hears w (heard blade behind w) switch (asked blade page write switch)
+    → w.ups blade ≡ Get page write ∷ behind → Hears w (heard blade behind w) switch (request_noted blade page write switch)
 hears_get w switch blade page write behind safe shows sound lt head =
     let request : Request = record { blade = blade; page = page; write = write; fetching = false } in
     let unwanted : wanted_at switch.requests blade page ≡ None = ap (λ f. f blade page) (sym shows.wants) ∙ unwanted_before w blade page write behind head safe.answered in
@@ -75,7 +76,7 @@ hears_get w switch blade page write behind safe shows sound lt head =
     let wants : wanted_at (switch.requests ++ request ∷ []) ≡ put_both blade page (Some (record { write = write; fetching = false })) w.wants =
     fun_ext (λ b. fun_ext (λ p. wanted-last switch.requests request b p none)) ∙ ap (put_both blade page (Some (record { write = write; fetching = false }))) (sym shows.wants) in
     record {
-      moves = one_move w (shown (heard blade behind w) (asked blade page write switch)) (HearsGet blade page write behind) head
+      moves = one_move w (shown (heard blade behind w) (request_noted blade page write switch)) (HearsGet blade page write behind) head
           (λ j. record w { ups = put blade behind w.ups; wants = wants j; regions = sym shows.regions j; last = sym shows.last j; downs = none_sent w.downs j; tos = none_sent w.tos j });
       quiet = λ n. (refl, refl);
       asks = λ m. tt;
@@ -87,7 +88,7 @@ hears_get w switch blade page write behind safe shows sound lt head =
         region = sound.region;
       };
       places = record { places = shows.places.places; perms = shows.places.perms };
-      told = λ plan safe_then safe_after holds slots. nothing_noted w (heard blade behind w) switch (asked blade page write switch) shows.regions refl refl refl plan slots;
+      told = λ plan safe_then safe_after holds slots. nothing_noted w (heard blade behind w) switch (request_noted blade page write switch) shows.regions refl refl refl plan slots;
     }
 
 -- ---- a page that comes back
@@ -102,7 +103,7 @@ hears_back w switch blade page image behind shows sound lies head = record {
   places = record { places = shows.places.places; perms = shows.places.perms };
   told = λ plan safe safe_after holds slots. nothing_noted w (heard blade behind w) switch (went_back page image switch) shows.regions refl refl refl plan slots;
 } where
-  write_quiet : (o : Option (ℕ × ℕ)) → IsQuiet (writing o image)
+  write_quiet : (o : Option (ℕ × ℕ)) → SendsNoneUp (writing o image)
   write_quiet None n = (refl, refl)
   write_quiet (Some place) n = (refl, refl)
 
@@ -110,7 +111,7 @@ hears_back w switch blade page image behind shows sound lies head = record {
   write_asks m None at = tt
   write_asks m (Some place) at = asked_there w.places m place (Write place.1 image) (λ same. (page, ap (λ f. f page) shows.places.places ∙ at ∙ ap (λ n. Some (n, place.1)) (sym same)))
 
-  by : (o : Option (ℕ × ℕ)) → place_in switch page ≡ o → Leads w (shown (heard blade behind w) (went_back page image switch))
+  by : (o : Option (ℕ × ℕ)) → place_in switch page ≡ o → LeadsByMoves w (shown (heard blade behind w) (went_back page image switch))
   by None at = absurd (false≢true (ap is_some (sym (ap (λ f. f page) shows.places.places ∙ at)) ∙ lies))
   by (Some place) at =
       let downs : (λ n. w.downs n ++ sent_on Down n (writing (place_in switch page) image)) ≡ w.downs = ap (λ o. λ n. w.downs n ++ sent_on Down n (writing o image)) at ∙ none_sent w.downs in
@@ -128,7 +129,7 @@ with_answer number blade region = record region { busy = after_answer number bla
 abbrev answers_one : ℕ → ℕ → Region → Region
 answers_one number blade region = moves.ended (with_answer number blade region)
 
-option-answered : (number blade : ℕ) (o : Option Region) → option_map (answers_one number blade) o ≡ answered_by number blade o
+option-answered : (number blade : ℕ) (o : Option Region) → option_map (answers_one number blade) o ≡ region_answered number blade o
 option-answered number blade None = refl
 option-answered number blade (Some region) = refl
 
@@ -157,8 +158,8 @@ length-hits test count (e ∷ es) = by (test e) (length-hits test count es) wher
 
 apart-hits : (test : Entry → Bool) (count : ℕ) (es : List Entry) → AreEntriesApart es → AreEntriesApart (first_changed test (plus_hits count) es)
 apart-hits test count [] h = tt
-apart-hits test count (e ∷ es) h = by (test e) (all-hits (λ l. IsApart e.range l.range) test count (λ l a. a) es h.0) (apart-hits test count es h.1) where
-  by : (b : Bool) → AllByRecursion (λ l. IsApart e.range l.range) (first_changed test (plus_hits count) es) → AreEntriesApart (first_changed test (plus_hits count) es)
+apart-hits test count (e ∷ es) h = by (test e) (all-hits (λ l. AreBlocksApart e.range l.range) test count (λ l a. a) es h.0) (apart-hits test count es h.1) where
+  by : (b : Bool) → AllByRecursion (λ l. AreBlocksApart e.range l.range) (first_changed test (plus_hits count) es) → AreEntriesApart (first_changed test (plus_hits count) es)
       → AreEntriesApart (if b then plus_hits count e ∷ es else e ∷ first_changed test (plus_hits count) es)
   by true all rest = h
   by false all rest = (all, rest)
@@ -187,24 +188,19 @@ hears_ended w switch blade number count behind shows sound head =
     let answer : Entry → Entry = λ e. with_busy (after_answer number blade e.busy) e in
     let test : Entry → Bool = λ e. is_number number e.busy in
     let mid = first_changed test (plus_hits count) (map answer es) in
-    let regions : region_at (map ended mid) ≡ (λ page. answered_by number blade (w.regions page)) = fun_ext (λ p.
+    let regions : region_at (map ended mid) ≡ (λ page. region_answered number blade (w.regions page)) = fun_ext (λ p.
     region_at-first (map ended mid) p ∙ first-map ended moves.ended mid p ended-range ended-region
     ∙ ap (option_map moves.ended) (first-hits test count (map answer es) p ∙ first-map answer (with_answer number blade) es p (λ e. refl) (λ e. refl))
     ∙ twice (first_region es p) ∙ option-answered number blade (first_region es p)
-    ∙ ap (answered_by number blade) (sym (region_at-first es p) ∙ ap (λ g. g p) (sym shows.regions))) in
+    ∙ ap (region_answered number blade) (sym (region_at-first es p) ∙ ap (λ g. g p) (sym shows.regions))) in
     record {
       moves = one_move w (shown (heard blade behind w) (all_ended mid switch)) (HearsAck blade number count behind) head
           (λ j. record w { ups = put blade behind w.ups; wants = sym shows.wants j; regions = regions j; last = sym shows.last j; downs = none_sent w.downs j; tos = none_sent w.tos j });
       quiet = λ n. (refl, refl);
       asks = λ m. tt;
-      sound = record {
-        requests = sound.requests;
-        blades = sound.blades;
-        blocks = apart-map ended mid ended-range (apart-hits test count (map answer es) (apart-map answer es (λ e. refl) sound.blocks));
-        entries = all-map (IsFitEntry 8) ended mid fit-ended (all-hits (IsFitEntry 8) test count (λ e h. record { state = h.state; target = h.target }) (map answer es)
-            (all-map (IsFitEntry 8) answer es (λ e h. record { state = h.state; target = fit-answer number blade e.busy h.target }) sound.entries));
-        region = sound.region;
-      };
+      sound = entries-sound switch (map ended mid) sound (apart-map ended mid ended-range (apart-hits test count (map answer es) (apart-map answer es (λ e. refl) sound.blocks)))
+          (all-map (IsFitEntry 8) ended mid fit-ended (all-hits (IsFitEntry 8) test count (λ e h. record { state = h.state; target = h.target }) (map answer es)
+          (all-map (IsFitEntry 8) answer es (λ e h. record { state = h.state; target = fit-answer number blade e.busy h.target }) sound.entries)));
       places = record { places = shows.places.places; perms = shows.places.perms };
       told = λ plan safe safe_after holds slots.
           let count_of : length (map ended mid) ≡ length es =
@@ -258,13 +254,7 @@ hears_image w switch memory blade page image behind shows sound fetching head = 
             (λ j. record w { froms = put memory behind w.froms; wants = wants j; regions = sym shows.regions j; last = sym shows.last j; downs = downs j; tos = none_sent w.tos j });
         quiet = λ n. (refl, refl);
         asks = λ m. tt;
-        sound = record {
-          requests = apart-filter (λ q. not (is_of r.blade r.page q)) switch.requests sound.requests;
-          blades = all-filter (λ q. q.blade < 8) (λ q. not (is_of r.blade r.page q)) switch.requests sound.blades;
-          blocks = sound.blocks;
-          entries = sound.entries;
-          region = sound.region;
-        };
+        sound = without-sound switch r sound;
         places = record { places = shows.places.places; perms = shows.places.perms };
         told = λ plan safe safe_after holds slots.
             nothing_noted w (record w { froms = put memory behind w.froms }) switch (filling (Some r) image switch) shows.regions refl refl refl plan slots;
@@ -297,9 +287,9 @@ hears w switch To number message behind safe shows sound lt lies first = absurd 
 
 -- What the switch does with the first message on a link to it, and then by serving, is a run of moves to the
 -- world with that message taken and the switch as it is after.
-pub switch_moves : (w : World) (switch : SwitchView) (link : LinkName) (message : Msg) (behind : List Msg) (effect : Effect) → IsCoherent w → Shows w switch → IsSoundSwitch switch → link.number < 8 → LiesWhere w message
+pub switch_moves : (w : World) (switch : SwitchView) (link : LinkName) (message : Msg) (behind : List Msg) (effect : SwitchEffect) → IsCoherent w → Shows w switch → IsSoundSwitch switch → link.number < 8 → LiesWhere w message
     → IsFirstOn link.kind link.number message behind w → Receives link message switch effect
-    → Leads w (shown (taken_from link.kind link.number behind w) effect) × Stands (taken_from link.kind link.number behind w) effect
+    → LeadsByMoves w (shown (taken_from link.kind link.number behind w) effect) × Stands (taken_from link.kind link.number behind w) effect
     × ((plan : RackPlan) → HoldsWithin plan w → HasSlots plan switch → HasSlots plan effect.switch × Tells plan w effect.noted (shown (taken_from link.kind link.number behind w) effect))
 switch_moves w switch link message behind effect safe shows sound lt lies first receives =
     let taken = taken_from link.kind link.number behind w in

@@ -1,91 +1,42 @@
 -- What is seen of the entries of a directory and of requests when one of them changes.
-use Rattle.std.proofs.Common.{◌≡◌, refl, sym, ◌∙◌, ap, subst, ℕ, Bool, true, false, ◌||◌, List, [], ◌∷◌, ◌++◌, map, filter, insert, remove, zero, suc, arith, Option, Some, None}
+use Rattle.std.proofs.Common.{◌≡◌, refl, sym, ◌∙◌, ap, subst, ℕ, Bool, true, false, List, [], ◌∷◌, map, insert, remove, zero, suc, arith, Option, Some, None}
 use Rattle.std.specs.Prelude.{if◌then◌else◌, slice_get, position, option_map, option_and_then}
 use Rattle.std.specs.List.{AllByRecursion}
-use Rattle.std.specs.Set.{is_member}
-use Rattle.std.proofs.lemmas.Bool.{false≢true}
 use Rattle.std.proofs.lemmas.Option.{none-some, same_Some}
 use Rattle.std.proofs.lemmas.Bool.Decides.{nat_tests}
 use Rattle.mind_base.specs.Page.{PageView}
 use Rattle.mind_base.specs.Range.{RangeView, in_range}
-use Rattle.region_directory.specs.Block.{IsApart}
+use Rattle.region_directory.specs.Block.{AreBlocksApart}
 use Rattle.region_directory.specs.Entry.{changed_at}
 use Rattle.region_directory.specs.declared.entries.Entry.{Entry}
 use Rattle.region_directory.proofs.BlockLemmas.{has-from_test}
 use Rattle.switch_core.specs.Treating.{entry_for}
+use Rattle.switch_core.proofs.Lists.{all-at, all-insert, all-remove}
 use Rattle.coherence.specs.World.{Region, put_range}
 use Rattle.rack_core.specs.Seen.{region_of, region_at}
 use Rattle.rack_core.specs.SwitchMoves.{AreEntriesApart}
+use Rattle.rack_core.proofs.Lists.{all-same, all-map}
 
 -- ---- all elements of a list
-
-pub all-got : {X : Type 0} (P : X → Type 0) (xs : List X) (i : ℕ) (x : X) → AllByRecursion P xs → slice_get xs i ≡ Some x → P x
-all-got P [] i x h e = absurd (none-some x e)
-all-got P (y ∷ xs) zero x h e = subst P (same_Some y x e) h.0
-all-got P (y ∷ xs) (suc i) x h e = all-got P xs i x h.1 e
-
-pub all-same : {X : Type 0} (P Q : X → Type 0) → ((x : X) → P x → Q x) → (xs : List X) → AllByRecursion P xs → AllByRecursion Q xs
-all-same P Q w [] h = tt
-all-same P Q w (x ∷ xs) h = (w x h.0, all-same P Q w xs h.1)
 
 pub all-changed : (P : Entry → Type 0) (i : ℕ) (f : Entry → Entry) (es : List Entry) → ((e : Entry) → slice_get es i ≡ Some e → P e → P (f e)) → AllByRecursion P es → AllByRecursion P (changed_at i f es)
 all-changed P i f [] k h = tt
 all-changed P zero f (e ∷ es) k h = (k e refl h.0, h.1)
 all-changed P (suc i) f (e ∷ es) k h = (h.0, all-changed P i f es k h.1)
 
-pub all-insert : {X : Type 0} (P : X → Type 0) (xs : List X) (k : ℕ) (x : X) → AllByRecursion P xs → P x → AllByRecursion P (insert xs k x)
-all-insert P [] zero x h p = (p, tt)
-all-insert P [] (suc k) x h p = (p, tt)
-all-insert P (y ∷ xs) zero x h p = (p, h)
-all-insert P (y ∷ xs) (suc k) x h p = (h.0, all-insert P xs k x h.1 p)
-
-pub all-remove : {X : Type 0} (P : X → Type 0) (xs : List X) (k : ℕ) → AllByRecursion P xs → AllByRecursion P (remove xs k)
-all-remove P [] zero h = tt
-all-remove P [] (suc k) h = tt
-all-remove P (y ∷ xs) zero h = h.1
-all-remove P (y ∷ xs) (suc k) h = (h.0, all-remove P xs k h.1)
-
-pub all-map : {X : Type 0} (P : X → Type 0) (f : X → X) (xs : List X) → ((x : X) → P x → P (f x)) → AllByRecursion P xs → AllByRecursion P (map f xs)
-all-map P f [] k h = tt
-all-map P f (x ∷ xs) k h = (k x h.0, all-map P f xs k h.1)
-
-pub all-filter : {X : Type 0} (P : X → Type 0) (test : X → Bool) (xs : List X) → AllByRecursion P xs → AllByRecursion P (filter test xs)
-all-filter P test [] h = tt
-all-filter P test (x ∷ xs) h = by (test x) (all-filter P test xs h.1) where
-  by : (b : Bool) → AllByRecursion P (filter test xs) → AllByRecursion P (if b then x ∷ filter test xs else filter test xs)
-  by true rest = (h.0, rest)
-  by false rest = rest
-
-pub all-joined : {X : Type 0} (P : X → Type 0) (xs ys : List X) → AllByRecursion P xs → AllByRecursion P ys → AllByRecursion P (xs ++ ys)
-all-joined P [] ys h g = g
-all-joined P (x ∷ xs) ys h g = (h.0, all-joined P xs ys h.1 g)
-
-pub all-last : {X : Type 0} (P : X → Type 0) (xs : List X) (x : X) → AllByRecursion P xs → P x → AllByRecursion P (xs ++ x ∷ [])
-all-last P [] x h p = (p, tt)
-all-last P (y ∷ xs) x h p = (h.0, all-last P xs x h.1 p)
-
--- by a test that only equal keys pass, what is true of all keys is true of each
-pub all-member : {K : Type 0} (same : K → K → Bool) → ((a b : K) → same a b ≡ true → a ≡ b) → (P : K → Type 0) (keys : List K) (key : K)
-    → AllByRecursion P keys → is_member same keys key ≡ true → P key
-all-member same equal P [] key all h = absurd (false≢true h)
-all-member same equal P (k ∷ keys) key all h = by (same key k) refl h (λ g. all-member same equal P keys key all.1 g) where
-  by : (t : Bool) → same key k ≡ t → (t || is_member same keys key) ≡ true → (is_member same keys key ≡ true → P key) → P key
-  by true e g rest = subst P (sym (equal key k e)) all.0
-  by false e g rest = rest g
-
 -- ---- entries stay apart
 
 pub apart-changed : (i : ℕ) (f : Entry → Entry) (es : List Entry) → ((e : Entry) → (f e).range ≡ e.range) → AreEntriesApart es → AreEntriesApart (changed_at i f es)
 apart-changed i f [] k h = tt
-apart-changed zero f (e ∷ es) k h = (all-same (λ l. IsApart e.range l.range) (λ l. IsApart (f e).range l.range) (λ l a. subst (λ r. IsApart r l.range) (sym (k e)) a) es h.0, h.1)
+apart-changed zero f (e ∷ es) k h = (all-same (λ l. AreBlocksApart e.range l.range) (λ l. AreBlocksApart (f e).range l.range) (λ l a. subst (λ r. AreBlocksApart r l.range) (sym (k e)) a) es h.0, h.1)
 apart-changed (suc i) f (e ∷ es) k h =
-    (all-changed (λ l. IsApart e.range l.range) i f es (λ l at a. subst (IsApart e.range) (sym (k l)) a) h.0, apart-changed i f es k h.1)
+    (all-changed (λ l. AreBlocksApart e.range l.range) i f es (λ l at a. subst (AreBlocksApart e.range) (sym (k l)) a) h.0, apart-changed i f es k h.1)
 
 pub apart-map : (f : Entry → Entry) (es : List Entry) → ((e : Entry) → (f e).range ≡ e.range) → AreEntriesApart es → AreEntriesApart (map f es)
 apart-map f [] k h = tt
 apart-map f (e ∷ es) k h = (
-  all-same (λ l. IsApart e.range l.range) (λ l. IsApart (f e).range l.range) (λ l a. subst (λ r. IsApart r l.range) (sym (k e)) a) (map f es)
-      (all-map (λ l. IsApart e.range l.range) f es (λ l a. subst (IsApart e.range) (sym (k l)) a) h.0),
+  all-same (λ l. AreBlocksApart e.range l.range) (λ l. AreBlocksApart (f e).range l.range) (λ l a. subst (λ r. AreBlocksApart r l.range) (sym (k e)) a) (map f es)
+      (all-map (λ l. AreBlocksApart e.range l.range) f es (λ l a. subst (AreBlocksApart e.range) (sym (k l)) a) h.0),
   apart-map f es k h.1,
 )
 
@@ -93,17 +44,17 @@ pub apart-remove : (es : List Entry) (i : ℕ) → AreEntriesApart es → AreEnt
 apart-remove [] zero h = tt
 apart-remove [] (suc i) h = tt
 apart-remove (e ∷ es) zero h = h.1
-apart-remove (e ∷ es) (suc i) h = (all-remove (λ l. IsApart e.range l.range) es i h.0, apart-remove es i h.1)
+apart-remove (e ∷ es) (suc i) h = (all-remove (λ l. AreBlocksApart e.range l.range) es i h.0, apart-remove es i h.1)
 
 -- an entry that meets none of the others
 abbrev pub MeetsNone : RangeView → List Entry → Type 0
-MeetsNone range es = AllByRecursion (λ l. IsApart l.range range) es
+MeetsNone range es = AllByRecursion (λ l. AreBlocksApart l.range range) es
 
 pub apart-insert : (es : List Entry) (k : ℕ) (x : Entry) → MeetsNone x.range es → AreEntriesApart es → AreEntriesApart (insert es k x)
 apart-insert [] zero x free h = (tt, tt)
 apart-insert [] (suc k) x free h = (tt, tt)
-apart-insert (e ∷ es) zero x free h = (all-same (λ l. IsApart l.range x.range) (λ l. IsApart x.range l.range) (λ l a p q r. a p r q) (e ∷ es) free, h)
-apart-insert (e ∷ es) (suc k) x free h = (all-insert (λ l. IsApart e.range l.range) es k x h.0 free.0, apart-insert es k x free.1 h.1)
+apart-insert (e ∷ es) zero x free h = (all-same (λ l. AreBlocksApart l.range x.range) (λ l. AreBlocksApart x.range l.range) (λ l a p q r. a p r q) (e ∷ es) free, h)
+apart-insert (e ∷ es) (suc k) x free h = (all-insert (λ l. AreBlocksApart e.range l.range) es k x h.0 free.0, apart-insert es k x free.1 h.1)
 
 -- ---- the first entry with a page
 
@@ -131,10 +82,10 @@ region_at-first (e ∷ es) page = by (in_range e.range page) refl (region_at-fir
       ∙ step (entry_for page es) ∙ rest
 
 -- blocks that are apart do not both have a page
-pub not_both : (a b : RangeView) (page : PageView) → IsApart a b → in_range a page ≡ true → in_range b page ≡ true → ⊥
+pub not_both : (a b : RangeView) (page : PageView) → AreBlocksApart a b → in_range a page ≡ true → in_range b page ≡ true → ⊥
 not_both a b page h s t = h page (has-from_test a page s) (has-from_test b page t)
 
-pub first-none : (es : List Entry) (range : RangeView) (page : PageView) → AllByRecursion (λ l. IsApart range l.range) es → in_range range page ≡ true → first_region es page ≡ None
+pub first-none : (es : List Entry) (range : RangeView) (page : PageView) → AllByRecursion (λ l. AreBlocksApart range l.range) es → in_range range page ≡ true → first_region es page ≡ None
 first-none [] range page h t = refl
 first-none (e ∷ es) range page h t = by (in_range e.range page) refl (first-none es range page h.1 t) where
   by : (b : Bool) → in_range e.range page ≡ b → first_region es page ≡ None → (if b then Some (region_of e) else first_region es page) ≡ None
@@ -148,7 +99,7 @@ first-got (x ∷ es) zero e page h at t =
     ap (λ b. if b then Some (region_of x) else first_region es page) (subst (λ y. in_range y.range page ≡ true) (sym same) t) ∙ ap (λ y. Some (region_of y)) same
 first-got (x ∷ es) (suc i) e page h at t = by (in_range x.range page) refl (first-got es i e page h.1 at t) where
   by : (b : Bool) → in_range x.range page ≡ b → first_region es page ≡ Some (region_of e) → (if b then Some (region_of x) else first_region es page) ≡ Some (region_of e)
-  by true s rest = absurd (not_both x.range e.range page (all-got (λ l. IsApart x.range l.range) es i e h.0 at) s t)
+  by true s rest = absurd (not_both x.range e.range page (all-at (λ l. AreBlocksApart x.range l.range) es i e h.0 at) s t)
   by false s rest = rest
 
 -- one entry changes, and keeps its block
@@ -167,7 +118,7 @@ first-changed (suc i) f (x ∷ es) e page k h at = by (in_range x.range page) (i
   by : (b c : Bool) → in_range x.range page ≡ b → in_range e.range page ≡ c
       → first_region (changed_at i f es) page ≡ (if c then Some (region_of (f e)) else first_region es page)
       → (if b then Some (region_of x) else first_region (changed_at i f es) page) ≡ (if c then Some (region_of (f e)) else (if b then Some (region_of x) else first_region es page))
-  by true true s t rest = absurd (not_both x.range e.range page (all-got (λ l. IsApart x.range l.range) es i e h.0 at) s t)
+  by true true s t rest = absurd (not_both x.range e.range page (all-at (λ l. AreBlocksApart x.range l.range) es i e h.0 at) s t)
   by true false s t rest = refl
   by false c s t rest = rest
 
@@ -198,7 +149,7 @@ first-remove (x ∷ es) (suc i) e page h at = by (in_range x.range page) (in_ran
   by : (b c : Bool) → in_range x.range page ≡ b → in_range e.range page ≡ c
       → first_region (remove es i) page ≡ (if c then None else first_region es page)
       → (if b then Some (region_of x) else first_region (remove es i) page) ≡ (if c then None else (if b then Some (region_of x) else first_region es page))
-  by true true s t rest = absurd (not_both x.range e.range page (all-got (λ l. IsApart x.range l.range) es i e h.0 at) s t)
+  by true true s t rest = absurd (not_both x.range e.range page (all-at (λ l. AreBlocksApart x.range l.range) es i e h.0 at) s t)
   by true false s t rest = refl
   by false c s t rest = rest
 

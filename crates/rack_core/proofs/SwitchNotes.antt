@@ -1,68 +1,56 @@
 -- What the notes of the switch are to tell, and that its entries are no more than its slots.
 use Rattle.std.proofs.Common.{◌≡◌, refl, sym, ◌∙◌, ap, subst, ℕ, ◌≤◌, Bool, true, false, ◌||◌, List, [], ◌∷◌, length, map, arith, Option, Some, None}
 use Rattle.std.specs.Prelude.{if◌then◌else◌, is_some, option_and_then}
-use Rattle.std.specs.Cmp.{IsEquivalence}
 use Rattle.std.specs.List.{AllByRecursion, IsDistinct}
 use Rattle.std.specs.Set.{is_member}
 use Rattle.std.proofs.lemmas.Bool.{false≢true}
 use Rattle.std.proofs.lemmas.List.{length-map}
 use Rattle.std.proofs.lemmas.Map.Made.{length-le_from_is_member}
 use Rattle.mind_base.specs.Page.{PageView}
-use Rattle.mind_base.specs.Range.{RangeView, in_range}
+use Rattle.mind_base.specs.Range.{RangeView, in_range, same_range}
 use Rattle.mind_base.specs.declared.notes.State.{State}
 use Rattle.mind_base.specs.declared.plans.RackPlan.{RackPlan}
-use Rattle.page_cache.proofs.Laws.{same_Bool}
+use Rattle.mind_base.proofs.SameRange.{same_range-flip, same_range-laws, same_range-true}
 use Rattle.page_cache.specs.PageCache.{same_page}
 use Rattle.region_directory.specs.declared.entries.Entry.{Entry}
-use Rattle.switch_core.specs.Switch.{SwitchView, Effect}
+use Rattle.switch_core.specs.Switch.{SwitchView, SwitchEffect}
 use Rattle.coherence.specs.Facts.{IsCoherent}
-use Rattle.coherence.specs.Held.{same_block}
 use Rattle.coherence.specs.Lawful.{IsWithin, Tells, first_page, frames_of, state_in}
 use Rattle.coherence.specs.World.{Region, World}
-use Rattle.coherence.proofs.Telling.{same_block-refl, same_block-true}
 use Rattle.rack_core.specs.Seen.{region_of, region_at}
 use Rattle.rack_core.specs.SwitchMoves.{shown, HasSlots}
-use Rattle.rack_core.proofs.SwitchLookups.{all-member, first_region, region_at-first}
+use Rattle.rack_core.proofs.SwitchLookups.{first_region, region_at-first}
+use Rattle.rack_core.proofs.Lists.{all-member}
 
 -- ---- the entries in force are no more than the directory's
 
-same_block-flip : (a b : RangeView) → same_block a b ≡ true → same_block b a ≡ true
-same_block-flip a b h = subst (λ x. same_block b x ≡ true) (sym (same_block-true a b h)) (same_block-refl b)
-
-same_block-is_equivalence : IsEquivalence same_block
-same_block-is_equivalence = record {
-  refl = same_block-refl;
-  symm = λ a b. same_Bool (same_block a b) (same_block b a) (same_block-flip a b) (same_block-flip b a);
-  congr = λ a b c h. ap (λ r. same_block r c) (same_block-true a b h);
-}
-
 -- the state that a block has from the entry of a page
 abbrev pub state_of : RangeView → Option Region → Option State
-state_of range region = option_and_then (λ r. if same_block r.range range then Some r.state else None) region
+state_of range region = option_and_then (λ r. if same_range r.range range then Some r.state else None) region
 
 -- a block that is in force is the block of an entry
-has_entry : (es : List Entry) (range : RangeView) → is_some (state_of range (first_region es (first_page range))) ≡ true → is_member same_block (map (λ e. e.range) es) range ≡ true
+has_entry : (es : List Entry) (range : RangeView) → is_some (state_of range (first_region es (first_page range))) ≡ true → is_member same_range (map (λ e. e.range) es) range ≡ true
 has_entry [] range h = absurd (false≢true h)
 has_entry (e ∷ es) range h = by (in_range e.range (first_page range)) h (λ g. has_entry es range g) where
-  found : (t : Bool) → same_block e.range range ≡ t → is_some (if t then Some e.state else None) ≡ true → is_member same_block (e.range ∷ map (λ x. x.range) es) range ≡ true
-  found true same g = ap (λ b. b || is_member same_block (map (λ x. x.range) es) range) (same_block-flip e.range range same)
+  found : (t : Bool) → same_range e.range range ≡ t → is_some (if t then Some e.state else None) ≡ true → is_member same_range (e.range ∷ map (λ x. x.range) es) range ≡ true
+  found true same g = ap (λ b. b || is_member same_range (map (λ x. x.range) es) range) (same_range-flip e.range range same)
   found false same g = absurd (false≢true g)
 
-  later : (b : Bool) → is_member same_block (map (λ x. x.range) es) range ≡ true → (b || is_member same_block (map (λ x. x.range) es) range) ≡ true
+  later : (b : Bool) → is_member same_range (map (λ x. x.range) es) range ≡ true → (b || is_member same_range (map (λ x. x.range) es) range) ≡ true
   later true g = refl
   later false g = g
 
   by : (t : Bool) → is_some (state_of range (if t then Some (region_of e) else first_region es (first_page range))) ≡ true
-      → (is_some (state_of range (first_region es (first_page range))) ≡ true → is_member same_block (map (λ x. x.range) es) range ≡ true)
-      → is_member same_block (e.range ∷ map (λ x. x.range) es) range ≡ true
-  by true g rest = found (same_block e.range range) refl g
-  by false g rest = later (same_block range e.range) (rest g)
+      → (is_some (state_of range (first_region es (first_page range))) ≡ true → is_member same_range (map (λ x. x.range) es) range ≡ true)
+      → is_member same_range (e.range ∷ map (λ x. x.range) es) range ≡ true
+  by true g rest = found (same_range e.range range) refl g
+  by false g rest = later (same_range range e.range) (rest g)
 
-pub in_force-few : (es : List Entry) (ranges : List RangeView) → IsDistinct same_block ranges → AllByRecursion (λ range. is_some (state_in (region_at es) range) ≡ true) ranges → length ranges ≤ length es
+pub in_force-few : (es : List Entry) (ranges : List RangeView) → IsDistinct same_range ranges → AllByRecursion (λ range. is_some (state_in (region_at es) range) ≡ true) ranges → length ranges ≤ length es
 in_force-few es ranges distinct all =
     let blocks : List RangeView = map (λ e. e.range) es in
-    let few : length ranges ≤ length blocks = length-le_from_is_member same_block-is_equivalence ranges blocks distinct (λ range m. has_entry es range
-    (ap (λ o. is_some (state_of range o)) (sym (region_at-first es (first_page range))) ∙ all-member same_block same_block-true (λ r. is_some (state_in (region_at es) r) ≡ true) ranges range all m)) in
+    let few : length ranges ≤ length blocks = length-le_from_is_member same_range-laws ranges blocks distinct (λ range m. has_entry es range
+    (ap (λ o. is_some (state_of range o)) (sym (region_at-first es (first_page range))) ∙ all-member same_range same_range-true (λ r. is_some (state_in (region_at es) r) ≡ true) ranges range all m)) in
     omega (arith, few, length-map es (λ e. e.range))
 
 -- ---- counts
@@ -83,6 +71,6 @@ within_slots plan w switch regions holds slots = record {
 -- ---- what an effect notes
 
 -- the notes of an effect of the switch tell of it, and the entries are then no more than the slots
-abbrev pub IsTold : World → SwitchView → Effect → Type 0
+abbrev pub IsTold : World → SwitchView → SwitchEffect → Type 0
 IsTold v switch effect = (plan : RackPlan) → IsCoherent (shown v effect) → HoldsWithin plan v → HasSlots plan switch
     → HasSlots plan effect.switch × Tells plan v effect.noted (shown v effect)

@@ -3,12 +3,12 @@ use Rattle.std.proofs.Common.{◌≡◌, refl, sym, subst, ℕ, false, zero, suc
 use Rattle.std.specs.Prelude.{slice_get}
 use Rattle.request_list.specs.declared.requests.Request.{Request}
 use Rattle.switch_core.specs.Serving.{treated_if, treated_next, over, one_pass, passes, Serves}
-use Rattle.switch_core.specs.Switch.{SwitchView, Effect, only, and_then}
+use Rattle.switch_core.specs.Switch.{SwitchView, SwitchEffect, only, and_then}
 use Rattle.switch_core.specs.Treating.{Pass}
 use Rattle.coherence.specs.Facts.{IsCoherent}
 use Rattle.coherence.specs.Lawful.{Tells}
 use Rattle.coherence.specs.World.{World}
-use Rattle.rack_core.specs.SwitchMoves.{shown, Shows, IsSoundSwitch, Leads}
+use Rattle.rack_core.specs.SwitchMoves.{shown, Shows, IsSoundSwitch, LeadsByMoves}
 use Rattle.rack_core.proofs.SwitchTreats.{treats}
 use Rattle.rack_core.proofs.SwitchWorlds.{Follows, Stands, Goes, follow, goes_nowhere, goes_on, only-shown, shows-shown}
 
@@ -37,7 +37,7 @@ pass_follows : (v : World) (switch : SwitchView) → IsCoherent v → Shows v sw
 pass_follows v switch safe shows sound =
     let goes = over_goes v (length switch.requests) (record { done = only switch; at = 0; blocked = false }) (stands_first v switch safe shows sound) in
     record {
-      moves = subst (λ u. Leads u (shown v (one_pass switch))) (sym (only-shown v switch shows)) goes.0;
+      moves = subst (λ u. LeadsByMoves u (shown v (one_pass switch))) (sym (only-shown v switch shows)) goes.0;
       quiet = goes.1.quiet;
       asks = goes.1.asks;
       sound = goes.1.sound;
@@ -50,7 +50,7 @@ pass_follows v switch safe shows sound =
           );
     }
 
-pub passes_go : (w : World) (n : ℕ) (done : Effect) → Stands w done → Goes w done (passes n done)
+pub passes_go : (w : World) (n : ℕ) (done : SwitchEffect) → Stands w done → Goes w done (passes n done)
 passes_go w zero done stands = goes_nowhere w done stands
 passes_go w (suc n) done stands =
     goes_on w done (and_then done one_pass) (passes n (and_then done one_pass))
@@ -58,5 +58,5 @@ passes_go w (suc n) done stands =
     (λ there. passes_go w n (and_then done one_pass) there)
 
 -- serving
-pub serving_goes : (w : World) (first last : Effect) → Stands w first → Serves first last → Goes w first last
+pub serving_goes : (w : World) (first last : SwitchEffect) → Stands w first → Serves first last → Goes w first last
 serving_goes w first last stands serves = subst (λ e. Goes w first e) (sym serves.1) (passes_go w serves.0 first stands)

@@ -8,13 +8,13 @@ use Rattle.mind_base.specs.Page.{PageView}
 use Rattle.mind_base.specs.Range.{RangeView, in_range}
 use Rattle.page_cache.specs.PageCache.{same_page}
 use Rattle.page_cache.proofs.Laws.{same_page-true, same_page-refl}
-use Rattle.request_list.specs.Requests.{AreApart, is_of, fetching_at}
+use Rattle.request_list.specs.Requests.{AskOncePerPage, is_of, fetching_at}
 use Rattle.request_list.specs.declared.requests.Request.{Request}
 use Rattle.switch_core.specs.Treating.{is_fetched, without_request}
+use Rattle.switch_core.proofs.Lists.{all-at}
 use Rattle.coherence.specs.Facts.{is_fetching}
 use Rattle.coherence.specs.World.{Wanted, put_both}
 use Rattle.rack_core.specs.Seen.{wanted_at}
-use Rattle.rack_core.proofs.SwitchLookups.{all-got}
 
 abbrev pub wanted_of : Request → Wanted
 wanted_of r = record { write = r.write; fetching = r.fetching }
@@ -41,17 +41,17 @@ found-of blade page (q ∷ rs) r e = by (is_of blade page q) refl (λ k. found-o
   by true t rest f = let same = same_Some q r f in subst (λ x. (blade ≡ x.blade) × (page ≡ x.page)) same (of-true blade page q t)
   by false t rest f = rest f
 
-pub found-got : (rs : List Request) (i : ℕ) (r : Request) → AreApart rs → slice_get rs i ≡ Some r → find (is_of r.blade r.page) rs ≡ Some r
+pub found-got : (rs : List Request) (i : ℕ) (r : Request) → AskOncePerPage rs → slice_get rs i ≡ Some r → find (is_of r.blade r.page) rs ≡ Some r
 found-got [] i r h e = absurd (none-some r e)
 found-got (q ∷ rs) zero r h e =
     let same = same_Some q r e in
     ap (λ b. if b then Some q else find (is_of r.blade r.page) rs) (subst (λ x. is_of x.blade x.page q ≡ true) same (of-own q)) ∙ ap Some same
 found-got (q ∷ rs) (suc i) r h e = by (is_of r.blade r.page q) refl (found-got rs i r h.1 e) where
   by : (b : Bool) → is_of r.blade r.page q ≡ b → find (is_of r.blade r.page) rs ≡ Some r → (if b then Some q else find (is_of r.blade r.page) rs) ≡ Some r
-  by true t rest = absurd (not_two r.blade r.page q r (all-got (λ x. is_of q.blade q.page x ≡ false) rs i r h.0 e) t (of-own r))
+  by true t rest = absurd (not_two r.blade r.page q r (all-at (λ x. is_of q.blade q.page x ≡ false) rs i r h.0 e) t (of-own r))
   by false t rest = rest
 
-pub wanted-got : (rs : List Request) (i : ℕ) (r : Request) → AreApart rs → slice_get rs i ≡ Some r → wanted_at rs r.blade r.page ≡ Some (wanted_of r)
+pub wanted-got : (rs : List Request) (i : ℕ) (r : Request) → AskOncePerPage rs → slice_get rs i ≡ Some r → wanted_at rs r.blade r.page ≡ Some (wanted_of r)
 wanted-got rs i r h e = ap (option_map wanted_of) (found-got rs i r h e)
 
 -- where nothing is wanted there is no request
@@ -86,7 +86,7 @@ fetched_of r = record { write = r.write; fetching = true }
 abbrev fetching_request : Request → Request
 fetching_request q = record { blade = q.blade; page = q.page; write = q.write; fetching = true }
 
-pub wanted-fetching : (rs : List Request) (i : ℕ) (r : Request) (blade : ℕ) (page : PageView) → AreApart rs → slice_get rs i ≡ Some r
+pub wanted-fetching : (rs : List Request) (i : ℕ) (r : Request) (blade : ℕ) (page : PageView) → AskOncePerPage rs → slice_get rs i ≡ Some r
     → wanted_at (fetching_at rs i) blade page ≡ put_both r.blade r.page (Some (fetched_of r)) (wanted_at rs) blade page
 wanted-fetching [] i r blade page h e = absurd (none-some r e)
 wanted-fetching (q ∷ rs) zero r blade page h e =
@@ -99,7 +99,7 @@ wanted-fetching (q ∷ rs) (suc i) r blade page h e = by (is_of blade page q) (i
   by : (b c : Bool) → is_of blade page q ≡ b → is_of blade page r ≡ c
       → option_map wanted_of (find (is_of blade page) (fetching_at rs i)) ≡ (if c then Some (fetched_of r) else option_map wanted_of (find (is_of blade page) rs))
       → option_map wanted_of (if b then Some q else find (is_of blade page) (fetching_at rs i)) ≡ (if c then Some (fetched_of r) else option_map wanted_of (if b then Some q else find (is_of blade page) rs))
-  by true true s t rest = absurd (not_two blade page q r (all-got (λ x. is_of q.blade q.page x ≡ false) rs i r h.0 e) s t)
+  by true true s t rest = absurd (not_two blade page q r (all-at (λ x. is_of q.blade q.page x ≡ false) rs i r h.0 e) s t)
   by true false s t rest = refl
   by false c s t rest = rest
 

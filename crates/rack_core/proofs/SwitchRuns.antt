@@ -11,27 +11,27 @@ use Rattle.coherence.specs.World.{World}
 use Rattle.coherence.proofs.Whole.{run_keeps}
 use Rattle.rack_net.specs.Net.{same_link}
 use Rattle.rack_core.specs.Seen.{sent_on}
-use Rattle.rack_core.specs.SwitchMoves.{Leads}
+use Rattle.rack_core.specs.SwitchMoves.{LeadsByMoves}
 
 -- ---- runs
 
-pub stay : (w : World) → Leads w w
+pub stay : (w : World) → LeadsByMoves w w
 unfolding Run
 stay w = ([], refl)
 
-pub one_move : (w v : World) (move : Move) → May w move → v ≡ moved w move → Leads w v
+pub one_move : (w v : World) (move : Move) → May w move → v ≡ moved w move → LeadsByMoves w v
 unfolding Run
 one_move w v move may is = (move ∷ [], (may, is))
 
-run_on : (a b c : World) (moves : List Move) → Run a moves b → Leads b c → Leads a c
+run_on : (a b c : World) (moves : List Move) → Run a moves b → LeadsByMoves b c → LeadsByMoves a c
 unfolding Run
-run_on a b c [] r more = subst (λ w. Leads w c) r more
+run_on a b c [] r more = subst (λ w. LeadsByMoves w c) r more
 run_on a b c (move ∷ moves) r more = let rest = run_on (moved a move) b c moves r.1 more in (move ∷ rest.0, (r.0, rest.1))
 
-pub leads_on : (a b c : World) → Leads a b → Leads b c → Leads a c
+pub leads_on : (a b c : World) → LeadsByMoves a b → LeadsByMoves b c → LeadsByMoves a c
 leads_on a b c first more = run_on a b c first.0 first.1 more
 
-pub leads_keeps : (a b : World) → IsCoherent a → Leads a b → IsCoherent b
+pub leads_keeps : (a b : World) → IsCoherent a → LeadsByMoves a b → IsCoherent b
 leads_keeps a b safe r = run_keeps a b r.0 safe r.1
 
 -- ---- what is sent

@@ -1,40 +1,20 @@
 -- What a node sends is, on each link, what was pending and then what goes onto that link.
-use Rattle.std.proofs.Common.{◌≡◌, refl, sym, ◌∙◌, ap, subst, ℕ, Bool, true, false, ◌==◌, List, [], ◌∷◌, ◌++◌, append-nil, eqb-true, eq-eqb}
+use Rattle.std.proofs.Common.{◌≡◌, refl, sym, ◌∙◌, ap, subst, ℕ, Bool, true, false, ◌==◌, List, [], ◌∷◌, ◌++◌, append-nil, eq-eqb, append_assoc, ◌⊎◌, inl, inr}
 use Rattle.std.specs.Prelude.{if◌then◌else◌}
-use Rattle.std.proofs.lemmas.Bool.{false≢true, and_parts, and_from}
+use Rattle.std.proofs.lemmas.Bool.{false≢true, and_from}
 use Rattle.mind_base.specs.declared.links.LinkKind.{LinkKind}
-use Rattle.mind_base.specs.declared.links.LinkKind.TheVariants.{Up, Down, To, From}
 use Rattle.mind_base.specs.declared.links.LinkName.{LinkName}
 use Rattle.wire_msg.specs.declared.msgs.Msg.{Msg}
 use Rattle.rack_net.specs.Net.{NetView, links_of, same_link, kind_number}
+use Rattle.rack_net.proofs.Naming.{same-or-not}
 use Rattle.rack_core.specs.Events.{SendsOn, SendsAll}
 use Rattle.rack_core.specs.Seen.{pending_on, sent_on}
-use Rattle.rack_core.proofs.SwitchWorlds.{append-assoc}
-
-same_kind : (a b : LinkKind) → (kind_number a == kind_number b) ≡ true → a ≡ b
-same_kind Up Up e = refl
-same_kind Up Down e = absurd (false≢true e)
-same_kind Up To e = absurd (false≢true e)
-same_kind Up From e = absurd (false≢true e)
-same_kind Down Up e = absurd (false≢true e)
-same_kind Down Down e = refl
-same_kind Down To e = absurd (false≢true e)
-same_kind Down From e = absurd (false≢true e)
-same_kind To Up e = absurd (false≢true e)
-same_kind To Down e = absurd (false≢true e)
-same_kind To To e = refl
-same_kind To From e = absurd (false≢true e)
-same_kind From Up e = absurd (false≢true e)
-same_kind From Down e = absurd (false≢true e)
-same_kind From To e = absurd (false≢true e)
-same_kind From From e = refl
 
 pub same_link-true : (a b : LinkName) → same_link a b ≡ true → a ≡ b
-same_link-true a b e =
-    let parts = and_parts (kind_number a.kind == kind_number b.kind) (a.number == b.number) e in
-    let kind = same_kind a.kind b.kind parts.0 in
-    let number = eqb-true a.number b.number parts.1 in
-    λ i. record { kind = kind i; number = number i }
+same_link-true a b e = by (same-or-not a b) where
+  by : ((same_link a b ≡ true) × (a ≡ b)) ⊎ ((same_link a b ≡ false) × (a ≡ b → ⊥)) → a ≡ b
+  by (inl same) = same.1
+  by (inr other) = absurd (false≢true (sym other.0 ∙ e))
 
 pub same_link-refl : (a : LinkName) → same_link a a ≡ true
 same_link-refl a = and_from (kind_number a.kind == kind_number a.kind) (a.number == a.number) (eq-eqb (kind_number a.kind) (kind_number a.kind) refl) (eq-eqb a.number a.number refl)
@@ -69,5 +49,5 @@ sends_all kind number (m ∷ sent) old new sends =
     let mid = sends.0 in
     sends_all kind number sent mid new sends.2
     ∙ ap (λ s. s ++ sent_on kind number sent) (sends_one name m.0 m.1 old mid sends.1)
-    ∙ sym (append-assoc (pending_on old kind number) (if same_link name m.0 then m.1 ∷ [] else []) (sent_on kind number sent))
+    ∙ append_assoc (pending_on old kind number) (if same_link name m.0 then m.1 ∷ [] else []) (sent_on kind number sent)
     ∙ ap (λ s. pending_on old kind number ++ s) (joined (same_link name m.0) m.1 (sent_on kind number sent))

@@ -11,14 +11,13 @@ use Rattle.std.proofs.lemmas.Nat.Bits.{bit_at_above, bit_at_cat_low, bit_at_cat_
 use Rattle.mind_base.proofs.Blocks.{up_to_nine}
 use Rattle.mind_base.specs.declared.links.LinkKind.TheVariants.{Down, To}
 use Rattle.wire_msg.specs.declared.msgs.Msg.{Msg}
-use Rattle.invalidate_multicast.specs.Blades.{has_blade, cast_to, casts_of}
+use Rattle.invalidate_multicast.specs.Blades.{has_blade, with_blade, cast_to, casts_of}
 use Rattle.invalidate_multicast.specs.declared.casts.Cast.{Cast}
 use Rattle.invalidate_multicast.proofs.BladeLemmas.{has-blade_above}
 use Rattle.mind_base.specs.declared.links.LinkName.{LinkName}
 use Rattle.switch_core.specs.Switch.{to_blade}
-use Rattle.switch_core.specs.Treating.{with_blade}
 use Rattle.rack_core.specs.Seen.{sent_on}
-use Rattle.rack_core.specs.SwitchMoves.{IsQuiet}
+use Rattle.rack_core.specs.SwitchMoves.{SendsNoneUp}
 
 -- the number's higher and lower bits, where it lacks one
 record Lacks (w b : ℕ) : Type 0 where
@@ -181,6 +180,6 @@ pub calls-to : (casts : List Cast) (m : Msg) (memory : ℕ) → sent_on To memor
 calls-to [] m memory = refl
 calls-to (cast ∷ casts) m memory = calls-to casts m memory
 
-pub calls-quiet : (casts : List Cast) (m : Msg) → IsQuiet (map (λ cast. to_blade cast.blade m) casts)
+pub calls-quiet : (casts : List Cast) (m : Msg) → SendsNoneUp (map (λ cast. to_blade cast.blade m) casts)
 calls-quiet [] m n = (refl, refl)
 calls-quiet (cast ∷ casts) m n = calls-quiet casts m n

@@ -5,15 +5,15 @@ use Rattle.std.specs.List.{AllByRecursion}
 use Rattle.std.proofs.Math.Nat.{pow-le-pow_right}
 use Rattle.mind_base.specs.declared.notes.State.{State}
 use Rattle.mind_base.specs.declared.notes.State.TheVariants.{I, S, M}
-use Rattle.region_directory.specs.Block.{IsApart}
+use Rattle.region_directory.specs.Block.{AreBlocksApart}
 use Rattle.region_directory.specs.Directory.{IsDirectory}
 use Rattle.region_directory.specs.declared.entries.Busy.{Busy}
 use Rattle.region_directory.specs.declared.entries.Entry.{Entry}
-use Rattle.request_list.specs.Requests.{AreApart}
+use Rattle.request_list.specs.Requests.{AskOncePerPage}
 use Rattle.switch_core.specs.Invariant.{IsFitState, IsFitTarget, IsFitEntry, IsFitRequest, IsSwitch}
 use Rattle.switch_core.specs.Switch.{SwitchView}
 use Rattle.rack_core.specs.SwitchMoves.{IsSoundSwitch, AreEntriesApart}
-use Rattle.rack_core.proofs.SwitchLookups.{all-same}
+use Rattle.rack_core.proofs.Lists.{all-same}
 
 -- ---- soundness
 
@@ -21,10 +21,10 @@ all-from : {X : Type 0} (P : X → Type 0) (xs : List X) → All P xs → AllByR
 all-from P [] h = tt
 all-from P (x ∷ xs) h = (h 0 x (omega arith), all-from P xs (λ k d lt. h (suc k) d (omega arith)))
 
-apart-from : (es : List Entry) → ((i j : ℕ) (d : Entry) → i < j → j < length es → IsApart (get_or es i d).range (get_or es j d).range) → AreEntriesApart es
+apart-from : (es : List Entry) → ((i j : ℕ) (d : Entry) → i < j → j < length es → AreBlocksApart (get_or es i d).range (get_or es j d).range) → AreEntriesApart es
 apart-from [] h = tt
 apart-from (e ∷ es) h = (
-  all-from (λ l. IsApart e.range l.range) es (λ k d lt. h 0 (suc k) d (omega arith) (omega arith)),
+  all-from (λ l. AreBlocksApart e.range l.range) es (λ k d lt. h 0 (suc k) d (omega arith) (omega arith)),
   apart-from es (λ i j d lt lu. h (suc i) (suc j) d (omega arith) (omega arith)),
 )
 
@@ -40,7 +40,7 @@ target-more : (n : ℕ) → n ≤ 8 → (busy : Option Busy) → IsFitTarget n b
 target-more n le None h = tt
 target-more n le (Some busy) h = fit-more n le busy.target h
 
-pub sound_from : (switch : SwitchView) → IsDirectory switch.directory → AreApart switch.requests → IsSwitch switch → IsSoundSwitch switch
+pub sound_from : (switch : SwitchView) → IsDirectory switch.directory → AskOncePerPage switch.requests → IsSwitch switch → IsSoundSwitch switch
 sound_from switch directory apart h =
     let n = length switch.plan.frames in
     let few : n ≤ 8 = h.plan.blades.1 in

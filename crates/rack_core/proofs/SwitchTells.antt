@@ -1,6 +1,5 @@
 -- The notes of what is handed to the switch tell of it, and nothing is noted where the network or a memory blade changes.
 use Rattle.std.proofs.Common.{◌≡◌, refl, sym, ◌∙◌, ap, subst, ℕ, ◌<◌, List, [], ◌∷◌, ◌++◌, slice_get}
-use Rattle.std.specs.List.{AllByRecursion}
 use Rattle.mind_base.specs.Page.{PageView}
 use Rattle.mind_base.specs.declared.images.Image.{Image}
 use Rattle.mind_base.specs.declared.links.LinkKind.{LinkKind}
@@ -19,7 +18,7 @@ use Rattle.coherence.proofs.Telling.{IsAlike, alike-back, tells-between, tells_n
 use Rattle.coherence.proofs.TellingNotes.{alike-same}
 use Rattle.rack_core.specs.BladeMoves.{AreBladesSound}
 use Rattle.rack_core.specs.Events.{HandsTo, HandsAll, Delivers}
-use Rattle.rack_core.specs.Handing.{AsksOn, AskOn}
+use Rattle.rack_core.specs.Handing.{AskOn}
 use Rattle.rack_core.specs.Rack.{RackView, with_net}
 use Rattle.rack_core.specs.Safe.{IsSound}
 use Rattle.rack_core.specs.Seen.{pending_on, frame_at, region_at, seen}
@@ -27,7 +26,7 @@ use Rattle.rack_core.specs.SwitchMoves.{HasSlots, with_front}
 use Rattle.rack_core.specs.Telling.{HasRoom, NotesTell}
 use Rattle.rack_core.proofs.BladeTells.{holds_few}
 use Rattle.rack_core.proofs.Delivering.{gave_on, asks_taken, with_net-sound}
-use Rattle.rack_core.proofs.Handing.{handed_over, lies_up}
+use Rattle.rack_core.proofs.Handing.{lies_up, each-handed}
 use Rattle.rack_core.proofs.SwitchHanded.{switch_handed_up, switch_handed_from}
 use Rattle.rack_core.proofs.SwitchNotes.{HoldsWithin}
 
@@ -101,14 +100,13 @@ HandTells images plan kind number = (message : Msg) (rest : List Msg) (old new :
 pub all_told : (images : List Image) (plan : RackPlan) (kind : LinkKind) (number : ℕ) → HandTells images plan kind number
     → (messages : List Msg) (old new : RackView) (flat : PageView → PageImageView) (noted : List Note) → IsCoherent (with_front kind number messages (seen old flat)) → IsSound old → number < 8
     → AskOn kind (place_in old.switch) number messages → HasRoom plan old → HandsAll images (record { kind = kind; number = number }) messages old new noted → NotesTell plan old new noted
-all_told images plan kind number one [] old new flat noted safe sound lt asks room hands =
-    nothing_told plan old new noted (ap (λ (r : RackView). r.blades) hands.0) (ap (λ (r : RackView). r.switch) hands.0) hands.1 room
-all_told images plan kind number one (message ∷ rest) old new flat noted safe sound lt asks room hands =
-    let first = handed_over images kind number message rest old hands.0 flat hands.1 safe sound lt asks.0 hands.3 in
-    let asks_later = subst (λ f. AllByRecursion (AsksOn kind f number) rest) (sym first.places) asks.1 in
-    let told = one message rest old hands.0 flat hands.1 safe sound room hands.3 in
-    subst (NotesTell plan old new) (sym hands.5) (told-then plan old hands.0 new hands.1 hands.2 told
-    (all_told images plan kind number one rest hands.0 new first.flat hands.2 first.coherent first.sound lt asks_later told.room hands.4))
+all_told images plan kind number one messages old new flat noted safe sound lt asks room hands =
+    each-handed images kind number (λ messages old new noted. HasRoom plan old → NotesTell plan old new noted)
+    (λ old new noted same none room. nothing_told plan old new noted (ap (λ (r : RackView). r.blades) same) (ap (λ (r : RackView). r.switch) same) none room)
+    (λ message rest old mid new flat first later safe sound hands rest_told room.
+    let told = one message rest old mid flat first safe sound room hands in
+    told-then plan old mid new first later told (rest_told told.room))
+    messages old new flat noted safe sound lt asks hands room
 
 pub deliver_tells : (images : List Image) (plan : RackPlan) (name : LinkName) (side : Side) (k : ℕ) → HandTells images plan name.kind name.number
     → (old new : RackView) (flat : PageView → PageImageView) (noted : List Note) → name.number < 8 → IsCoherent (seen old flat) → IsSound old → HasRoom plan old → Delivers images name side k old new noted

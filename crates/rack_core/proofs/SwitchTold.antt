@@ -6,22 +6,22 @@ use Rattle.std.proofs.lemmas.List.Edits.{length-insert, length-remove}
 use Rattle.std.proofs.lemmas.List.Sums.{count_by-le-length}
 use Rattle.std.proofs.lemmas.Option.{slice_get_within}
 use Rattle.mind_base.specs.Page.{PageView}
-use Rattle.mind_base.specs.Range.{RangeView, in_range}
+use Rattle.mind_base.specs.Range.{RangeView, in_range, same_range}
 use Rattle.mind_base.specs.declared.notes.Note.TheVariants as note
 use Rattle.mind_base.specs.declared.notes.State.{State}
 use Rattle.mind_base.specs.declared.notes.State.TheVariants.{I, S, M}
 use Rattle.mind_base.specs.declared.plans.RackPlan.{RackPlan}
+use Rattle.mind_base.proofs.SameRange.{same_range-true}
 use Rattle.region_directory.specs.Block.{is_before}
-use Rattle.region_directory.specs.Entry.{changed_at, fresh_entry, place_of}
+use Rattle.region_directory.specs.Entry.{changed_at, fresh_entry, entry_place}
 use Rattle.region_directory.specs.declared.entries.Entry.{Entry}
 use Rattle.region_directory.proofs.ChangeLemmas.{length-changed}
-use Rattle.switch_core.specs.Switch.{SwitchView, Effect}
+use Rattle.switch_core.specs.Switch.{SwitchView, SwitchEffect}
 use Rattle.switch_core.specs.Treating.{dropped, entered, noted_change, same_state}
-use Rattle.coherence.specs.Held.{same_block}
 use Rattle.coherence.specs.Lawful.{Tells, first_page, state_in}
 use Rattle.coherence.specs.World.{World, put_range}
 use Rattle.coherence.proofs.Changes.{by-test}
-use Rattle.coherence.proofs.Telling.{first_page-in, same_block-true, state-found, tells_nothing}
+use Rattle.coherence.proofs.Telling.{first_page-in, state-found, tells_nothing}
 use Rattle.coherence.proofs.TellingNotes.{AreOfBlock, alike-same, entries-put, gone_told, region_told}
 use Rattle.rack_core.specs.Seen.{region_of, region_at}
 use Rattle.rack_core.specs.SwitchMoves.{shown, HasSlots, AreEntriesApart}
@@ -31,7 +31,7 @@ use Rattle.rack_core.proofs.SwitchWorlds.{regions-changed, regions-got}
 -- ---- nothing is noted
 
 -- the directory and the frames stay, and nothing is noted
-pub nothing_noted : (w taken : World) (switch : SwitchView) (effect : Effect) → w.regions ≡ region_at switch.directory.entries → taken.frames ≡ w.frames → effect.switch.directory ≡ switch.directory → effect.noted ≡ []
+pub nothing_noted : (w taken : World) (switch : SwitchView) (effect : SwitchEffect) → w.regions ≡ region_at switch.directory.entries → taken.frames ≡ w.frames → effect.switch.directory ≡ switch.directory → effect.noted ≡ []
     → (plan : RackPlan) → HasSlots plan switch → HasSlots plan effect.switch × Tells plan w effect.noted (shown taken effect)
 nothing_noted w taken switch effect regions frames same none plan slots = (
   record { slots = ap (λ d. d.slots) same ∙ slots.slots; room = subst (λ d. length d.entries ≤ plan.slots) (sym same) slots.room },
@@ -53,8 +53,8 @@ module _ (v : World) (switch : SwitchView) (i : ℕ) (f : Entry → Entry) (e : 
   state-kept same range =
       ap (λ r. state_in r range) (regions-changed v.regions switch.directory.entries i f e regions keeps apart at)
       ∙ entries-put v.regions e.range (Some (region_of (f e))) (keeps e) of_block range
-      ∙ by-test (λ t. same_block e.range range ≡ t → (if t then Some (f e).state else state_in v.regions range) ≡ state_in v.regions range) (same_block e.range range)
-      (λ _ t. ap Some same ∙ sym in_force ∙ ap (state_in v.regions) (same_block-true e.range range t)) (λ _ _. refl) refl
+      ∙ by-test (λ t. same_range e.range range ≡ t → (if t then Some (f e).state else state_in v.regions range) ≡ state_in v.regions range) (same_range e.range range)
+      (λ _ t. ap Some same ∙ sym in_force ∙ ap (state_in v.regions) (same_range-true e.range range t)) (λ _ _. refl) refl
 
   slots-changed : (plan : RackPlan) (next : SwitchView) → next.directory.entries ≡ changed_at i f switch.directory.entries → next.directory.slots ≡ switch.directory.slots → HasSlots plan switch → HasSlots plan next
   slots-changed plan next entries same slots = record {
@@ -62,7 +62,7 @@ module _ (v : World) (switch : SwitchView) (i : ℕ) (f : Entry → Entry) (e : 
     room = subst (λ n. n ≤ plan.slots) (sym (ap length entries ∙ length-changed i f switch.directory.entries)) slots.room;
   }
 
-  pub kept-told : (effect : Effect) → effect.switch.directory.entries ≡ changed_at i f switch.directory.entries → effect.switch.directory.slots ≡ switch.directory.slots → effect.noted ≡ [] → (f e).state ≡ e.state
+  pub kept-told : (effect : SwitchEffect) → effect.switch.directory.entries ≡ changed_at i f switch.directory.entries → effect.switch.directory.slots ≡ switch.directory.slots → effect.noted ≡ [] → (f e).state ≡ e.state
       → IsTold v switch effect
   kept-told effect entries same none state plan safe holds slots = (
     slots-changed plan effect.switch entries same slots,
@@ -70,7 +70,7 @@ module _ (v : World) (switch : SwitchView) (i : ℕ) (f : Entry → Entry) (e : 
         (record { held = λ blade page. refl; states = λ range. ap (λ es. state_in (region_at es) range) entries ∙ state-kept state range })),
   )
 
-  pub changed-told : (effect : Effect) → effect.switch.directory.entries ≡ changed_at i f switch.directory.entries → effect.switch.directory.slots ≡ switch.directory.slots
+  pub changed-told : (effect : SwitchEffect) → effect.switch.directory.entries ≡ changed_at i f switch.directory.entries → effect.switch.directory.slots ≡ switch.directory.slots
       → effect.noted ≡ noted_change e.range e.state (f e).state → IsTold v switch effect
   changed-told effect entries same noted plan safe holds slots =
       let next = slots-changed plan effect.switch entries same slots in
@@ -102,11 +102,11 @@ module _ (v : World) (switch : SwitchView) (i : ℕ) (f : Entry → Entry) (e : 
 
 pub entered-told : (v : World) (switch : SwitchView) (range : RangeView) → (length switch.directory.entries == switch.directory.slots) ≡ false
     → ((page : PageView) → in_range range page ≡ true → v.regions page ≡ None)
-    → region_at (insert switch.directory.entries (place_of switch.directory.entries range) (fresh_entry range)) ≡ put_range range (Some (region_of (fresh_entry range))) v.regions
+    → region_at (insert switch.directory.entries (entry_place switch.directory.entries range) (fresh_entry range)) ≡ put_range range (Some (region_of (fresh_entry range))) v.regions
     → IsTold v switch (entered range switch)
 entered-told v switch range short none after plan safe holds slots =
     let es = switch.directory.entries in
-    let more = length-insert es (place_of es range) (fresh_entry range) (count_by-le-length (λ e. is_before e.range range) es) in
+    let more = length-insert es (entry_place es range) (fresh_entry range) (count_by-le-length (λ e. is_before e.range range) es) in
     let next : HasSlots plan (entered range switch).switch = record { slots = slots.slots; room = omega (arith, more, below (length es) switch.directory.slots plan.slots short slots.slots slots.room) } in (
       next,
       region_told plan v (shown v (entered range switch)) range I (region_of (fresh_entry range)) safe (within_slots plan (shown v (entered range switch)) (entered range switch).switch refl holds next) refl after refl refl

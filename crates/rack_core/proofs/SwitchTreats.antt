@@ -2,7 +2,7 @@
 use Rattle.std.proofs.Common.{◌≡◌, refl, sym, ◌∙◌, ap, subst, ℕ, ◌<◌, Bool, true, false, not, ◌==◌, List, length, remove, arith, Option, Some, None}
 use Rattle.std.specs.Prelude.{if◌then◌else◌, slice_get, position, is_none, option_map, unwrap_or}
 use Rattle.std.specs.List.{list_any}
-use Rattle.std.proofs.lemmas.Bool.{false≢true, and_parts}
+use Rattle.std.proofs.lemmas.Bool.{false≢true, and_parts, not-true}
 use Rattle.std.proofs.lemmas.Bool.Decides.{nat_tests}
 use Rattle.std.proofs.lemmas.List.Edits.{length-remove}
 use Rattle.std.proofs.lemmas.Option.{same_Some, get_or_from_slice_get, slice_get_within}
@@ -10,20 +10,20 @@ use Rattle.std.proofs.lemmas.List.Quantifiers.{position-Some}
 use Rattle.mind_base.specs.declared.notes.State.{State}
 use Rattle.mind_base.specs.declared.notes.State.TheVariants.{I, S, M}
 use Rattle.mind_base.specs.Range.{in_range}
-use Rattle.region_directory.specs.Entry.{place_of, fresh_entry}
+use Rattle.region_directory.specs.Entry.{entry_place, fresh_entry}
 use Rattle.region_directory.specs.Room.{is_unheld, is_droppable, is_for_room, is_evictable, first_rule}
 use Rattle.region_directory.specs.declared.entries.Busy.{Busy}
 use Rattle.region_directory.specs.declared.entries.Entry.{Entry}
 use Rattle.request_list.specs.Requests.{fetched_pages}
 use Rattle.request_list.specs.declared.requests.Request.{Request}
 use Rattle.switch_core.specs.Switch.{SwitchView}
-use Rattle.switch_core.specs.Treating.{Pass, waits, blocks, does, grants, is_denied, denied, granted, changed_for, invalidated, lowered, cleared, is_fetched, with_idle, with_entry, at_entry, entered, new_range, enters, dropped, with_room, without_entry, entry_for, for_entry, treated}
+use Rattle.switch_core.specs.Treating.{Pass, waits, blocks, does, grants, is_denied, denied_request, granted, changed_for, invalidated, lowered, cleared, is_fetched, with_idle, with_entry, at_entry, entered, new_range, enters, dropped, with_room, without_entry, entry_for, for_entry, treated}
+use Rattle.switch_core.proofs.Lists.{all-at, all-remove}
 use Rattle.coherence.specs.World.{World}
 use Rattle.rack_core.specs.SwitchMoves.{shown, Shows, IsSoundSwitch}
 use Rattle.rack_core.proofs.SwitchBegins.{clears, invalidates, lowers}
 use Rattle.rack_core.proofs.SwitchEnters.{NoneHas, none-has, new_has, new_stands, enters_it, drops_it}
 use Rattle.rack_core.proofs.SwitchGrants.{grants_it}
-use Rattle.rack_core.proofs.SwitchLookups.{all-got, all-remove}
 use Rattle.rack_core.proofs.SwitchRefuses.{refuses}
 use Rattle.rack_core.proofs.SwitchWorlds.{Follows, Stands, Goes, follow, goes_nowhere, goes_on, shows-shown}
 
@@ -39,10 +39,6 @@ unheld-so : (state : State) → is_unheld state ≡ true → state ≡ I
 unheld-so I e = refl
 unheld-so (S sharers) e = absurd (false≢true e)
 unheld-so (M owner) e = absurd (false≢true e)
-
-not-so : (b : Bool) → not b ≡ true → b ≡ false
-not-so true e = sym e
-not-so false e = refl
 
 -- ---- a transition for a request
 
@@ -87,7 +83,7 @@ treats_idle w r i entry pass stands is at within free = by (grants r.write r.bla
       (grants_it (shown w pass.done) pass.done.switch pass.at r i entry stands.safe shows stands.sound is.stands is.idle is.allowed at within free e)
   by false e true f = goes_nowhere w pass.done stands
   by false e false f = follow w pass.done (changed_for r entry.state i entry) stands
-      (changes (shown w pass.done) pass.done.switch r i entry shows stands.sound (all-got (λ q. q.blade < 8) pass.done.switch.requests pass.at r stands.sound.blades is.stands) at free f e)
+      (changes (shown w pass.done) pass.done.switch r i entry shows stands.sound (all-at (λ q. q.blade < 8) pass.done.switch.requests pass.at r stands.sound.blades is.stands) at free f e)
 
 treats_at : (w : World) (r : Request) (i : ℕ) (pass : Pass) → Stands w pass.done → IsTreated r pass.at pass.done.switch
     → ((entry : Entry) → slice_get pass.done.switch.directory.entries i ≡ Some entry → in_range entry.range r.page ≡ true)
@@ -111,7 +107,7 @@ treats_new w r pass stands is none short =
     let mid = does (entered range) pass in
     goes_on w pass.done mid.done (enters r pass).done
     (follow w pass.done (entered range) stands (enters_it (shown w pass.done) pass.done.switch r.page (shows-shown w pass.done stands.places) stands.sound none short))
-    (λ there. treats_at w r (place_of pass.done.switch.directory.entries range) mid there (record { stands = is.stands; idle = is.idle; allowed = is.allowed })
+    (λ there. treats_at w r (entry_place pass.done.switch.directory.entries range) mid there (record { stands = is.stands; idle = is.idle; allowed = is.allowed })
     (λ entry at. subst (λ e. in_range e.range r.page ≡ true) (same_Some (fresh_entry range) entry (sym (new_stands pass.done.switch range) ∙ at)) (new_has pass.done.switch r.page stands.sound)))
 
 -- where one of as many entries as slots is dropped, there is room
@@ -147,7 +143,7 @@ treats_room w r pass stands is none full None drop false (Some i) evicted = by (
       let fetching = fetched_pages pass.done.switch.requests in
       let parts = and_parts (is_none entry.busy) (not (list_any (in_range entry.range) fetching)) (found-passes (is_evictable fetching) pass.done.switch.directory.entries i entry evicted at) in
       follow w pass.done (cleared i entry) stands
-      (clears (shown w pass.done) pass.done.switch i entry (shows-shown w pass.done stands.places) stands.sound at (none-so entry.busy parts.0) (not-so (is_fetched entry.range pass.done.switch.requests) parts.1))
+      (clears (shown w pass.done) pass.done.switch i entry (shows-shown w pass.done stands.places) stands.sound at (none-so entry.busy parts.0) (not-true (is_fetched entry.range pass.done.switch.requests) parts.1))
 
 treats_without : (w : World) (r : Request) (pass : Pass) → Stands w pass.done → IsTreated r pass.at pass.done.switch → NoneHas r.page pass.done.switch.directory.entries
     → Goes w pass.done (without_entry r pass).done
@@ -175,7 +171,7 @@ treats w r pass stands at = by r.fetching refl (is_denied pass.done.switch r) re
   by_entry is (Some i) e = treats_at w r i pass stands is (λ entry there. found-passes (λ x. in_range x.range r.page) pass.done.switch.directory.entries i entry e there)
 
   by : (b : Bool) → r.fetching ≡ b → (c : Bool) → is_denied pass.done.switch r ≡ c
-      → Goes w pass.done (if b then waits pass else (if c then does (denied r) pass else for_entry r (entry_for r.page pass.done.switch.directory.entries) pass)).done
+      → Goes w pass.done (if b then waits pass else (if c then does (denied_request r) pass else for_entry r (entry_for r.page pass.done.switch.directory.entries) pass)).done
   by true e c f = goes_nowhere w pass.done stands
-  by false e true f = follow w pass.done (denied r) stands (refuses (shown w pass.done) pass.done.switch pass.at r (shows-shown w pass.done stands.places) stands.sound at e f)
+  by false e true f = follow w pass.done (denied_request r) stands (refuses (shown w pass.done) pass.done.switch pass.at r (shows-shown w pass.done stands.places) stands.sound at e f)
   by false e false f = by_entry (record { stands = at; idle = e; allowed = f }) (entry_for r.page pass.done.switch.directory.entries) refl

@@ -1,47 +1,46 @@
 -- The switch in the rack as coherence sees it, one effect after another.
-use Rattle.std.proofs.Common.{◌≡◌, refl, sym, ◌∙◌, ap, subst, ℕ, Bool, true, false, ◌==◌, List, [], ◌∷◌, ◌++◌, append-nil, Option, Some, None, eqb-true}
+use Rattle.std.proofs.Common.{◌≡◌, refl, sym, ◌∙◌, ap, subst, ℕ, Bool, true, false, ◌==◌, List, [], ◌∷◌, ◌++◌, append-nil, Option, Some, None, eqb-true, append_assoc, not, ◌<◌, ◌≢◌}
 use Rattle.std.specs.Prelude.{if◌then◌else◌, slice_get}
 use Rattle.std.specs.List.{AllByRecursion}
 use Rattle.std.proofs.Math.Path.{fun_ext}
+use Rattle.std.proofs.lemmas.Bool.{false≢true}
 use Rattle.mind_base.specs.Page.{PageView}
 use Rattle.mind_base.specs.declared.commands.Perm.{Perm}
-use Rattle.mind_base.specs.declared.commands.Perm.TheVariants.{No, R, Rw}
+use Rattle.mind_base.specs.declared.commands.Perm.TheVariants.{No}
 use Rattle.mind_base.specs.declared.links.LinkKind.{LinkKind}
 use Rattle.mind_base.specs.declared.links.LinkKind.TheVariants.{Up, Down, To, From}
 use Rattle.mind_base.specs.Range.{in_range}
 use Rattle.mind_base.specs.declared.notes.Note.{Note}
 use Rattle.mind_base.specs.declared.plans.RackPlan.{RackPlan}
+use Rattle.mind_base.specs.Permission.{allows}
 use Rattle.region_directory.specs.Entry.{changed_at}
 use Rattle.region_directory.specs.declared.entries.Entry.{Entry}
-use Rattle.request_list.specs.Requests.{AreApart, fetching_at}
+use Rattle.request_list.specs.Requests.{AskOncePerPage, fetching_at, is_of}
 use Rattle.request_list.specs.declared.requests.Request.{Request}
+use Rattle.request_list.proofs.RequestFacts.{apart-filter}
 use Rattle.wire_msg.specs.declared.msgs.Msg.{Msg}
-use Rattle.switch_core.specs.Switch.{SwitchView, Effect, and_then, only, to_memory}
-use Rattle.switch_core.specs.Treating as treating
+use Rattle.switch_core.specs.Switch.{SwitchView, SwitchEffect, and_then, only, to_memory, with_entries, with_requests}
 use Rattle.switch_core.specs.Treating.{without_request}
-use Rattle.coherence.specs.Facts as facts
-use Rattle.coherence.specs.Facts.{IsCoherent, ArePlaced}
+use Rattle.switch_core.proofs.Lists.{all-append, all-filter}
+use Rattle.switch_core.specs.Invariant.{IsFitEntry}
+use Rattle.coherence.specs.Facts.{IsCoherent}
 use Rattle.coherence.specs.Lawful.{Tells}
 use Rattle.coherence.specs.World.{Region, Wanted, World, put, put_both, put_range}
 use Rattle.coherence.proofs.Telling.{tells_nothing, tells_then}
 use Rattle.coherence.proofs.TellingNotes.{alike-same}
 use Rattle.rack_core.specs.Seen.{sent_on, region_of, region_at, wanted_at}
-use Rattle.rack_core.specs.SwitchMoves.{shown, Shows, HasPlaces, IsSoundSwitch, IsQuiet, AsksAt, AskPlaces, Leads, AreEntriesApart, HasSlots}
+use Rattle.rack_core.specs.SwitchMoves.{shown, Shows, HasPlaces, IsSoundSwitch, SendsNoneUp, AsksAt, AskPlaces, LeadsByMoves, AreEntriesApart, HasSlots}
 use Rattle.rack_core.proofs.SwitchNotes.{HoldsWithin, IsTold}
-use Rattle.rack_core.proofs.SwitchLookups.{all-joined, region_at-first, first-changed, first-got}
+use Rattle.rack_core.proofs.SwitchLookups.{region_at-first, first-changed, first-got}
 use Rattle.rack_core.proofs.SwitchRequests.{wanted-got, wanted-without, wanted-fetching}
 use Rattle.rack_core.proofs.SwitchRuns.{sent_on-append, leads_keeps, leads_on, stay}
 
-pub append-assoc : {X : Type 0} (a b c : List X) → a ++ (b ++ c) ≡ (a ++ b) ++ c
-append-assoc [] b c = refl
-append-assoc (x ∷ a) b c = ap (λ r. x ∷ r) (append-assoc a b c)
-
 -- an effect after another, seen from the world that the first one leads to
-pub shown-then : (w : World) (done : Effect) (change : SwitchView → Effect) → shown w (and_then done change) ≡ shown (shown w done) (change done.switch)
+pub shown-then : (w : World) (done : SwitchEffect) (change : SwitchView → SwitchEffect) → shown w (and_then done change) ≡ shown (shown w done) (change done.switch)
 shown-then w done change =
     let next = change done.switch in
     let on : (kind : LinkKind) (f : ℕ → List Msg) → (λ n. f n ++ sent_on kind n (done.sent ++ next.sent)) ≡ (λ n. (f n ++ sent_on kind n done.sent) ++ sent_on kind n next.sent) =
-    λ kind f. fun_ext (λ n. ap (λ s. f n ++ s) (sent_on-append kind n done.sent next.sent) ∙ append-assoc (f n) (sent_on kind n done.sent) (sent_on kind n next.sent)) in
+    λ kind f. fun_ext (λ n. ap (λ s. f n ++ s) (sent_on-append kind n done.sent next.sent) ∙ sym (append_assoc (f n) (sent_on kind n done.sent) (sent_on kind n next.sent))) in
     λ i. record w {
       wants = wanted_at next.switch.requests;
       regions = region_at next.switch.directory.entries;
@@ -50,7 +49,7 @@ shown-then w done change =
       tos = on To w.tos i;
     }
 
-pub shows-shown : (w : World) (done : Effect) → HasPlaces w done.switch → Shows (shown w done) done.switch
+pub shows-shown : (w : World) (done : SwitchEffect) → HasPlaces w done.switch → Shows (shown w done) done.switch
 shows-shown w done places = record { wants = refl; regions = refl; last = refl; places = record { places = places.places; perms = places.perms } }
 
 -- ---- what is sent, on each link
@@ -76,19 +75,24 @@ only-shown v switch shows = λ i. record v {
 
 -- ---- permissions
 
-pub allows-same : (write : Bool) (perm : Perm) → facts.allows write perm ≡ treating.allows write perm
-allows-same write No = refl
-allows-same write R = refl
-allows-same write Rw = refl
+pub not_no : (write : Bool) (perm : Perm) → allows write perm ≡ true → perm ≢ No
+not_no write perm h e = absurd (false≢true (sym (ap (allows write) e) ∙ h))
 
-pub not_no : (write : Bool) (perm : Perm) → facts.allows write perm ≡ true → perm ≡ No → ⊥
-not_no write perm h e = absurd (true_false (subst (λ p. facts.allows write p ≡ true) e h)) where
-  true_false : false ≡ true → ⊥
-  true_false f = elim (subst is_false f tt) [ ]
-    where
-      is_false : Bool → Type 0
-      is_false false = Unit {0}
-      is_false true = ⊥
+-- ---- a sound switch
+
+-- with other entries, which share no page and name the blades of the rack
+pub entries-sound : (switch : SwitchView) (es : List Entry) → IsSoundSwitch switch → AreEntriesApart es → AllByRecursion (IsFitEntry 8) es → IsSoundSwitch (with_entries switch es)
+entries-sound switch es sound apart fit = record { requests = sound.requests; blades = sound.blades; blocks = apart; entries = fit; region = sound.region }
+
+-- without a request
+pub without-sound : (switch : SwitchView) (r : Request) → IsSoundSwitch switch → IsSoundSwitch (with_requests switch (without_request r switch.requests))
+without-sound switch r sound = record {
+  requests = apart-filter (λ q. not (is_of r.blade r.page q)) switch.requests sound.requests;
+  blades = all-filter (λ q. q.blade < 8) (λ q. not (is_of r.blade r.page q)) switch.requests sound.blades;
+  blocks = sound.blocks;
+  entries = sound.entries;
+  region = sound.region;
+}
 
 -- ---- what memory blades are asked
 
@@ -104,38 +108,38 @@ asked_there places m place message there = by (m == place.0) refl where
 
 -- what follows from a step of the switch: moves, and it is sound still, with the same places and permissions, and its
 -- notes tell of it
-pub record Follows (v : World) (switch : SwitchView) (effect : Effect) : Type 0 where
-  pub moves : Leads v (shown v effect)
-  pub quiet : IsQuiet effect.sent
+pub record Follows (v : World) (switch : SwitchView) (effect : SwitchEffect) : Type 0 where
+  pub moves : LeadsByMoves v (shown v effect)
+  pub quiet : SendsNoneUp effect.sent
   pub asks : AskPlaces v.places effect.sent
   pub sound : IsSoundSwitch effect.switch
   pub places : HasPlaces v effect.switch
   pub told : IsTold v switch effect
 
 -- a world in which the switch is seen, sound, and what is done there
-pub record Stands (w : World) (done : Effect) : Type 0 where
+pub record Stands (w : World) (done : SwitchEffect) : Type 0 where
   pub safe : IsCoherent (shown w done)
-  pub quiet : IsQuiet done.sent
+  pub quiet : SendsNoneUp done.sent
   pub asks : AskPlaces w.places done.sent
   pub sound : IsSoundSwitch done.switch
   pub places : HasPlaces w done.switch
 
 -- what was noted after something was done tells of what was done then
-pub record Adds (w : World) (done after : Effect) : Type 0 where
+pub record Adds (w : World) (done after : SwitchEffect) : Type 0 where
   pub noted : List Note
   pub is : after.noted ≡ done.noted ++ noted
   pub told : (plan : RackPlan) → HoldsWithin plan w → HasSlots plan done.switch → HasSlots plan after.switch × Tells plan (shown w done) noted (shown w after)
 
 -- moves lead on from what was done, all that is true of the switch stays true, and its notes tell of it
-abbrev pub Goes : World → Effect → Effect → Type 0
-Goes w done after = Leads (shown w done) (shown w after) × Stands w after × Adds w done after
+abbrev pub Goes : World → SwitchEffect → SwitchEffect → Type 0
+Goes w done after = LeadsByMoves (shown w done) (shown w after) × Stands w after × Adds w done after
 
 -- where the moves of a step lead from what was done
-pub follow : (w : World) (done : Effect) (change : SwitchView → Effect) → Stands w done → Follows (shown w done) done.switch (change done.switch) → Goes w done (and_then done change)
+pub follow : (w : World) (done : SwitchEffect) (change : SwitchView → SwitchEffect) → Stands w done → Follows (shown w done) done.switch (change done.switch) → Goes w done (and_then done change)
 follow w done change stands step =
     let next = shown w (and_then done change) in
     let same : shown (shown w done) (change done.switch) ≡ next = sym (shown-then w done change) in
-    let moves : Leads (shown w done) next = subst (λ v. Leads (shown w done) v) same step.moves in
+    let moves : LeadsByMoves (shown w done) next = subst (λ v. LeadsByMoves (shown w done) v) same step.moves in
     let safe : IsCoherent next = leads_keeps (shown w done) next stands.safe moves in (
       moves,
       record {
@@ -145,7 +149,7 @@ follow w done change stands step =
           sent_on-append From n done.sent (change done.switch).sent ∙ ap (λ s. s ++ sent_on From n (change done.switch).sent) (stands.quiet n).1 ∙ (step.quiet n).1,
         );
         asks = λ m. subst (λ s. AllByRecursion (AsksAt w.places m) s) (sym (sent_on-append To m done.sent (change done.switch).sent))
-            (all-joined (AsksAt w.places m) (sent_on To m done.sent) (sent_on To m (change done.switch).sent) (stands.asks m) (step.asks m));
+            (all-append (AsksAt w.places m) (sent_on To m done.sent) (sent_on To m (change done.switch).sent) (stands.asks m) (step.asks m));
         sound = step.sound;
         places = record { places = step.places.places; perms = step.places.perms };
       },
@@ -158,7 +162,7 @@ follow w done change stands step =
       },
     )
 
-pub goes_nowhere : (w : World) (done : Effect) → Stands w done → Goes w done done
+pub goes_nowhere : (w : World) (done : SwitchEffect) → Stands w done → Goes w done done
 goes_nowhere w done stands = (
   stay (shown w done),
   stands,
@@ -169,7 +173,7 @@ goes_nowhere w done stands = (
   },
 )
 
-pub goes_on : (w : World) (a b c : Effect) → Goes w a b → (Stands w b → Goes w b c) → Goes w a c
+pub goes_on : (w : World) (a b c : SwitchEffect) → Goes w a b → (Stands w b → Goes w b c) → Goes w a c
 goes_on w a b c first next =
     let later = next first.1 in
     let one = first.2 in
@@ -178,7 +182,7 @@ goes_on w a b c first next =
       later.1,
       record {
         noted = one.noted ++ two.noted;
-        is = two.is ∙ ap (λ n. n ++ two.noted) one.is ∙ sym (append-assoc a.noted one.noted two.noted);
+        is = two.is ∙ ap (λ n. n ++ two.noted) one.is ∙ append_assoc a.noted one.noted two.noted;
         told = λ plan holds slots.
             let before = one.told plan holds slots in
             let after = two.told plan holds before.0 in
@@ -200,14 +204,14 @@ pub regions-got : (regions : PageView → Option Region) (es : List Entry) (i : 
     → regions page ≡ Some (region_of e)
 regions-got regions es i e page is apart at t = ap (λ g. g page) is ∙ region_at-first es page ∙ first-got es i e page apart at t
 
-pub wants-got : (wants : ℕ → PageView → Option Wanted) (rs : List Request) (i : ℕ) (r : Request) → wants ≡ wanted_at rs → AreApart rs → slice_get rs i ≡ Some r → r.fetching ≡ false
+pub wants-got : (wants : ℕ → PageView → Option Wanted) (rs : List Request) (i : ℕ) (r : Request) → wants ≡ wanted_at rs → AskOncePerPage rs → slice_get rs i ≡ Some r → r.fetching ≡ false
     → wants r.blade r.page ≡ Some (record { write = r.write; fetching = false })
 wants-got wants rs i r is apart at idle = ap (λ f. f r.blade r.page) is ∙ wanted-got rs i r apart at ∙ ap (λ b. Some (record { write = r.write; fetching = b })) idle
 
 pub wants-without : (wants : ℕ → PageView → Option Wanted) (rs : List Request) (r : Request) → wants ≡ wanted_at rs → wanted_at (without_request r rs) ≡ put_both r.blade r.page None wants
 wants-without wants rs r is = fun_ext (λ b. fun_ext (λ p. wanted-without rs r b p)) ∙ ap (put_both r.blade r.page None) (sym is)
 
-pub wants-fetching : (wants : ℕ → PageView → Option Wanted) (rs : List Request) (i : ℕ) (r : Request) → wants ≡ wanted_at rs → AreApart rs → slice_get rs i ≡ Some r
+pub wants-fetching : (wants : ℕ → PageView → Option Wanted) (rs : List Request) (i : ℕ) (r : Request) → wants ≡ wanted_at rs → AskOncePerPage rs → slice_get rs i ≡ Some r
     → wanted_at (fetching_at rs i) ≡ put_both r.blade r.page (Some (record { write = r.write; fetching = true })) wants
 wants-fetching wants rs i r is apart at =
     fun_ext (λ b. fun_ext (λ p. wanted-fetching rs i r b p apart at)) ∙ ap (put_both r.blade r.page (Some (record { write = r.write; fetching = true }))) (sym is)

@@ -8,10 +8,10 @@ use Rattle.mind_base.specs.Pending.{PendingView}
 use Rattle.mind_base.specs.Place.{place_of, page_at, offset_at}
 use Rattle.mind_base.specs.declared.ends.End.{End}
 use Rattle.mind_base.specs.declared.ends.End.TheVariants.{Running, Exit, Fault}
-use Rattle.hart_effect.specs.Access.{may_write}
+use Rattle.mind_base.specs.Permission.{may_write}
 use Rattle.hart_effect.specs.Deed.{Deed, Alone, Storing}
 use Rattle.hart_effect.specs.declared.finds.Found.{Found}
-use Rattle.page_cache.specs.PageCache.{CacheView, IsPageCache, same_page, frame_of, without, with_first, with_change, written_frame, lowered_frame, entries_after_put, put_of}
+use Rattle.page_cache.specs.PageCache.{CacheView, IsPageCache, same_page, frame_of, without_page, with_first, with_change, written_frame, lowered_frame, entries_after_put, put_of}
 use Rattle.page_cache.specs.declared.frames.Frame.{Frame}
 use Rattle.page_cache.specs.declared.frames.Put.{Put}
 use Rattle.page_cache.specs.declared.frames.Put.TheVariants.{Fresh, Replaced, Pushed}
@@ -19,7 +19,7 @@ use Rattle.page_cache.proofs.Laws.{same_page-true}
 use Rattle.page_cache.proofs.CallerLemmas.{same_page-is_equivalence, frame_of-without, frame_of-with_change, frame_of-with_first}
 use Rattle.compute_blade.specs.Blade.{HartView}
 use Rattle.compute_blade.specs.Harts.{holding}
-use Rattle.compute_blade.specs.Steps.{serves, writes_at_once, frames_with, frames_after, entries_after, need_in, next_tag}
+use Rattle.compute_blade.specs.Steps.{serves, writes_at_once, frames_with, frames_after, frames_after_deed, need_in, next_tag}
 use Rattle.compute_blade.specs.declared.kept.Need.{Need}
 use Rattle.rack_core.proofs.Lookups.{Entries, found-put_fresh, found-put_replaced, found-put_pushed, cache-with_first}
 
@@ -69,9 +69,9 @@ pub less-lowered : (page : PageView) (entries : Entries) (other : PageView) → 
 less-lowered page entries =
     changed lowered_frame page entries (with_change lowered_frame page entries) weakens-lowered (λ other. frame_of-with_change lowered_frame page other entries)
 
-pub less-without : (page : PageView) (entries : Entries) → IsDistinct same_page (keys_of entries) → (other : PageView) → ServesLess other entries (without page entries)
+pub less-without : (page : PageView) (entries : Entries) → IsDistinct same_page (keys_of entries) → (other : PageView) → ServesLess other entries (without_page page entries)
 less-without page entries distinct other found e = by (same_page page other) (frame_of-without page other entries distinct) where
-  by : (b : Bool) → frame_of other (without page entries) ≡ cond b None (frame_of other entries) → serves found (frame_of other (without page entries)) ≡ false
+  by : (b : Bool) → frame_of other (without_page page entries) ≡ cond b None (frame_of other entries) → serves found (frame_of other (without_page page entries)) ≡ false
   by true f = ap (serves found) f
   by false f = ap (serves found) f ∙ e
 
@@ -92,7 +92,7 @@ less-used need (Exit value) entries distinct other = less-same other entries
 less-used need (Fault kind value pc) entries distinct other = less-same other entries
 
 pub less-done : (h domain : ℕ) (found : Found) (hart : HartView) (entries : Entries) → IsDistinct same_page (keys_of entries) → (deed : Deed)
-    → (other : PageView) → ServesLess other entries (entries_after h domain found entries hart deed)
+    → (other : PageView) → ServesLess other entries (frames_after_deed h domain found entries hart deed)
 less-done h domain found hart entries distinct (Alone thread) = less-used (need_in found domain) thread.end entries distinct
 less-done h domain found hart entries distinct (Storing thread store) = less-stored domain (next_tag h hart.stores) store entries distinct
 

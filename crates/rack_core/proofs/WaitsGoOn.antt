@@ -19,12 +19,10 @@ use Rattle.hart_effect.specs.declared.finds.Found.TheVariants.{Outside, Unknown,
 use Rattle.page_cache.proofs.Laws.{same_page-refl}
 use Rattle.page_cache.specs.PageCache.{entries_after_put, put_of}
 use Rattle.page_cache.specs.declared.frames.Frame.{Frame}
-use Rattle.page_cache.specs.declared.frames.Put.{Put}
-use Rattle.page_cache.specs.declared.frames.Put.TheVariants.{Fresh, Replaced, Pushed}
 use Rattle.page_image.specs.PageImage.{PageImageView}
 use Rattle.protect_table.specs.Protect.{permission_at}
 use Rattle.wire_msg.specs.declared.msgs.Msg.TheVariants.{Fill, Deny}
-use Rattle.compute_blade.specs.Blade.{HartView, BladeView, Effect, with_hart, with_entries, request_for, answered, only}
+use Rattle.compute_blade.specs.Blade.{HartView, BladeView, BladeEffect, with_hart, with_frames, request_for, requests_without, only}
 use Rattle.compute_blade.specs.Denials.{denial_in, refused_by}
 use Rattle.compute_blade.specs.Frames.{around_held, thread_of}
 use Rattle.compute_blade.specs.Messages.{after_message, answered_by, awake, need_asked, needs_just, resumed, resumed_at, resumed_by, resumed_for, resumed_with}
@@ -110,11 +108,11 @@ step_resumes answer images asked blade before b n =
     test = and_from _ _ (ap (needs_just (need_asked asked)) n.needs ∙ needs-itself (need_asked asked)) (ap not n.ready)
 
 pub resumes : (answer : Answer) (images : List Image) (perms : PageView → Perm) (blade : BladeView) (page : PageView) (asked : Asked) (entries : Entries) → IsSoundBlade perms blade → IsNeeded images blade
-    → request_for page blade.requests ≡ Some asked → asked.waits ≡ Step → IsResumed answer images asked (with_entries blade entries)
+    → request_for page blade.requests ≡ Some asked → asked.waits ≡ Step → IsResumed answer images asked (with_frames blade entries)
 unfolding awaking
 resumes answer images perms blade page asked entries sound is out step = by asked.waits refl (of_found (IsNeededFor images blade.plan.threads blade.harts blade.cache.entries) page blade.requests asked is.requests out).0 where
   mid : BladeView
-  mid = with_entries blade entries
+  mid = with_frames blade entries
 
   needed : asked.waits ≡ Step → IsNeededStep images blade.plan.threads blade.harts blade.cache.entries asked → IsResumed answer images asked mid
   needed waits n =
@@ -122,7 +120,7 @@ resumes answer images perms blade page asked entries sound is out step = by aske
       let ends : Ends mid asked n.plan hart = record { thread = n.thread; own = n.own; request = (of_found (IsRequest blade.plan.threads blade.harts) page blade.requests asked sound.requests out).0 } in
       let does : resumed answer images asked mid ≡ answered_by answer asked.hart n.plan (found n.image hart.regs n.pc) n.pc (woken_for asked hart mid) (awake Step hart) =
       resumed-is answer images asked mid n.plan hart ends
-      ∙ ap (λ w. resumed_by w answer (need_asked asked) images asked.hart n.plan (with_hart asked.hart (awake w hart) (record mid { requests = answered asked.page mid.requests })) (awake w hart)) waits
+      ∙ ap (λ w. resumed_by w answer (need_asked asked) images asked.hart n.plan (with_hart asked.hart (awake w hart) (record mid { requests = requests_without asked.page mid.requests })) (awake w hart)) waits
       ∙ step_resumes answer images asked blade blade.cache.entries (woken_for asked hart mid) n in
       record {
         plan = n.plan;
@@ -134,7 +132,7 @@ resumes answer images perms blade page asked entries sound is out step = by aske
         code = n.code;
         runs = n.runs;
         does = does;
-        label = ap (λ (e : Effect). e.noted) does
+        label = ap (λ (e : BladeEffect). e.noted) does
             ∙ answered-notes answer asked.hart n.plan (found n.image hart.regs n.pc) n.pc (woken_for asked hart mid) (awake Step hart) (need_asked asked) n.needs n.ready;
       }
 
@@ -148,7 +146,7 @@ pub fill_performs : (images : List Image) (perms : PageView → Perm) (blade : B
     → IsNeeded images blade → request_for page blade.requests ≡ Some asked → asked.waits ≡ Step → labels (after_message images (Fill page perm writable image) blade).noted ≡ label.Exec asked.hart ∷ []
 fill_performs images perms blade page perm writable image asked sound is out step =
     let frame : Frame = record { image = image; writable = writable; dirty = false; perm = perm } in
-    let mid : BladeView = with_entries blade (entries_after_put blade.cache page frame) in
+    let mid : BladeView = with_frames blade (entries_after_put blade.cache page frame) in
     let first = noted_out blade.number (put_of blade.cache page) ++ note.Take blade.number page writable ∷ [] in
     let goes = resumes Filled images perms blade page asked (entries_after_put blade.cache page frame) sound is out step in
     filter_map-append label_of first (resumed_for Filled images (request_for page blade.requests) mid).noted
@@ -165,6 +163,6 @@ deny_refuses images perms blade page asked sound is out step =
 -- ---- in a rack
 
 pub rack_resumes : (answer : Answer) (images : List Image) (rack : RackView) (c : ℕ) (blade : BladeView) (page : PageView) (asked : Asked) (entries : Entries) → IsSafe rack → AreNeeded images rack
-    → slice_get rack.blades c ≡ Some blade → request_for page blade.requests ≡ Some asked → asked.waits ≡ Step → IsResumed answer images asked (with_entries blade entries)
+    → slice_get rack.blades c ≡ Some blade → request_for page blade.requests ≡ Some asked → asked.waits ≡ Step → IsResumed answer images asked (with_frames blade entries)
 rack_resumes answer images rack c blade page asked entries safe all there out step =
     resumes answer images (permission_at rack.switch.protect) blade page asked entries (safe.sound.blades c blade there) (all c blade there) out step

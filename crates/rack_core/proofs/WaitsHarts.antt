@@ -50,16 +50,16 @@ popped (Asks asked) oldest newer capacity room e = ready-popped asked oldest new
 
 -- ---- requests, where one hart and the pages change
 
--- a request for which a step waits, of another hart
-needed-other : (images : List Image) (threads : List ThreadPlan) (harts : Harts) (h : ℕ) (new : HartView) (before after : Entries) (asked : Asked) → (asked.hart == h) ≡ false
-    → ServesLess asked.page before after → IsNeededStep images threads harts before asked → IsNeededStep images threads (slice_set harts h (Some new)) after asked
-needed-other images threads harts h new before after asked away less n = record {
+-- a request for which a step waits, where its hart is the same
+needed-as : (images : List Image) (threads : List ThreadPlan) (harts others : Harts) (before after : Entries) (asked : Asked) → hart_in others asked.hart ≡ hart_in harts asked.hart
+    → ServesLess asked.page before after → IsNeededStep images threads harts before asked → IsNeededStep images threads others after asked
+needed-as images threads harts others before after asked same less n = record {
   plan = n.plan;
   hart = n.hart;
   image = n.image;
   pc = n.pc;
   thread = n.thread;
-  own = hart_in-other harts h new asked.hart away ∙ n.own;
+  own = same ∙ n.own;
   code = n.code;
   runs = n.runs;
   needs = n.needs;
@@ -115,7 +115,7 @@ goes_on images threads harts h old new before after own stays (asked ∷ request
           let same : r.hart ≡ old = same_Some _ _ (sym r.own ∙ here) in
           subst (λ k. IsNeededStep images threads (slice_set harts k (Some new)) after asked) is
           (needed-same images threads harts old new before after asked here (stays (ap (λ (x : HartView). x.stepping) (sym same) ∙ r.waits)) less.0 n)
-      by false e = needed-other images threads harts h new before after asked e less.0 n
+      by false e = needed-as images threads harts (slice_set harts h (Some new)) before after asked (hart_in-other harts h new asked.hart e) less.0 n
 
     one : (waits : Waits) → IsRequestBy waits threads harts asked → IsNeededBy waits images threads harts before asked
         → IsNeededBy waits images threads (slice_set harts h (Some new)) after asked
@@ -129,19 +129,7 @@ pub pages_change : (images : List Image) (threads : List ThreadPlan) (harts : Ha
 pages_change images threads harts before after [] less needed = tt
 pages_change images threads harts before after (asked ∷ requests) less needed = (one asked.waits needed.0, pages_change images threads harts before after requests less.1 needed.1) where
   one : (waits : Waits) → IsNeededBy waits images threads harts before asked → IsNeededBy waits images threads harts after asked
-  one Step n = record {
-    plan = n.plan;
-    hart = n.hart;
-    image = n.image;
-    pc = n.pc;
-    thread = n.thread;
-    own = n.own;
-    code = n.code;
-    runs = n.runs;
-    needs = n.needs;
-    ready = n.ready;
-    unserved = less.0 _ n.unserved;
-  }
+  one Step n = needed-as images threads harts harts before after asked refl less.0 n
   one Drain n = tt
 
 pub for_all : (P : Asked → Type 0) → ((asked : Asked) → P asked) → (requests : List Asked) → AllByRecursion P requests

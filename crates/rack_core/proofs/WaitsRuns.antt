@@ -13,15 +13,16 @@ use Rattle.mind_base.specs.declared.links.LinkKind.TheVariants.{Up, Down, To, Fr
 use Rattle.mind_base.specs.declared.notes.Note.{Note}
 use Rattle.mind_base.specs.declared.plans.RackPlan.{RackPlan}
 use Rattle.mind_base.specs.declared.plans.ThreadPlan.{ThreadPlan}
+use Rattle.mind_base.specs.Plan.{image_place}
 use Rattle.page_image.specs.PageImage.{PageImageView}
 use Rattle.protect_table.specs.Protect.{permission_at}
 use Rattle.wire_msg.specs.declared.msgs.Msg.{Msg}
-use Rattle.compute_blade.specs.Blade.{HartView, BladeView, Effect}
+use Rattle.compute_blade.specs.Blade.{HartView, BladeView, BladeEffect}
 use Rattle.compute_blade.specs.Harts.{first_hart}
 use Rattle.compute_blade.specs.Messages.{after_message}
 use Rattle.compute_blade.specs.Pages.{given_up}
-use Rattle.compute_blade.specs.Start.{first_blade, hart_for, image_place}
-use Rattle.compute_blade.specs.Steps.{after_step, after_drain}
+use Rattle.compute_blade.specs.Start.{first_blade, hart_for}
+use Rattle.compute_blade.specs.Steps.{after_step, blade_after_drain}
 use Rattle.coherence.specs.Facts.{IsCoherent}
 use Rattle.coherence.proofs.Whole.{run_keeps}
 use Rattle.rack_core.specs.BladeMoves.{AreBladesSound, handing, hart_in}
@@ -45,7 +46,7 @@ blades_same : (images : List Image) (old new : RackView) → new.blades ≡ old.
 blades_same images old new same all c blade e = all c blade (ap (λ blades. slice_get blades c) (sym same) ∙ e)
 
 -- one of them became this one
-blade_set : (images : List Image) (c : ℕ) (blade : BladeView) (e : Effect) (old new : RackView) (noted : List Note) → slice_get old.blades c ≡ Some blade → BladeActs c e old new noted
+blade_set : (images : List Image) (c : ℕ) (blade : BladeView) (e : BladeEffect) (old new : RackView) (noted : List Note) → slice_get old.blades c ≡ Some blade → BladeActs c e old new noted
     → IsNeeded images e.blade → AreNeeded images old → AreNeeded images new
 blade_set images c blade e old new noted there acts its all n other is = by (n == c) refl where
   now : slice_get (slice_set old.blades c e.blade) n ≡ Some other
@@ -56,15 +57,15 @@ blade_set images c blade e old new noted there acts its all n other is = by (n =
   by false s = all n other (sym (slice_get-set_other old.blades c e.blade n s) ∙ now)
 
 -- what a blade does keeps what each blade needs, where it does so at the blade
-pub blade_keeps : (images : List Image) (c : ℕ) (act : BladeView → Option Effect) (old new : RackView) (noted : List Note)
-    → ((blade : BladeView) (e : Effect) → slice_get old.blades c ≡ Some blade → IsNeeded images blade → act blade ≡ Some e → IsNeeded images e.blade)
+pub blade_keeps : (images : List Image) (c : ℕ) (act : BladeView → Option BladeEffect) (old new : RackView) (noted : List Note)
+    → ((blade : BladeView) (e : BladeEffect) → slice_get old.blades c ≡ Some blade → IsNeeded images blade → act blade ≡ Some e → IsNeeded images e.blade)
     → AreNeeded images old → BladeDoes c act old new noted → AreNeeded images new
 blade_keeps images c act old new noted keeps all does =
     let d = did c act old new noted does in
     blade_set images c d.blade d.effect old new noted d.there d.acts (keeps d.blade d.effect d.there (all c d.blade d.there) d.does) all
 
-hart_keeps : (images : List Image) (thread : Option ThreadPlan) (act : BladeView → Option Effect) (old new : RackView) (noted : List Note)
-    → ((c : ℕ) (blade : BladeView) (e : Effect) → slice_get old.blades c ≡ Some blade → IsNeeded images blade → act blade ≡ Some e → IsNeeded images e.blade)
+hart_keeps : (images : List Image) (thread : Option ThreadPlan) (act : BladeView → Option BladeEffect) (old new : RackView) (noted : List Note)
+    → ((c : ℕ) (blade : BladeView) (e : BladeEffect) → slice_get old.blades c ≡ Some blade → IsNeeded images blade → act blade ≡ Some e → IsNeeded images e.blade)
     → AreNeeded images old → HartDoes thread act old new noted → AreNeeded images new
 hart_keeps images None act old new noted keeps all does = absurd does
 hart_keeps images (Some thread) act old new noted keeps all does = blade_keeps images thread.blade act old new noted (keeps thread.blade) all does
@@ -78,7 +79,7 @@ blade_hears_all images c [] old new flat noted safe sound all hands = subst (Are
 blade_hears_all images c (message ∷ rest) old new flat noted safe sound all hands =
     let led = blade_handed images old hands.0 flat c message rest hands.1 safe sound hands.3 in
     let first = blade_keeps images c (λ blade. Some (after_message images message blade)) old hands.0 hands.1
-    (λ blade e there is does. subst (λ (x : Effect). IsNeeded images x.blade) (same_Some _ _ does)
+    (λ blade e there is does. subst (λ (x : BladeEffect). IsNeeded images x.blade) (same_Some _ _ does)
     (message_keeps images (permission_at old.switch.protect) blade message (sound c blade there) (handed_may_come images old flat c blade message rest safe sound there) is)) all hands.3 in
     blade_hears_all images c rest hands.0 new led.leads.flat hands.2
     (run_keeps (handing c (message ∷ rest) (seen old flat)) (handing c rest (seen hands.0 led.leads.flat)) led.leads.moves safe led.leads.run) led.leads.sound first hands.4
@@ -99,10 +100,10 @@ others_hear images kind number away (message ∷ rest) old new noted hands = oth
 pub event_needs : (images : List Image) (event : Event) (old new : RackView) (noted : List Note) → IsSafe old → Leads images event old new noted → AreNeeded images old → AreNeeded images new
 event_needs images (Step hart) old new noted safe given all = hart_keeps images (slice_get old.plan.threads hart) (after_step images hart) old new noted
     (λ c blade e there is does. step_keeps images hart blade e (firm (permission_at old.switch.protect) blade (safe.sound.blades c blade there)) is does) all given
-event_needs images (Drain hart) old new noted safe given all = hart_keeps images (slice_get old.plan.threads hart) (after_drain hart) old new noted
+event_needs images (Drain hart) old new noted safe given all = hart_keeps images (slice_get old.plan.threads hart) (blade_after_drain hart) old new noted
     (λ c blade e there is does. drain_keeps images hart blade e (firm (permission_at old.switch.protect) blade (safe.sound.blades c blade there)) is does) all given
 event_needs images (Evict number page) old new noted safe given all = blade_keeps images number (λ b. Some (given_up page b)) old new noted
-    (λ blade e there is does. subst (λ (x : Effect). IsNeeded images x.blade) (same_Some _ _ does)
+    (λ blade e there is does. subst (λ (x : BladeEffect). IsNeeded images x.blade) (same_Some _ _ does)
     (evict_keeps images page blade (firm (permission_at old.switch.protect) blade (safe.sound.blades number blade there)) is)) all given
 event_needs images (Deliver link side k) old new noted safe given all = by link.kind refl where
   by : (kind : LinkKind) → link.kind ≡ kind → AreNeeded images new

@@ -13,12 +13,12 @@ use Rattle.mind_base.specs.declared.images.Image.{Image}
 use Rattle.mind_base.specs.declared.plans.ThreadPlan.{ThreadPlan}
 use Rattle.hart_effect.specs.Deed.{Deed, Alone, Storing, found, carried_out, drains_first}
 use Rattle.hart_effect.specs.declared.finds.Found.{Found}
-use Rattle.page_cache.specs.PageCache.{IsPageCache, frame_of}
+use Rattle.page_cache.specs.PageCache.{IsPageCache, frame_of, is_writable}
 use Rattle.wire_msg.specs.declared.msgs.Msg.TheVariants.{Get}
-use Rattle.compute_blade.specs.Blade.{HartView, BladeView, Effect, with_hart, with_entries, is_asked, only}
+use Rattle.compute_blade.specs.Blade.{HartView, BladeView, BladeEffect, with_hart, with_frames, is_asked, only}
 use Rattle.compute_blade.specs.Denials.{faulting, refused_by}
 use Rattle.compute_blade.specs.Frames.{around_held, thread_of}
-use Rattle.compute_blade.specs.Steps.{need_in, serves, entries_after, hart_after, frames_with, performed, performed_by, next_tag, one_more, waiting, asking, drained, draining_by, drain_of, is_writable, stepping_at, stepping_by, step_at, after_step, after_drain}
+use Rattle.compute_blade.specs.Steps.{need_in, serves, frames_after_deed, hart_after, frames_with, performed, performed_by, next_tag, one_more_store, waiting, asking, drained, draining_by, drain_of, stepping_at, stepping_by, step_at, after_step, blade_after_drain}
 use Rattle.compute_blade.specs.declared.kept.Asked.{Asked}
 use Rattle.compute_blade.specs.declared.kept.Denial.{Denial}
 use Rattle.compute_blade.specs.declared.kept.Need.{Need}
@@ -27,12 +27,13 @@ use Rattle.compute_blade.specs.declared.kept.Waits.TheVariants.{Step, Drain}
 use Rattle.rack_core.specs.BladeMoves.{hart_in, IsRequest}
 use Rattle.rack_core.specs.Waits.{IsNeeded, IsNeededBy, IsNeededFor, IsQueueOf}
 use Rattle.rack_core.proofs.BladeDeeds.{buffer_of}
-use Rattle.rack_core.proofs.BladeSound.{hart_in-set, all-more}
+use Rattle.rack_core.proofs.BladeSound.{hart_in-set}
 use Rattle.rack_core.proofs.BladeSteps.{OfHart, for_hart-some}
 use Rattle.rack_core.proofs.Lookups.{Entries}
 use Rattle.rack_core.proofs.WaitsFrames.{ServesLess, less-same, less-stored, less-done}
 use Rattle.rack_core.proofs.WaitsHarts.{Stays, popped, goes_on, for_all, queues_set, queue_kept}
 use Rattle.rack_core.proofs.WaitsQueues.{deed_fits}
+use Rattle.rack_core.proofs.Lists.{all-last}
 
 -- a cache, and requests of steps and drains that wait
 pub record IsFirm (blade : BladeView) : Type 0 where
@@ -44,7 +45,7 @@ pub record IsFirm (blade : BladeView) : Type 0 where
 -- whatever becomes of it, and of the pages, where no more is served
 free_goes : (images : List Image) (blade : BladeView) (h : ℕ) (old new : HartView) (entries : Entries) → IsFirm blade → hart_in blade.harts h ≡ Some old → old.stepping ≡ false
     → ((page : PageView) → ServesLess page blade.cache.entries entries) → ((thread : ThreadPlan) → IsQueueOf thread old.queue → IsQueueOf thread new.queue)
-    → IsNeeded images blade → IsNeeded images (with_hart h new (with_entries blade entries))
+    → IsNeeded images blade → IsNeeded images (with_hart h new (with_frames blade entries))
 free_goes images blade h old new entries firm own free less queue is = record {
   requests = goes_on images blade.plan.threads blade.harts h old new blade.cache.entries entries own (λ s. absurd (false≢true (sym free ∙ s))) blade.requests
       (for_all (λ asked. ServesLess asked.page blade.cache.entries entries) (λ asked. less asked.page) blade.requests) firm.requests is.requests;
@@ -56,16 +57,16 @@ pub performs : (images : List Image) (blade : BladeView) (h : ℕ) (plan : Threa
     → drains_first found hart.queue.stores hart.queue.capacity ≡ false → IsNeeded images blade → IsNeeded images (performed h plan found pc blade hart).blade
 unfolding buffer_of
 performs images blade h plan found pc hart firm own free ready is = by (carried_out found (around_held blade.cache.entries h plan.domain) pc (thread_of blade.cache.entries hart)) refl where
-  less : (deed : Deed) (page : PageView) → ServesLess page blade.cache.entries (entries_after h plan.domain found blade.cache.entries hart deed)
+  less : (deed : Deed) (page : PageView) → ServesLess page blade.cache.entries (frames_after_deed h plan.domain found blade.cache.entries hart deed)
   less deed = less-done h plan.domain found hart blade.cache.entries firm.cache.distinct deed
 
   by : (o : Option Deed) → carried_out found (around_held blade.cache.entries h plan.domain) pc (thread_of blade.cache.entries hart) ≡ o → IsNeeded images (performed_by o h plan found blade hart).blade
   by None e = is
   by (Some (Alone thread)) e =
-      free_goes images blade h hart (hart_after plan.domain found blade.cache.entries hart (Alone thread)) (entries_after h plan.domain found blade.cache.entries hart (Alone thread)) firm own free (less (Alone thread))
+      free_goes images blade h hart (hart_after plan.domain found blade.cache.entries hart (Alone thread)) (frames_after_deed h plan.domain found blade.cache.entries hart (Alone thread)) firm own free (less (Alone thread))
       (λ t q. record { places = q.places; room = deed_fits found (around_held blade.cache.entries h plan.domain) pc hart.queue.capacity (thread_of blade.cache.entries hart) (Alone thread) q.room ready e }) is
   by (Some (Storing thread store)) e =
-      free_goes images blade h hart (hart_after plan.domain found blade.cache.entries hart (Storing thread store)) (entries_after h plan.domain found blade.cache.entries hart (Storing thread store)) firm own free (less (Storing thread store))
+      free_goes images blade h hart (hart_after plan.domain found blade.cache.entries hart (Storing thread store)) (frames_after_deed h plan.domain found blade.cache.entries hart (Storing thread store)) firm own free (less (Storing thread store))
       (λ t q. record { places = q.places; room = deed_fits found (around_held blade.cache.entries h plan.domain) pc hart.queue.capacity (thread_of blade.cache.entries hart) (Storing thread store) q.room ready e }) is
 
 -- its access is refused
@@ -103,7 +104,7 @@ asks images blade h waits need hart firm own needs is = by (is_asked need.page b
   }).blade
   by true = is
   by false = record {
-    requests = all-more (IsNeededFor images blade.plan.threads (slice_set blade.harts h (Some new)) blade.cache.entries) blade.requests asked
+    requests = all-last (IsNeededFor images blade.plan.threads (slice_set blade.harts h (Some new)) blade.cache.entries) blade.requests asked
         (goes_on images blade.plan.threads blade.harts h hart new blade.cache.entries blade.cache.entries own (λ s. waits-same waits hart) blade.requests
         (for_all (λ other. ServesLess other.page blade.cache.entries blade.cache.entries) (λ other. less-same other.page blade.cache.entries) blade.requests) firm.requests is.requests) needs;
     queues = queues_set blade.plan.threads blade.harts h hart new own (queue_kept hart new (waits-queue waits hart)) is.queues;
@@ -116,7 +117,7 @@ drains : (images : List Image) (blade : BladeView) (h : ℕ) (plan : ThreadPlan)
 drains images blade h plan [] hart firm planned own queue is = is
 drains images blade h plan (oldest ∷ newer) hart firm planned own queue is = by (is_writable (frame_of (page_at (place_of plan.domain oldest.address)) blade.cache.entries)) where
   new : HartView
-  new = one_more (record hart { queue = record hart.queue { stores = newer } })
+  new = one_more_store (record hart { queue = record hart.queue { stores = newer } })
 
   entries : Entries
   entries = frames_with plan.domain oldest (next_tag h hart.stores) blade.cache.entries
@@ -201,7 +202,7 @@ steps images blade h plan image hart firm planned own code is (Running pc) runs 
 
 -- ---- the calls
 
-pub step_keeps : (images : List Image) (h : ℕ) (blade : BladeView) (e : Effect) → IsFirm blade → IsNeeded images blade → after_step images h blade ≡ Some e → IsNeeded images e.blade
+pub step_keeps : (images : List Image) (h : ℕ) (blade : BladeView) (e : BladeEffect) → IsFirm blade → IsNeeded images blade → after_step images h blade ≡ Some e → IsNeeded images e.blade
 step_keeps images h blade e firm is given =
     let o = for_hart-some blade h (λ plan hart. option_map (λ image. step_at hart.end h plan image blade hart) (slice_get images plan.image)) e given in
     by o (slice_get images o.plan.image) refl o.does
@@ -209,9 +210,9 @@ step_keeps images h blade e firm is given =
     by : (o : OfHart blade h (λ plan hart. option_map (λ image. step_at hart.end h plan image blade hart) (slice_get images plan.image)) e)
         → (code : Option Image) → slice_get images o.plan.image ≡ code → option_map (λ image. step_at o.hart.end h o.plan image blade o.hart) code ≡ Some e → IsNeeded images e.blade
     by o None f d = let never : ⊥ = cc in absurd never
-    by o (Some image) f d = subst (λ (e : Effect). IsNeeded images e.blade) (same_Some _ _ d) (steps images blade h o.plan image o.hart firm o.thread o.own f is o.hart.end refl)
+    by o (Some image) f d = subst (λ (e : BladeEffect). IsNeeded images e.blade) (same_Some _ _ d) (steps images blade h o.plan image o.hart firm o.thread o.own f is o.hart.end refl)
 
-pub drain_keeps : (images : List Image) (h : ℕ) (blade : BladeView) (e : Effect) → IsFirm blade → IsNeeded images blade → after_drain h blade ≡ Some e → IsNeeded images e.blade
+pub drain_keeps : (images : List Image) (h : ℕ) (blade : BladeView) (e : BladeEffect) → IsFirm blade → IsNeeded images blade → blade_after_drain h blade ≡ Some e → IsNeeded images e.blade
 drain_keeps images h blade e firm is given =
     let o = for_hart-some blade h (λ plan hart. Some (drain_of h plan blade hart)) e given in
-    subst (λ (e : Effect). IsNeeded images e.blade) (same_Some _ _ o.does) (drains_of images blade h o.plan o.hart firm o.thread o.own is)
+    subst (λ (e : BladeEffect). IsNeeded images e.blade) (same_Some _ _ o.does) (drains_of images blade h o.plan o.hart firm o.thread o.own is)

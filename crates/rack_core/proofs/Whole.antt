@@ -5,9 +5,9 @@ use Rattle.mind_base.specs.declared.events.Event.TheVariants.{Step, Drain, Evict
 use Rattle.mind_base.specs.declared.images.Image.{Image}
 use Rattle.mind_base.specs.declared.notes.Note.{Note}
 use Rattle.mind_base.specs.declared.plans.ThreadPlan.{ThreadPlan}
-use Rattle.compute_blade.specs.Blade.{BladeView, Effect}
+use Rattle.compute_blade.specs.Blade.{BladeView, BladeEffect}
 use Rattle.compute_blade.specs.Pages.{given_up}
-use Rattle.compute_blade.specs.Steps.{after_step, after_drain}
+use Rattle.compute_blade.specs.Steps.{after_step, blade_after_drain}
 use Rattle.coherence.proofs.Whole.{run_keeps}
 use Rattle.rack_core.specs.BladeMoves.{BladeLeads}
 use Rattle.rack_core.specs.Events.{HartDoes, Leads}
@@ -27,7 +27,7 @@ acted c old new safe leaves led = record {
 }
 
 -- a hart's blade has
-pub hart_leaves : (thread : Option ThreadPlan) (act : BladeView → Option Effect) (old new : RackView) (noted : List Note) → HartDoes thread act old new noted → Leaves old new
+pub hart_leaves : (thread : Option ThreadPlan) (act : BladeView → Option BladeEffect) (old new : RackView) (noted : List Note) → HartDoes thread act old new noted → Leaves old new
 hart_leaves None act old new noted does = absurd does
 hart_leaves (Some thread) act old new noted does = blade_leaves thread.blade act old new noted does
 
@@ -37,7 +37,7 @@ event_keeps images (Step hart) old new noted fits safe given =
     acted led.thread.blade old new safe (hart_leaves (slice_get old.plan.threads hart) (after_step images hart) old new noted given) led.does
 event_keeps images (Drain hart) old new noted fits safe given =
     let led = drain_leads images hart old new noted safe.flat safe.coherent safe.sound.blades given in
-    acted led.thread.blade old new safe (hart_leaves (slice_get old.plan.threads hart) (after_drain hart) old new noted given) led.does
+    acted led.thread.blade old new safe (hart_leaves (slice_get old.plan.threads hart) (blade_after_drain hart) old new noted given) led.does
 event_keeps images (Evict blade page) old new noted fits safe given =
     acted blade old new safe (blade_leaves blade (λ b. Some (given_up page b)) old new noted given) (evict_leads images blade page old new noted safe.flat safe.coherent safe.sound.blades given)
 event_keeps images (Deliver link side k) old new noted fits safe given = delivers images link side k old new noted fits safe given

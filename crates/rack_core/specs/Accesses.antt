@@ -1,5 +1,5 @@
 -- Wherever a log notes that a thread performs an access, the thread's blade holds the page then.
-use Rattle.std.specs.Prelude.{◌≡◌, ℕ, Bool, true, false, List, [], ◌∷◌, slice_get, Option, Some, is_some, option_and_then, unwrap_or}
+use Rattle.std.specs.Prelude.{◌≡◌, ℕ, Bool, true, false, List, [], ◌∷◌, slice_get, Some, option_and_then, unwrap_or}
 use Rattle.mind_base.specs.Pending.{PendingView}
 use Rattle.mind_base.specs.Place.{place_of, page_at}
 use Rattle.mind_base.specs.declared.ends.End.{End}

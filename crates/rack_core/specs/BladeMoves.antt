@@ -5,13 +5,13 @@ use Rattle.mind_base.specs.Page.{PageView}
 use Rattle.mind_base.specs.Pending.{PendingView}
 use Rattle.mind_base.specs.declared.commands.Perm.{Perm}
 use Rattle.mind_base.specs.declared.plans.ThreadPlan.{ThreadPlan}
-use Rattle.hart_effect.specs.Access.{may_write}
 use Rattle.mind_base.specs.Place.{place_of, page_at}
+use Rattle.mind_base.specs.Permission.{may_write}
 use Rattle.page_cache.specs.PageCache.{IsPageCache, frame_of, same_page}
 use Rattle.page_cache.specs.declared.frames.Frame.{Frame}
 use Rattle.page_image.specs.PageImage.{PageImageView}
 use Rattle.wire_msg.specs.declared.msgs.Msg.{Msg}
-use Rattle.compute_blade.specs.Blade.{HartView, BladeView, Effect, request_for}
+use Rattle.compute_blade.specs.Blade.{HartView, BladeView, BladeEffect, request_for}
 use Rattle.compute_blade.specs.declared.kept.Asked.{Asked}
 use Rattle.compute_blade.specs.declared.kept.Waits.{Waits}
 use Rattle.compute_blade.specs.declared.kept.Waits.TheVariants.{Step, Drain}
@@ -127,7 +127,7 @@ pub record IsSoundBlade (perms : PageView → Perm) (blade : BladeView) : Type 0
 
 -- What a blade does leads on by moves, and leaves it sound. The newest image changes of no page but one that
 -- the blade then holds.
-pub record DoesMoves (w other : World) (c : ℕ) (e : Effect) : Type 0 where
+pub record DoesMoves (w other : World) (c : ℕ) (e : BladeEffect) : Type 0 where
   pub flat : PageView → PageImageView
   pub leads : LeadsTo w other c e.blade e.sent flat
   pub kept : (page : PageView) → frame_of page e.blade.cache.entries ≡ None → flat page ≡ w.flat page

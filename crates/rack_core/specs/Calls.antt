@@ -11,10 +11,10 @@ use Rattle.mind_base.specs.declared.plans.RackPlan.{RackPlan}
 use Rattle.page_image.specs.PageImage.{PageImageView}
 use Rattle.wire_msg.specs.declared.msgs.Msg.{Msg}
 use Rattle.compute_blade.specs.Blade.{BladeView, HasSpent}
-use Rattle.compute_blade.specs.Messages as blades
+use Rattle.compute_blade.specs.Messages.{MayComeToBlade}
 use Rattle.memory_blade.specs.MemoryBlade.{IsFor}
 use Rattle.rack_net.specs.Net.{NetView, links_of, links_of_kind, frames_on}
-use Rattle.switch_core.specs.Handling as switches
+use Rattle.switch_core.specs.Handling.{IsQuietSwitch, MayComeToSwitch}
 use Rattle.switch_core.specs.Serving.{IsServed}
 use Rattle.rack_core.specs.Rack.{RackView}
 use Rattle.rack_core.specs.Safe.{IsSafe}
@@ -42,10 +42,10 @@ IsEventFor plan Settle = ⊥
 
 -- the node at a link's end may be handed the message
 abbrev pub MayBeHanded : LinkKind → ℕ → Msg → RackView → Type 0
-MayBeHanded Up number message rack = switches.MayCome rack.switch (record { kind = Up; number = number }) message
-MayBeHanded Down number message rack = (blade : BladeView) → slice_get rack.blades number ≡ Some blade → blades.MayCome blade message
+MayBeHanded Up number message rack = MayComeToSwitch rack.switch (record { kind = Up; number = number }) message
+MayBeHanded Down number message rack = (blade : BladeView) → slice_get rack.blades number ≡ Some blade → MayComeToBlade blade message
 MayBeHanded To number message rack = (pages : List PageImageView) → slice_get rack.memories number ≡ Some pages → IsFor (length pages) message
-MayBeHanded From number message rack = switches.MayCome rack.switch (record { kind = From; number = number }) message
+MayBeHanded From number message rack = MayComeToSwitch rack.switch (record { kind = From; number = number }) message
 
 -- ---- what a call leaves
 
@@ -82,5 +82,5 @@ KeepsNothing net = (name : LinkName) → (links_of net name).kept ≡ 0
 pub record IsQuiet (rack : RackView) : Type 0 where
   pub frames : HasNoFrame rack.net
   pub kept : KeepsNothing rack.net
-  pub switch : switches.IsQuiet rack.switch
+  pub switch : IsQuietSwitch rack.switch
   pub blades : All (λ blade. blade.requests ≡ []) rack.blades

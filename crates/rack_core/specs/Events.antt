@@ -10,30 +10,29 @@ use Rattle.mind_base.specs.declared.links.LinkName.{LinkName}
 use Rattle.mind_base.specs.declared.links.Side.{Side}
 use Rattle.mind_base.specs.declared.notes.Note.{Note}
 use Rattle.wire_msg.specs.declared.msgs.Msg.{Msg}
-use Rattle.compute_blade.specs.Blade as blade_specs
-use Rattle.compute_blade.specs.Blade.{BladeView}
+use Rattle.compute_blade.specs.Blade.{BladeView, BladeEffect}
 use Rattle.compute_blade.specs.Messages.{after_message}
 use Rattle.compute_blade.specs.Pages.{given_up}
-use Rattle.compute_blade.specs.Steps.{after_step, after_drain}
+use Rattle.compute_blade.specs.Steps.{after_step, blade_after_drain}
 use Rattle.memory_blade.specs.MemoryBlade as memory
-use Rattle.link_retry.specs.Link.{after_send, Delivers as LinkDelivers, after_lose, after_repeat, Resends}
+use Rattle.link_retry.specs.Link.{after_send, FrameDelivers, after_lose, after_repeat, Resends}
 use Rattle.wire_msg.specs.Spelling.{spelling}
 use Rattle.rack_net.specs.Net.{NetView, NetLink, ChangesOnly, links_of, spelled}
 use Rattle.switch_core.specs.Handling.{Receives}
-use Rattle.switch_core.specs.Switch as switch_specs
-use Rattle.rack_core.specs.Rack.{RackView, with_blade, with_switch, with_memory, with_net}
+use Rattle.switch_core.specs.Switch.{SwitchEffect}
+use Rattle.rack_core.specs.Rack.{RackView, with_blade_at, with_switch, with_memory, with_net}
 
 -- ---- one link
 
 -- `send`: the message is the last one pending, and else what a link does
-pub record Sends (old : NetLink) (message : Msg) (new : NetLink) : Type 0 where
+pub record SendsOne (old : NetLink) (message : Msg) (new : NetLink) : Type 0 where
   pub fifo : new.pending ≡ old.pending ++ message ∷ []
   pub link : spelled new ≡ after_send (spelled old) (spelling message)
 
 -- `deliver`: what is taken is the front of what was pending, and leaves it; and else what a link does
 pub record Hands (old : NetLink) (side : Side) (k : ℕ) (taken : List Msg) (new : NetLink) : Type 0 where
   pub fifo : old.pending ≡ taken ++ new.pending
-  pub link : LinkDelivers (spelled old) side k (map spelling taken) (spelled new)
+  pub link : FrameDelivers (spelled old) side k (map spelling taken) (spelled new)
 
 -- `lose`, `repeat` and `resend`: nothing that is pending changes, and else what a link does
 pub record Loses (old : NetLink) (side : Side) (k : ℕ) (new : NetLink) : Type 0 where
@@ -52,7 +51,7 @@ pub record SendsAgain (old new : NetLink) : Type 0 where
 
 -- a message goes onto its link
 abbrev pub SendsOn : LinkName → Msg → NetView → NetView → Type 0
-SendsOn name message old new = Sends (links_of old name) message (links_of new name) × ChangesOnly name old new
+SendsOn name message old new = SendsOne (links_of old name) message (links_of new name) × ChangesOnly name old new
 
 -- messages go onto their links, one after another
 abbrev pub SendsAll : List (LinkName × Msg) → NetView → NetView → Type 0
@@ -66,27 +65,27 @@ on kind number messages = map (λ message. (record { kind = kind; number = numbe
 -- ---- a node acts
 
 -- a compute blade: it changes, it sends on its link up, and it notes
-pub record BladeActs (number : ℕ) (effect : blade_specs.Effect) (old new : RackView) (noted : List Note) : Type 0 where
+pub record BladeActs (number : ℕ) (effect : BladeEffect) (old new : RackView) (noted : List Note) : Type 0 where
   pub net : NetView
   pub sent : SendsAll (on Up number effect.sent) old.net net
-  pub after : new ≡ with_net net (with_blade number effect.blade old)
+  pub after : new ≡ with_net net (with_blade_at number effect.blade old)
   pub notes : noted ≡ effect.noted
 
 -- something is done by a blade of the rack; where it cannot be, nothing follows
-abbrev pub Acts : ℕ → Option blade_specs.Effect → RackView → RackView → List Note → Type 0
+abbrev pub Acts : ℕ → Option BladeEffect → RackView → RackView → List Note → Type 0
 Acts number None old new noted = ⊥
 Acts number (Some effect) old new noted = BladeActs number effect old new noted
 
-abbrev pub ActsWith : Option BladeView → ℕ → (BladeView → Option blade_specs.Effect) → RackView → RackView → List Note → Type 0
+abbrev pub ActsWith : Option BladeView → ℕ → (BladeView → Option BladeEffect) → RackView → RackView → List Note → Type 0
 ActsWith None number act old new noted = ⊥
 ActsWith (Some blade) number act old new noted = Acts number (act blade) old new noted
 
-abbrev pub BladeDoes : ℕ → (BladeView → Option blade_specs.Effect) → RackView → RackView → List Note → Type 0
+abbrev pub BladeDoes : ℕ → (BladeView → Option BladeEffect) → RackView → RackView → List Note → Type 0
 BladeDoes number act old new noted = ActsWith (slice_get old.blades number) number act old new noted
 
 -- the switch: it handles a message and serves; what it sends goes down to blades and to memory blades
 pub record SwitchHears (name : LinkName) (message : Msg) (old new : RackView) (noted : List Note) : Type 0 where
-  pub effect : switch_specs.Effect
+  pub effect : SwitchEffect
   pub heard : Receives name message old.switch effect
   pub net : NetView
   pub sent : SendsAll effect.sent old.net net
@@ -94,16 +93,16 @@ pub record SwitchHears (name : LinkName) (message : Msg) (old new : RackView) (n
   pub notes : noted ≡ effect.noted
 
 -- a memory blade: it changes, and its answer, if there is one, goes onto its link
-abbrev pub answers : ℕ → Option Msg → List (LinkName × Msg)
-answers number None = []
-answers number (Some message) = (record { kind = From; number = number }, message) ∷ []
+abbrev pub answer_to_switch : ℕ → Option Msg → List (LinkName × Msg)
+answer_to_switch number None = []
+answer_to_switch number (Some message) = (record { kind = From; number = number }, message) ∷ []
 
 pub record MemoryHears (number : ℕ) (message : Msg) (old new : RackView) (noted : List Note) : Type 0 where
   pub images : List Rattle.page_image.specs.PageImage.PageImageView
   pub before : slice_get old.memories number ≡ Some images
   pub net : NetView
-  pub sent : SendsAll (answers number (memory.answer_to images message)) old.net net
-  pub after : new ≡ with_net net (with_memory number (memory.after_message images message) old)
+  pub sent : SendsAll (answer_to_switch number (memory.answer_to images message)) old.net net
+  pub after : new ≡ with_net net (with_memory number (memory.images_after images message) old)
   pub notes : noted ≡ []
 
 -- a message is handed to the node at the end of its link
@@ -123,7 +122,7 @@ HandsAll images name (message ∷ messages) old new noted = (mid : RackView) × 
 -- ---- events
 
 -- the hart's blade, by the plan
-abbrev pub HartDoes : Option Rattle.mind_base.specs.declared.plans.ThreadPlan.ThreadPlan → (BladeView → Option blade_specs.Effect) → RackView → RackView → List Note → Type 0
+abbrev pub HartDoes : Option Rattle.mind_base.specs.declared.plans.ThreadPlan.ThreadPlan → (BladeView → Option BladeEffect) → RackView → RackView → List Note → Type 0
 HartDoes None act old new noted = ⊥
 HartDoes (Some thread) act old new noted = BladeDoes thread.blade act old new noted
 
@@ -146,7 +145,7 @@ pub record Delivers (images : List ImageOf) (name : LinkName) (side : Side) (k :
 -- the rack leads to the next one by an event, with these notes
 abbrev pub Leads : List ImageOf → Event → RackView → RackView → List Note → Type 0
 Leads images (Step hart) old new noted = HartDoes (slice_get old.plan.threads hart) (after_step images hart) old new noted
-Leads images (Drain hart) old new noted = HartDoes (slice_get old.plan.threads hart) (after_drain hart) old new noted
+Leads images (Drain hart) old new noted = HartDoes (slice_get old.plan.threads hart) (blade_after_drain hart) old new noted
 Leads images (Evict blade page) old new noted = BladeDoes blade (λ b. Some (given_up page b)) old new noted
 Leads images (Deliver link side k) old new noted = Delivers images link side k old new noted
 Leads images (Lose link side k) old new noted = NetChanges link (λ a b. Loses (links_of a link) side k (links_of b link)) old new noted

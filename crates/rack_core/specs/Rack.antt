@@ -16,8 +16,8 @@ pub record RackView : Type 0 where
   pub net : NetView
   pub asked : ℕ
 
-abbrev pub with_blade : ℕ → BladeView → RackView → RackView
-with_blade number blade rack = record rack { blades = slice_set rack.blades number blade }
+abbrev pub with_blade_at : ℕ → BladeView → RackView → RackView
+with_blade_at number blade rack = record rack { blades = slice_set rack.blades number blade }
 
 abbrev pub with_switch : SwitchView → RackView → RackView
 with_switch switch rack = record rack { switch = switch }

@@ -17,7 +17,7 @@ use Rattle.tso_machine.specs.State.{Setup, State}
 use Rattle.rack_core.specs.BladeMoves.{AreBladesSound, image_or}
 use Rattle.rack_core.specs.Rack.{RackView}
 use Rattle.rack_core.specs.Seen.{seen}
-use Rattle.rack_core.specs.Stands.{IsHartAt, StandsFor}
+use Rattle.rack_core.specs.Stands.{IsHartAt, RackStandsFor}
 
 -- stores that have 1, 2 or 4 bytes and stand at multiples of their sizes
 abbrev pub ArePending : List PendingView → Type 0
@@ -44,7 +44,7 @@ pub record GoesWith (images : List Image) (setup : Setup) (rack : RackView) (fla
   pub frames : AreFrames (seen rack flat)
   pub sound : AreBladesSound rack
   pub pending : AreQueuesPending rack
-  pub stands : StandsFor rack flat state
+  pub stands : RackStandsFor rack flat state
 
 -- blade c became this one, and the switch permits what it did
 pub record BladeBecame (c : ℕ) (blade : BladeView) (old new : RackView) : Type 0 where
@@ -61,7 +61,7 @@ AreNewest entries flat newer = (page : PageView) → newer page ≡ image_or (fl
 pub record LeadsMachine (setup : Setup) (state : State) (noted : List Note) (rack : RackView) (flat : PageView → PageImageView) : Type 0 where
   pub next : State
   pub run : replay setup state (labels noted) ≡ Whole next
-  pub stands : StandsFor rack flat next
+  pub stands : RackStandsFor rack flat next
   pub pending : AreQueuesPending rack
   pub one : HasOnePlan rack
 

@@ -42,7 +42,7 @@ pub record IsHartAt (rack : RackView) (h : ℕ) (hart : HartView) : Type 0 where
 abbrev pub IsPast : RackView → ℕ → Type 0
 IsPast rack tag = (hart : HartView) → IsHartAt rack (tag % 64) hart → tag / 64 ≤ hart.stores
 
-pub record StandsFor (rack : RackView) (flat : PageView → PageImageView) (state : State) : Type 0 where
+pub record RackStandsFor (rack : RackView) (flat : PageView → PageImageView) (state : State) : Type 0 where
   pub threads : (h : ℕ) (hart : HartView) → IsHartAt rack h hart → slice_get state.threads h ≡ Some (machine_thread flat hart)
   pub bytes : (domain address : ℕ) → byte_of state.writes domain address ≡ slice_index (flat (page_of domain address)).bytes (page_offset_at address)
   pub perms : permission_of state.perms ≡ permission_at rack.switch.protect

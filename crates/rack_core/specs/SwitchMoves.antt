@@ -8,18 +8,18 @@ use Rattle.mind_base.specs.declared.links.LinkName.{LinkName}
 use Rattle.mind_base.specs.declared.plans.RackPlan.{RackPlan}
 use Rattle.page_image.specs.PageImage.{PageImageView}
 use Rattle.protect_table.specs.Protect.{permission_at}
-use Rattle.region_directory.specs.Block.{IsApart}
+use Rattle.region_directory.specs.Block.{AreBlocksApart}
 use Rattle.region_directory.specs.declared.entries.Entry.{Entry}
-use Rattle.request_list.specs.Requests.{AreApart}
+use Rattle.request_list.specs.Requests.{AskOncePerPage}
 use Rattle.wire_msg.specs.declared.msgs.Msg.{Msg}
 use Rattle.wire_msg.specs.declared.msgs.Msg.TheVariants.{Back, Read, Write}
-use Rattle.memory_blade.specs.MemoryBlade.{image_at, after_message, answer_to}
+use Rattle.memory_blade.specs.MemoryBlade.{image_at, images_after, answer_to}
 use Rattle.switch_core.specs.Invariant.{IsFitEntry}
-use Rattle.switch_core.specs.Switch.{SwitchView, Effect, place_in}
+use Rattle.switch_core.specs.Switch.{SwitchView, SwitchEffect, place_in}
 use Rattle.coherence.specs.Moves.{Move, heard}
 use Rattle.coherence.specs.Runs.{Run}
 use Rattle.coherence.specs.World.{World, put}
-use Rattle.rack_core.specs.Events.{answers}
+use Rattle.rack_core.specs.Events.{answer_to_switch}
 use Rattle.rack_core.specs.Rack.{RackView}
 use Rattle.rack_core.specs.Seen.{pending_on, wanted_at, region_at, sent_on}
 
@@ -35,12 +35,12 @@ with_seen_switch switch sent w = record w {
   tos = λ memory. w.tos memory ++ sent_on To memory sent;
 }
 
-abbrev pub shown : World → Effect → World
+abbrev pub shown : World → SwitchEffect → World
 shown w done = with_seen_switch done.switch done.sent w
 
 -- a list of moves leads from one world to another
-abbrev pub Leads : World → World → Type 0
-Leads first last = (moves : List Move) × Run first moves last
+abbrev pub LeadsByMoves : World → World → Type 0
+LeadsByMoves first last = (moves : List Move) × Run first moves last
 
 -- where pages lie, and what may be done with them, is what the switch says
 pub record HasPlaces (w : World) (switch : SwitchView) : Type 0 where
@@ -55,8 +55,8 @@ pub record Shows (w : World) (switch : SwitchView) : Type 0 where
   pub places : HasPlaces w switch
 
 -- nothing goes onto a link to the switch
-abbrev pub IsQuiet : List (LinkName × Msg) → Type 0
-IsQuiet sent = (number : ℕ) → (sent_on Up number sent ≡ []) × (sent_on From number sent ≡ [])
+abbrev pub SendsNoneUp : List (LinkName × Msg) → Type 0
+SendsNoneUp sent = (number : ℕ) → (sent_on Up number sent ≡ []) × (sent_on From number sent ≡ [])
 
 -- what is asked of a memory blade is asked of a page that lies there
 abbrev pub AsksAt : (PageView → Option (ℕ × ℕ)) → ℕ → Msg → Type 0
@@ -80,12 +80,12 @@ LieBelow places memory count = (page : PageView) (phys : ℕ) → places page �
 -- no two entries share a page
 abbrev pub AreEntriesApart : List Entry → Type 0
 AreEntriesApart [] = Unit {0}
-AreEntriesApart (entry ∷ entries) = AllByRecursion (λ later. IsApart entry.range later.range) entries × AreEntriesApart entries
+AreEntriesApart (entry ∷ entries) = AllByRecursion (λ later. AreBlocksApart entry.range later.range) entries × AreEntriesApart entries
 
 -- Requests are apart and of 8 blades, entries share no page, states and targets name those blades, and a new
 -- entry is for a block of at most 2 ^ 9 pages.
 pub record IsSoundSwitch (switch : SwitchView) : Type 0 where
-  pub requests : AreApart switch.requests
+  pub requests : AskOncePerPage switch.requests
   pub blades : AllByRecursion (λ r. r.blade < 8) switch.requests
   pub blocks : AreEntriesApart switch.directory.entries
   pub entries : AllByRecursion (IsFitEntry 8) switch.directory.entries
@@ -130,6 +130,6 @@ with_front From number messages w = record w { froms = put number (messages ++ w
 abbrev pub with_seen_memory : ℕ → List PageImageView → Msg → List Msg → World → World
 with_seen_memory number images message behind w = record w {
   tos = put number behind w.tos;
-  froms = λ memory. w.froms memory ++ sent_on From memory (answers number (answer_to images message));
-  images = put number (image_at (after_message images message)) w.images;
+  froms = λ memory. w.froms memory ++ sent_on From memory (answer_to_switch number (answer_to images message));
+  images = put number (image_at (images_after images message)) w.images;
 }

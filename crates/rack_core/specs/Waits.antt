@@ -10,7 +10,7 @@ use Rattle.hart_effect.specs.Deed.{found, drains_first}
 use Rattle.page_cache.specs.PageCache.{frame_of}
 use Rattle.page_cache.specs.declared.frames.Frame.{Frame}
 use Rattle.store_queue.specs.StoreQueue.{QueueView}
-use Rattle.compute_blade.specs.Blade.{HartView, BladeView, hart_of, with_hart, answered}
+use Rattle.compute_blade.specs.Blade.{HartView, BladeView, hart_of, with_hart, requests_without}
 use Rattle.compute_blade.specs.Messages.{answered_by, awake, need_asked, resumed}
 use Rattle.compute_blade.specs.Steps.{need_in, serves}
 use Rattle.compute_blade.specs.declared.kept.Answer.{Answer}
@@ -63,7 +63,7 @@ AreNeeded images rack = (c : ℕ) (blade : BladeView) → slice_get rack.blades 
 
 -- the blade when a request for which a step waited has ended, and the step waits no longer
 abbrev pub woken_for : Asked → HartView → BladeView → BladeView
-woken_for asked hart blade = with_hart asked.hart (awake Step hart) (record blade { requests = answered asked.page blade.requests })
+woken_for asked hart blade = with_hart asked.hart (awake Step hart) (record blade { requests = requests_without asked.page blade.requests })
 
 -- The request ends, and its step is performed where the page came, or refused where it was denied.
 pub record IsResumed (answer : Answer) (images : List Image) (asked : Asked) (blade : BladeView) : Type 0 where

@@ -1,3 +1,5 @@
+//! Laws of the rack and its runs: functions that do nothing, with the laws as clauses.
+
 ghost use Rattle.std.specs.Prelude.{◌≡◌, ℕ, List, [], ◌++◌, Some, true};
 ghost use Rattle.mind_base.specs.Fit.{IsFit};
 ghost use Rattle.mind_base.specs.Page.{PageView};
@@ -6,7 +8,7 @@ ghost use Rattle.mind_base.specs.declared.images.Image.{Image as image};
 ghost use Rattle.mind_base.specs.declared.notes.Note.{Note as note};
 ghost use Rattle.mind_base.specs.declared.plans.RackPlan.{RackPlan as rack_plan};
 ghost use Rattle.page_cache.specs.declared.frames.Frame.{Frame as frame};
-ghost use Rattle.coherence.specs.Facts.{may, may_write, IsCoherent};
+ghost use Rattle.coherence.specs.Facts.{may, may_hold_writable, IsCoherent};
 ghost use Rattle.mind_base.specs.declared.events.Event.TheVariants.{Step, Drain};
 ghost use Rattle.page_image.specs.PageImage.{PageImageView};
 ghost use Rattle.rack_core.specs.Events.{Leads};
@@ -59,7 +61,7 @@ pub fn caches_agree()
         → IsFit plan → IsStart plan first → AreOfRack events → Reaches images events first last noted
         → (blade : ℕ) (page : PageView) (f : frame) → frame_at last.blades blade page ≡ Some f
         → (may (region_at last.switch.directory.entries page) blade ≡ true)
-        × (f.writable ≡ true → may_write (region_at last.switch.directory.entries page) blade ≡ true) }
+        × (f.writable ≡ true → may_hold_writable (region_at last.switch.directory.entries page) blade ≡ true) }
 {}
 
 /// A step and a drain of a hart in a rack that stands for a state of the abstract machine note labels that lead

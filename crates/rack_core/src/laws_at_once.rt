@@ -1,3 +1,5 @@
+//! The law of what happens where nothing is under way, as clauses of a function that does nothing.
+
 ghost use Rattle.std.specs.Prelude.{◌≡◌, ◌∷◌, ℕ, List, [], Some};
 ghost use Rattle.mind_base.specs.Page.{PageView};
 ghost use Rattle.mind_base.specs.declared.events.Event.TheVariants as event;

@@ -1,3 +1,5 @@
+//! The law of the hits of entries, as clauses of a function that does nothing.
+
 ghost use Rattle.std.specs.Prelude.{List, ◌≤◌, ◌+◌};
 ghost use Rattle.mind_base.specs.declared.events.Event.{Event as event};
 ghost use Rattle.mind_base.specs.declared.images.Image.{Image as image};

@@ -1,3 +1,5 @@
+//! The law of a quiet rack, as clauses of a function that does nothing.
+
 ghost use Rattle.rack_core.specs.Calls.{HasNoFrame, IsKept, IsQuiet, KeepsNothing};
 ghost use Rattle.rack_core.specs.Rack.{RackView};
 

@@ -1,5 +1,7 @@
+//! The law of what waits, as clauses of a function that does nothing.
+
 ghost use Rattle.std.specs.Prelude.{◌≡◌, ◌∷◌, ℕ, Bool, List, [], Some, slice_get};
-ghost use Rattle.compute_blade.specs.Blade.{BladeView, request_for, with_entries};
+ghost use Rattle.compute_blade.specs.Blade.{BladeView, request_for, with_frames};
 ghost use Rattle.compute_blade.specs.Messages.{after_message};
 ghost use Rattle.compute_blade.specs.declared.kept.Answer.{Answer as answer_kind};
 ghost use Rattle.compute_blade.specs.declared.kept.Asked.{Asked as request};
@@ -36,7 +38,7 @@ pub fn waits_fit()
     ensures goes_on { (answer : answer_kind) (images : List image) (rack : RackView) (c : ℕ) (blade : BladeView) (page : PageView) (asked : request) (entries : List (PageView × frame))
         → IsSafe rack → AreNeeded images rack → slice_get rack.blades c ≡ Some blade
         → request_for page blade.requests ≡ Some asked → asked.waits ≡ waits.Step
-        → IsResumed answer images asked (with_entries blade entries) }
+        → IsResumed answer images asked (with_frames blade entries) }
     ensures filled { (images : List image) (rack : RackView) (c : ℕ) (blade : BladeView) (page : PageView) (asked : request) (perm : permission) (writable : Bool) (content : PageImageView)
         → IsSafe rack → AreNeeded images rack → slice_get rack.blades c ≡ Some blade
         → request_for page blade.requests ≡ Some asked → asked.waits ≡ waits.Step

@@ -1,3 +1,5 @@
+//! A rack: its blades, its switch, its memory blades and its links, and the events that it goes through.
+
 ghost use Rattle.std.specs.Prelude.{◌≡◌, ◌↔◌, [], All, Err, IfOk, IsTrue, List, OnErr, OnOk};
 ghost use Rattle.mind_base.specs.Fit.{IsFit, FitImages};
 ghost use Rattle.mind_base.specs.declared.images.Image.{Image as image};

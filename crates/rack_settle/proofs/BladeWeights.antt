@@ -1,6 +1,6 @@
 -- A compute blade that handles a message makes the weight of what is still to come less.
-use Rattle.std.proofs.Common.{◌≡◌, ℕ, zero, suc, ◌+◌, ◌-◌, ◌*◌, ◌≤◌, Bool, true, false, cond, not, ◌&&◌, ap, sym, refl, subst, ◌∙◌, List, [], ◌∷◌, take, slice_get, Option, Some, None, option_map, arith}
-use Rattle.std.specs.Prelude.{if◌then◌else◌, unwrap_or, IsSomeAnd}
+use Rattle.std.proofs.Common.{◌≡◌, ℕ, zero, suc, ◌+◌, ◌-◌, ◌*◌, ◌≤◌, Bool, true, false, cond, ap, sym, refl, subst, ◌∙◌, List, [], ◌∷◌, take, slice_get, Option, Some, None, arith}
+use Rattle.std.specs.Prelude.{if◌then◌else◌, IsSomeAnd}
 use Rattle.std.specs.List.{AllByRecursion}
 use Rattle.std.specs.Map.{set_value}
 use Rattle.std.specs.Option.{option_map_or}
@@ -13,20 +13,20 @@ use Rattle.mind_base.specs.declared.ends.End.{End}
 use Rattle.mind_base.specs.declared.ends.End.TheVariants.{Running, Exit, Fault}
 use Rattle.mind_base.specs.declared.images.Image.{Image}
 use Rattle.mind_base.specs.declared.plans.ThreadPlan.{ThreadPlan}
-use Rattle.hart_effect.specs.Deed.{Deed, Alone, Storing, carried_out, drains_first, found}
+use Rattle.hart_effect.specs.Deed.{Deed, Alone, Storing, carried_out, found}
 use Rattle.hart_effect.specs.declared.finds.Found.{Found}
-use Rattle.page_cache.specs.PageCache.{CacheView, same_page, frame_of, without, with_first, written_frame, lowered_frame, entries_after_put, put_from}
+use Rattle.page_cache.specs.PageCache.{CacheView, same_page, frame_of, without_page, with_first, written_frame, lowered_frame, entries_after_put, put_from, is_writable}
 use Rattle.page_cache.specs.declared.frames.Frame.{Frame}
 use Rattle.page_cache.proofs.Laws.{same_page-refl}
 use Rattle.page_image.specs.PageImage.{PageImageView}
 use Rattle.wire_msg.specs.declared.msgs.Msg.{Msg}
-use Rattle.wire_msg.specs.declared.msgs.Msg.TheVariants.{Get, Fill, Deny, Back, Inv, Lower, Ack, Close, Closed, Reopen, Read, Image as image_message, Write, Zero}
-use Rattle.compute_blade.specs.Blade.{HartView, BladeView, Effect, request_for, only, and_then}
+use Rattle.wire_msg.specs.declared.msgs.Msg.TheVariants.{Fill, Deny, Back, Inv, Lower, Ack}
+use Rattle.compute_blade.specs.Blade.{HartView, BladeView, BladeEffect, request_for, and_then}
 use Rattle.compute_blade.specs.Denials.{denial_in, refused_by}
 use Rattle.compute_blade.specs.Frames.{around_held, thread_of}
-use Rattle.compute_blade.specs.Messages.{FitsFill, MayCome, awake, needs_just, need_asked, answered_by, resumed_with, resumed_at, resumed_by, resumed, resumed_for, acknowledging, after_message}
+use Rattle.compute_blade.specs.Messages.{FitsFill, MayComeToBlade, awake, need_asked, answered_by, resumed_at, resumed_by, resumed, resumed_for, acknowledging, after_message}
 use Rattle.compute_blade.specs.Pages.{back_of, giving_up, given_up, lowering, lowered, each_in, held_in, writable_in, spared, sent_out, taken}
-use Rattle.compute_blade.specs.Steps.{need_in, frames_after, next_tag, frames_with, performed_by, asking, drained, is_writable, draining_by}
+use Rattle.compute_blade.specs.Steps.{need_in, frames_after, next_tag, frames_with, performed_by, asking, drained, draining_by}
 use Rattle.compute_blade.specs.declared.kept.Answer.{Answer}
 use Rattle.compute_blade.specs.declared.kept.Answer.TheVariants.{Filled, Denied}
 use Rattle.compute_blade.specs.declared.kept.Asked.{Asked}
@@ -40,6 +40,7 @@ use Rattle.rack_core.proofs.BladeFills.{Ends, awaking, resumed-is}
 use Rattle.rack_core.proofs.BladeSound.{of_found}
 use Rattle.rack_core.proofs.Lookups.{Entries}
 use Rattle.rack_core.proofs.ReleasedBlades.{bit-most, marked, marked-cons}
+use Rattle.rack_core.proofs.Resuming.{resumes-as}
 use Rattle.rack_settle.proofs.SentWeights.{messages-append}
 use Rattle.rack_settle.specs.Weight.{weight_of, messages_weight, blade_weight}
 
@@ -52,13 +53,13 @@ dirty-cons : (held : PageView × Frame) (entries : Entries) → dirty (held ∷ 
 dirty-cons held entries = marked-cons (λ held. held.1.dirty) held entries
 
 -- a page that is taken out takes its own
-dirty-without : (page : PageView) (entries : Entries) (frame : Frame) → frame_of page entries ≡ Some frame → dirty (without page entries) + bit frame.dirty ≡ dirty entries
+dirty-without : (page : PageView) (entries : Entries) (frame : Frame) → frame_of page entries ≡ Some frame → dirty (without_page page entries) + bit frame.dirty ≡ dirty entries
 dirty-without page [] frame e = let never : ⊥ = cc in absurd never
 dirty-without page (first ∷ entries) frame e = by (dirty-without page entries frame) (same_page page first.0) e where
-  by : (frame_of page entries ≡ Some frame → dirty (without page entries) + bit frame.dirty ≡ dirty entries) → (b : Bool) → cond b (Some first.1) (frame_of page entries) ≡ Some frame
-      → dirty (cond b entries (first ∷ without page entries)) + bit frame.dirty ≡ dirty (first ∷ entries)
+  by : (frame_of page entries ≡ Some frame → dirty (without_page page entries) + bit frame.dirty ≡ dirty entries) → (b : Bool) → cond b (Some first.1) (frame_of page entries) ≡ Some frame
+      → dirty (cond b entries (first ∷ without_page page entries)) + bit frame.dirty ≡ dirty (first ∷ entries)
   by rest true e = let is : first.1 ≡ frame = same_Some _ _ e in omega (arith, dirty-cons first entries, ap (λ (f : Frame). bit f.dirty) is)
-  by rest false e = omega (arith, dirty-cons first entries, dirty-cons first (without page entries), rest e)
+  by rest false e = omega (arith, dirty-cons first entries, dirty-cons first (without_page page entries), rest e)
 
 -- a page whose frame changes in its place
 dirty-set : (page : PageView) (entries : Entries) (frame new : Frame) → frame_of page entries ≡ Some frame
@@ -76,9 +77,9 @@ dirty-set page (first ∷ entries) frame new e = by (dirty-set page entries fram
 -- a page that goes first, whatever its frame becomes
 dirty-first : (change : Frame → Frame) (page : PageView) (entries : Entries) → dirty (with_first change page entries) ≤ dirty entries + 1
 dirty-first change page entries = by (frame_of page entries) refl where
-  by : (held : Option Frame) → frame_of page entries ≡ held → dirty (option_map_or (λ frame. (page, change frame) ∷ without page entries) held entries) ≤ dirty entries + 1
+  by : (held : Option Frame) → frame_of page entries ≡ held → dirty (option_map_or (λ frame. (page, change frame) ∷ without_page page entries) held entries) ≤ dirty entries + 1
   by None e = omega arith
-  by (Some frame) e = omega (arith, dirty-cons (page, change frame) (without page entries), dirty-without page entries frame e, bit-most (change frame).dirty)
+  by (Some frame) e = omega (arith, dirty-cons (page, change frame) (without_page page entries), dirty-without page entries frame e, bit-most (change frame).dirty)
 
 -- the first ones
 dirty-take : (n : ℕ) (entries : Entries) → dirty (take n entries) ≤ dirty entries
@@ -103,10 +104,10 @@ back-weight page frame = by frame.dirty where
   by false = refl
 
 -- what is done to the blade adds at most so much
-abbrev AddsAtMost : ℕ → BladeView → Effect → Type 0
+abbrev AddsAtMost : ℕ → BladeView → BladeEffect → Type 0
 AddsAtMost n blade effect = blade_weight effect.blade + messages_weight effect.sent ≤ blade_weight blade + n
 
-then-adds : (m n : ℕ) (blade : BladeView) (first : Effect) (next : BladeView → Effect) → AddsAtMost m blade first → AddsAtMost n first.blade (next first.blade)
+then-adds : (m n : ℕ) (blade : BladeView) (first : BladeEffect) (next : BladeView → BladeEffect) → AddsAtMost m blade first → AddsAtMost n first.blade (next first.blade)
     → AddsAtMost (m + n) blade (and_then first next)
 then-adds m n blade first next one two = omega (arith, messages-append first.sent (next first.blade).sent)
 
@@ -129,12 +130,12 @@ lowers-adds page blade = by (frame_of page blade.cache.entries) refl where
       let is : dirty (changed (frame_of page blade.cache.entries)) ≡ dirty (set_value (same_page page) blade.cache.entries (lowered_frame frame)) = ap (λ held. dirty (changed held)) e in
       omega (arith, is, dirty-set page blade.cache.entries frame (lowered_frame frame) e, back-weight page frame)
 
-each-adds : (change : PageView → BladeView → Effect) (pages : List PageView) (blade : BladeView) → ((page : PageView) (b : BladeView) → AddsAtMost 0 b (change page b))
+each-adds : (change : PageView → BladeView → BladeEffect) (pages : List PageView) (blade : BladeView) → ((page : PageView) (b : BladeView) → AddsAtMost 0 b (change page b))
     → AddsAtMost 0 blade (each_in change pages blade)
 each-adds change [] blade all = omega arith
 each-adds change (page ∷ pages) blade all = then-adds 0 0 blade (change page blade) (each_in change pages) (all page blade) (each-adds change pages (change page blade).blade all)
 
-acks-adds : (change : PageView → BladeView → Effect) (pages : List PageView) (number : ℕ) (asked : Option PageView) (blade : BladeView)
+acks-adds : (change : PageView → BladeView → BladeEffect) (pages : List PageView) (number : ℕ) (asked : Option PageView) (blade : BladeView)
     → ((page : PageView) (b : BladeView) → AddsAtMost 0 b (change page b)) → AddsAtMost 1 blade (acknowledging change pages number asked blade)
 acks-adds change pages number asked blade all =
     then-adds 0 1 blade (each_in change pages blade) (λ after. record { blade = after; sent = Ack number (spared asked pages) ∷ []; noted = [] })
@@ -146,9 +147,9 @@ takes-adds page perm writable image blade = by (frame_of page blade.cache.entrie
   new = record { image = image; writable = writable; dirty = false; perm = perm }
 
   by : (held : Option Frame) (last : Option (PageView × Frame)) → frame_of page blade.cache.entries ≡ held → slice_get blade.cache.entries (blade.cache.frames - 1) ≡ last
-      → 3 * dirty (option_map_or (λ old. (page, new) ∷ without page blade.cache.entries) held ((page, new) ∷ take (blade.cache.frames - 1) blade.cache.entries)) + messages_weight (sent_out (put_from held last))
+      → 3 * dirty (option_map_or (λ old. (page, new) ∷ without_page page blade.cache.entries) held ((page, new) ∷ take (blade.cache.frames - 1) blade.cache.entries)) + messages_weight (sent_out (put_from held last))
       ≤ 3 * dirty blade.cache.entries + 0
-  by (Some old) last e f = omega (arith, dirty-cons (page, new) (without page blade.cache.entries), dirty-without page blade.cache.entries old e)
+  by (Some old) last e f = omega (arith, dirty-cons (page, new) (without_page page blade.cache.entries), dirty-without page blade.cache.entries old e)
   by None None e f = omega (arith, dirty-cons (page, new) (take (blade.cache.frames - 1) blade.cache.entries), dirty-take (blade.cache.frames - 1) blade.cache.entries)
   by None (Some last) e f =
       omega (arith, dirty-cons (page, new) (take (blade.cache.frames - 1) blade.cache.entries), dirty-next (blade.cache.frames - 1) blade.cache.entries last f, back-weight last.0 last.1)
@@ -184,21 +185,9 @@ answer-adds Filled h plan found pc blade hart =
     deed-adds (carried_out found (around_held blade.cache.entries h plan.domain) pc (thread_of blade.cache.entries hart)) h plan found blade hart
 answer-adds Denied h plan found pc blade hart = denial-adds (denial_in found) h pc blade hart
 
-with-adds : (answer : Answer) (asked : Need) (h : ℕ) (plan : ThreadPlan) (found : Found) (pc : ℕ) (blade : BladeView) (hart : HartView)
-    → AddsAtMost (most answer) blade (resumed_with answer asked h plan found pc blade hart)
-with-adds answer asked h plan found pc blade hart = by (needs_just asked (need_in found plan.domain) && not (drains_first found hart.queue.stores hart.queue.capacity)) where
-  by : (b : Bool) → AddsAtMost (most answer) blade (if b then answered_by answer h plan found pc blade hart else only blade)
-  by true = answer-adds answer h plan found pc blade hart
-  by false = omega arith
-
-step-adds : (end : End) (answer : Answer) (asked : Need) (images : List Image) (h : ℕ) (plan : ThreadPlan) (blade : BladeView) (hart : HartView)
-    → AddsAtMost (most answer) blade (resumed_at end answer asked images h plan blade hart)
-step-adds (Running pc) answer asked images h plan blade hart = by (slice_get images plan.image) where
-  by : (image : Option Image) → AddsAtMost (most answer) blade (unwrap_or (option_map (λ image. resumed_with answer asked h plan (found image hart.regs pc) pc blade hart) image) (only blade))
-  by None = omega arith
-  by (Some image) = with-adds answer asked h plan (found image hart.regs pc) pc blade hart
-step-adds (Exit value) answer asked images h plan blade hart = omega arith
-step-adds (Fault kind value pc) answer asked images h plan blade hart = omega arith
+step-adds : (answer : Answer) (asked : Need) (images : List Image) (h : ℕ) (plan : ThreadPlan) (blade : BladeView) (hart : HartView) → AddsAtMost (most answer) blade (resumed_at hart.end answer asked images h plan blade hart)
+step-adds answer asked images h plan blade hart =
+    resumes-as (AddsAtMost (most answer) blade) answer asked images h plan blade hart (omega arith) (λ image pc code runs just ready. answer-adds answer h plan (found image hart.regs pc) pc blade hart)
 
 -- a drain whose page is held to be written
 drain-adds : (h : ℕ) (plan : ThreadPlan) (oldest : PendingView) (newer : List PendingView) (blade : BladeView) (hart : HartView)
@@ -226,7 +215,7 @@ resumed-adds answer images asked blade request may = by asked.waits refl answer 
   by : (waits : Waits) → asked.waits ≡ waits → (answer : Answer) → IsRequestBy waits blade.plan.threads blade.harts asked → MayGoOn answer waits asked blade.cache.entries
       → AddsAtMost (most answer) blade (resumed answer images asked blade)
   by Step is answer r may = goes answer r.plan r.hart (record { thread = r.thread; own = r.own; request = request }) Step is
-      (step-adds r.hart.end answer (need_asked asked) images asked.hart r.plan (awaking asked r.hart blade) (awake Step r.hart))
+      (step-adds answer (need_asked asked) images asked.hart r.plan (awaking asked r.hart blade) (awake Step r.hart))
   by Drain is Filled r may = goes Filled r.plan r.hart (record { thread = r.thread; own = r.own; request = request }) Drain is
       (subst (λ stores. AddsAtMost 3 blade (draining_by asked.hart r.plan stores (awaking asked r.hart blade) (awake Drain r.hart))) (sym r.queue)
       (drain-adds asked.hart r.plan r.oldest r.newer (awaking asked r.hart blade) (awake Drain r.hart)
@@ -241,9 +230,9 @@ put-held cache page frame = by (frame_of page cache.entries) where
   first : (rest : Entries) → frame_of page ((page, frame) ∷ rest) ≡ Some frame
   first rest = ap (λ b. cond b (Some frame) (frame_of page rest)) (same_page-refl page)
 
-  by : (held : Option Frame) → frame_of page (option_map_or (λ old. (page, frame) ∷ without page cache.entries) held ((page, frame) ∷ take (cache.frames - 1) cache.entries)) ≡ Some frame
+  by : (held : Option Frame) → frame_of page (option_map_or (λ old. (page, frame) ∷ without_page page cache.entries) held ((page, frame) ∷ take (cache.frames - 1) cache.entries)) ≡ Some frame
   by None = first (take (cache.frames - 1) cache.entries)
-  by (Some old) = first (without page cache.entries)
+  by (Some old) = first (without_page page cache.entries)
 
 fill-adds : (images : List Image) (page : PageView) (perm : Perm) (writable : Bool) (image : PageImageView) (blade : BladeView)
     → AllByRecursion (IsRequest blade.plan.threads blade.harts) blade.requests → IsSomeAnd (request_for page blade.requests) (FitsFill writable)
@@ -270,7 +259,7 @@ deny-adds images page blade requests may = by (request_for page blade.requests) 
   by (Some asked) e step = resumed-adds Denied images asked blade (of_found (IsRequest blade.plan.threads blade.harts) page blade.requests asked requests e).0 step
 
 pub blade_lightens : (images : List Image) (message : Msg) (blade : BladeView)
-    → AllByRecursion (IsRequest blade.plan.threads blade.harts) blade.requests → MayCome blade message
+    → AllByRecursion (IsRequest blade.plan.threads blade.harts) blade.requests → MayComeToBlade blade message
     → blade_weight (after_message images message blade).blade + messages_weight (after_message images message blade).sent + 1 ≤ blade_weight blade + weight_of message
 blade_lightens images (Fill page perm writable image) blade requests may =
     let adds = then-adds 0 3 blade (taken page perm writable image blade) (λ after. resumed_for Filled images (request_for page after.requests) after)
@@ -279,13 +268,4 @@ blade_lightens images (Fill page perm writable image) blade requests may =
 blade_lightens images (Deny page) blade requests may = omega (arith, deny-adds images page blade requests may)
 blade_lightens images (Inv number range asked) blade requests may = omega (arith, acks-adds given_up (held_in range blade) number asked blade gives-adds)
 blade_lightens images (Lower number range asked) blade requests may = omega (arith, acks-adds lowered (writable_in range blade) number (Some asked) blade lowers-adds)
-blade_lightens images (Get page write) blade requests may = absurd may
-blade_lightens images (Back page image) blade requests may = absurd may
-blade_lightens images (Ack number count) blade requests may = absurd may
-blade_lightens images (Close number span ends) blade requests may = absurd may
-blade_lightens images (Closed number) blade requests may = absurd may
-blade_lightens images (Reopen number) blade requests may = absurd may
-blade_lightens images (Read phys for page) blade requests may = absurd may
-blade_lightens images (image_message for page image) blade requests may = absurd may
-blade_lightens images (Write phys image) blade requests may = absurd may
-blade_lightens images (Zero phys pages) blade requests may = absurd may
+blade_lightens images message blade requests may = absurd may

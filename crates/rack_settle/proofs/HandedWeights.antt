@@ -1,6 +1,6 @@
 -- A message that is handed over: the rack weighs less than it did with the message.
 use Rattle.std.proofs.Common.{◌≡◌, refl, sym, ap, subst, ◌∙◌, ℕ, zero, suc, ◌+◌, ◌<◌, ◌≤◌, List, [], ◌∷◌, length, map, slice_get, slice_set, Some, arith}
-use Rattle.std.specs.List.{AllByRecursion, sum}
+use Rattle.std.specs.List.{sum}
 use Rattle.std.proofs.lemmas.List.Sums.{sum_by-cons}
 use Rattle.std.proofs.lemmas.Option.{same_Some}
 use Rattle.mind_base.specs.Page.{PageView}
@@ -12,22 +12,21 @@ use Rattle.mind_base.specs.declared.links.Side.{Side}
 use Rattle.mind_base.specs.declared.notes.Note.{Note}
 use Rattle.page_image.specs.PageImage.{PageImageView}
 use Rattle.wire_msg.specs.declared.msgs.Msg.{Msg}
-use Rattle.compute_blade.specs.Blade as blades
-use Rattle.compute_blade.specs.Blade.{BladeView}
+use Rattle.compute_blade.specs.Blade.{BladeEffect, BladeView}
 use Rattle.compute_blade.specs.Messages.{after_message}
 use Rattle.memory_blade.specs.MemoryBlade as memory
 use Rattle.rack_net.specs.Net.{NetView, IsLinkOf, links_of}
 use Rattle.switch_core.specs.Switch.{place_in}
 use Rattle.coherence.specs.Facts.{IsCoherent}
-use Rattle.rack_core.specs.Events.{HandsTo, HandsAll, Delivers, SwitchHears, on, answers}
-use Rattle.rack_core.specs.Handing.{AsksOn, AskOn}
+use Rattle.rack_core.specs.Events.{HandsTo, HandsAll, Delivers, SwitchHears, on, answer_to_switch}
+use Rattle.rack_core.specs.Handing.{AskOn}
 use Rattle.rack_core.specs.Rack.{RackView, with_net}
 use Rattle.rack_core.specs.Safe.{IsSafe, IsSound}
 use Rattle.rack_core.specs.Seen.{seen}
 use Rattle.rack_core.specs.SwitchMoves.{with_front}
 use Rattle.rack_core.proofs.BladeHanded.{did, handed_may_come}
 use Rattle.rack_core.proofs.Delivering.{gave_on, with_net-sound, asks_taken}
-use Rattle.rack_core.proofs.Handing.{handed_over}
+use Rattle.rack_core.proofs.Handing.{each-handed}
 use Rattle.rack_core.proofs.Sending.{as-many}
 use Rattle.rack_settle.specs.Weight.{weight_of, messages_weight, sent_weight, blade_weight, switch_weight, net_weight, rack_weight}
 use Rattle.rack_settle.proofs.BladeWeights.{blade_lightens}
@@ -74,7 +73,7 @@ blade-lightens images number message rest old new flat noted safe sound hands =
     let does : after_message images message d.blade ≡ d.effect = same_Some (after_message images message d.blade) d.effect d.does in
     let after : rack_weight new ≡ blades_weight (slice_set old.blades number d.effect.blade) + switch_weight old.switch + net_weight d.acts.net = ap rack_weight d.acts.after in
     let node : blade_weight d.effect.blade + messages_weight d.effect.sent + 1 ≤ blade_weight d.blade + weight_of message =
-    subst (λ (e : blades.Effect). blade_weight e.blade + messages_weight e.sent + 1 ≤ blade_weight d.blade + weight_of message) does
+    subst (λ (e : BladeEffect). blade_weight e.blade + messages_weight e.sent + 1 ≤ blade_weight d.blade + weight_of message) does
     (blade_lightens images message d.blade (sound.blades number d.blade d.there).requests (handed_may_come images old flat number d.blade message rest safe sound.blades d.there)) in
     let others : blades_weight (slice_set old.blades number d.effect.blade) + blade_weight d.blade ≡ blades_weight old.blades + blade_weight d.effect.blade =
     blades-set old.blades number d.blade d.effect.blade d.there in
@@ -84,7 +83,7 @@ blade-lightens images number message rest old new flat noted safe sound hands =
 memory-lightens : (images : List Image) (number : ℕ) (message : Msg) (old new : RackView) (noted : List Note) → HandsTo To images number message old new noted
     → rack_weight new + 1 ≤ rack_weight old + weight_of message
 memory-lightens images number message old new noted hears =
-    let sent = answers number (memory.answer_to hears.images message) in
+    let sent = answer_to_switch number (memory.answer_to hears.images message) in
     let after : rack_weight new ≡ blades_weight old.blades + switch_weight old.switch + net_weight hears.net = ap rack_weight hears.after in
     let node : sent_weight sent + 1 ≤ weight_of message = memory_lightens number hears.images message in
     let links : net_weight hears.net ≤ net_weight old.net + sent_weight sent = sends-weigh sent old.net hears.net hears.sent in
@@ -113,7 +112,7 @@ one-as-many images Down number message old new noted hands =
     let d = did number (λ blade. Some (after_message images message blade)) old new noted hands in
     subst (λ (r : RackView). AsManyLinks old.net r.net) (sym d.acts.after) (as-many (on Up number d.effect.sent) old.net d.acts.net d.acts.sent)
 one-as-many images To number message old new noted hands =
-    subst (λ (r : RackView). AsManyLinks old.net r.net) (sym hands.after) (as-many (answers number (memory.answer_to hands.images message)) old.net hands.net hands.sent)
+    subst (λ (r : RackView). AsManyLinks old.net r.net) (sym hands.after) (as-many (answer_to_switch number (memory.answer_to hands.images message)) old.net hands.net hands.sent)
 one-as-many images From number message old new noted hands =
     subst (λ (r : RackView). AsManyLinks old.net r.net) (sym hands.after) (as-many hands.effect.sent old.net hands.net hands.sent)
 
@@ -122,16 +121,12 @@ one-as-many images From number message old new noted hands =
 all-lighten : (images : List Image) (kind : LinkKind) (number : ℕ) (messages : List Msg) (old new : RackView) (flat : PageView → PageImageView) (noted : List Note)
     → IsCoherent (with_front kind number messages (seen old flat)) → IsSound old → number < 8 → AskOn kind (place_in old.switch) number messages
     → HandsAll images (record { kind = kind; number = number }) messages old new noted → rack_weight new + length messages ≤ rack_weight old + messages_weight messages
-all-lighten images kind number [] old new flat noted safe sound lt asks hands =
-    let same : rack_weight new ≡ rack_weight old = ap rack_weight hands.0 in
-    omega (arith, same)
-all-lighten images kind number (message ∷ rest) old new flat noted safe sound lt asks hands =
-    let first = handed_over images kind number message rest old hands.0 flat hands.1 safe sound lt asks.0 hands.3 in
-    let asks_later = subst (λ f. AllByRecursion (AsksOn kind f number) rest) (sym first.places) asks.1 in
-    let one : rack_weight hands.0 + 1 ≤ rack_weight old + weight_of message = one-lightens images kind number message rest old hands.0 flat hands.1 safe sound hands.3 in
-    let later : rack_weight new + length rest ≤ rack_weight hands.0 + messages_weight rest =
-    all-lighten images kind number rest hands.0 new first.flat hands.2 first.coherent first.sound lt asks_later hands.4 in
-    omega (arith, one, later, messages-cons message rest)
+all-lighten images kind number =
+    each-handed images kind number (λ messages old new noted. rack_weight new + length messages ≤ rack_weight old + messages_weight messages)
+    (λ old new noted same none. let weight : rack_weight new ≡ rack_weight old = ap rack_weight same in omega (arith, weight))
+    (λ message rest old mid new flat first later safe sound hands lighter.
+    let one : rack_weight mid + 1 ≤ rack_weight old + weight_of message = one-lightens images kind number message rest old mid flat first safe sound hands in
+    omega (arith, one, lighter, messages-cons message rest))
 
 all-as-many : (images : List Image) (name : LinkName) (messages : List Msg) (old new : RackView) (noted : List Note) → HandsAll images name messages old new noted → AsManyLinks old.net new.net
 all-as-many images name [] old new noted hands = subst (λ (r : RackView). AsManyLinks old.net r.net) (sym hands.0) (refl, refl)

@@ -1,9 +1,9 @@
 -- Lists with the same elements in any order.
-use Rattle.std.proofs.Common.{◌≡◌, ℕ, zero, suc, ap, sym, refl, subst, List, [], ◌∷◌, ◌++◌, length, slice_get, slice_set, Some, arith}
+use Rattle.std.proofs.Common.{◌≡◌, ℕ, zero, suc, ap, sym, refl, subst, List, [], ◌∷◌, ◌++◌, slice_get, slice_set, Some, arith}
 use Rattle.std.specs.Prelude.{All}
 use Rattle.std.specs.List.{flat_map}
 use Rattle.std.specs.List.Sorted.{IsPermutation}
-use Rattle.std.proofs.lemmas.List.{append_assoc}
+use Rattle.std.proofs.lemmas.List.{append_assoc, nil_from_length}
 use Rattle.std.proofs.lemmas.List.Sorted.{IsPermutation-append_comm, IsPermutation-append_left, IsPermutation-append_right, IsPermutation-trans, All-permutation, length_permutation}
 use Rattle.std.proofs.lemmas.Option.{same_Some}
 
@@ -46,12 +46,8 @@ both-changed first later asked more before mid after one two =
 
 -- ---- few elements
 
-no-more : {X : Type 0} (xs : List X) → length xs ≡ 0 → xs ≡ []
-no-more [] e = refl
-no-more (x ∷ xs) e = let never : ⊥ = omega (arith, e) in absurd never
-
 pub only-none : {X : Type 0} (xs : List X) → IsPermutation xs [] → xs ≡ []
-only-none xs same = no-more xs (sym (length_permutation xs [] same))
+only-none xs same = nil_from_length xs (sym (length_permutation xs [] same))
 
 itself : {X : Type 0} (y : X) → All (λ z. z ≡ y) (y ∷ [])
 itself y zero d below = refl

@@ -16,19 +16,19 @@ use Rattle.mind_base.specs.declared.notes.Note.TheVariants as note
 use Rattle.mind_base.specs.declared.plans.ThreadPlan.{ThreadPlan}
 use Rattle.hart_effect.specs.Deed.{Deed, found, carried_out}
 use Rattle.hart_effect.specs.declared.finds.Found.{Found}
-use Rattle.page_cache.specs.PageCache.{CacheView, IsPageCache, same_page, frame_of, entries_after_put, put_of}
+use Rattle.page_cache.specs.PageCache.{CacheView, IsPageCache, same_page, frame_of, entries_after_put, put_of, is_writable}
 use Rattle.page_cache.specs.declared.frames.Frame.{Frame}
 use Rattle.page_cache.specs.declared.frames.Put.{Put}
 use Rattle.page_cache.specs.declared.frames.Put.TheVariants.{Fresh, Replaced, Pushed}
 use Rattle.page_cache.proofs.Laws.{same_page-refl, same_page-true}
 use Rattle.wire_msg.specs.declared.msgs.Msg.{Msg}
-use Rattle.wire_msg.specs.declared.msgs.Msg.TheVariants.{Get, Fill, Deny, Back, Inv, Lower, Ack, Close, Closed, Reopen, Read, Image as image_message, Write, Zero}
-use Rattle.compute_blade.specs.Blade.{HartView, BladeView, Effect, with_entries, request_for, answered}
+use Rattle.wire_msg.specs.declared.msgs.Msg.TheVariants.{Fill, Deny, Inv, Lower}
+use Rattle.compute_blade.specs.Blade.{HartView, BladeView, BladeEffect, with_frames, request_for, requests_without}
 use Rattle.compute_blade.specs.Denials.{denial_in, refused_by}
 use Rattle.compute_blade.specs.Frames.{around_held, thread_of}
-use Rattle.compute_blade.specs.Messages.{FitsFill, MayCome, after_message, answered_by, awake, need_asked, resumed, resumed_by, resumed_for}
+use Rattle.compute_blade.specs.Messages.{FitsFill, MayComeToBlade, after_message, answered_by, awake, need_asked, resumed, resumed_by, resumed_for}
 use Rattle.compute_blade.specs.Pages.{given_up, giving_up, lowered, lowering, each_in, held_in, writable_in, noted_out}
-use Rattle.compute_blade.specs.Steps.{asking, drained, draining_by, is_writable, performed, performed_by}
+use Rattle.compute_blade.specs.Steps.{asking, drained, draining_by, performed, performed_by}
 use Rattle.compute_blade.specs.declared.kept.Answer.{Answer}
 use Rattle.compute_blade.specs.declared.kept.Answer.TheVariants.{Filled, Denied}
 use Rattle.compute_blade.specs.declared.kept.Asked.{Asked}
@@ -57,18 +57,18 @@ pub record IsLeft (old new : BladeView) : Type 0 where
   pub free : new.requests ≡ []
 
 -- what the blade notes and what it owes then is what it owed
-pub record Pays (blade : BladeView) (e : Effect) : Type 0 where
+pub record Pays (blade : BladeView) (e : BladeEffect) : Type 0 where
   pub same : IsPermutation (labels e.noted ++ owed_by e.blade) (owed_by blade)
   pub rests : blade.requests ≡ [] → IsLeft blade e.blade
 
 -- nothing is performed: no label is noted, and the harts and what waits stay
-pub record IsSilent (blade : BladeView) (e : Effect) : Type 0 where
+pub record IsSilent (blade : BladeView) (e : BladeEffect) : Type 0 where
   pub silent : labels e.noted ≡ []
   pub requests : e.blade.requests ≡ blade.requests
   pub harts : e.blade.harts ≡ blade.harts
   pub plan : e.blade.plan ≡ blade.plan
 
-pub silent-pays : (blade : BladeView) (e : Effect) → IsSilent blade e → Pays blade e
+pub silent-pays : (blade : BladeView) (e : BladeEffect) → IsSilent blade e → Pays blade e
 silent-pays blade e is = record {
   same = subst (λ l. IsPermutation l (owed_by blade)) (λ i. sym is.silent i ++ map owed_for (sym is.requests i)) (IsPermutation-refl (owed_by blade));
   rests = λ free. record { plan = is.plan; harts = is.harts; free = is.requests ∙ free };
@@ -88,7 +88,7 @@ lowers-silent page blade = by (frame_of page blade.cache.entries) where
   by None = record { silent = refl; requests = refl; harts = refl; plan = refl }
   by (Some frame) = record { silent = refl; requests = refl; harts = refl; plan = refl }
 
-each-silent : (change : PageView → BladeView → Effect) → ((page : PageView) (blade : BladeView) → IsSilent blade (change page blade)) → (pages : List PageView) (blade : BladeView)
+each-silent : (change : PageView → BladeView → BladeEffect) → ((page : PageView) (blade : BladeView) → IsSilent blade (change page blade)) → (pages : List PageView) (blade : BladeView)
     → IsSilent blade (each_in change pages blade)
 each-silent change one [] blade = record { silent = refl; requests = refl; harts = refl; plan = refl }
 each-silent change one (page ∷ pages) blade =
@@ -102,39 +102,39 @@ each-silent change one (page ∷ pages) blade =
     }
 
 -- the acknowledgement is no label
-then-silent : (blade : BladeView) (e : Effect) (last : List Note) → IsSilent blade e → labels last ≡ [] → labels (e.noted ++ last) ≡ []
+then-silent : (blade : BladeView) (e : BladeEffect) (last : List Note) → IsSilent blade e → labels last ≡ [] → labels (e.noted ++ last) ≡ []
 then-silent blade e last is quiet = filter_map-append label_of e.noted last ∙ (λ i. is.silent i ++ quiet i)
 
 -- ---- a request ends
 
-none-for : (page : PageView) (requests : List Asked) → AllByRecursion (λ other. same_page page other.page ≡ false) requests → answered page requests ≡ requests
+none-for : (page : PageView) (requests : List Asked) → AllByRecursion (λ other. same_page page other.page ≡ false) requests → requests_without page requests ≡ requests
 none-for page [] all = refl
 none-for page (first ∷ requests) all =
-    ap (λ b. cond (not b) (first ∷ answered page requests) (answered page requests)) all.0 ∙ ap (λ rest. first ∷ rest) (none-for page requests all.1)
+    ap (λ b. cond (not b) (first ∷ requests_without page requests) (requests_without page requests)) all.0 ∙ ap (λ rest. first ∷ rest) (none-for page requests all.1)
 
 -- the one that ends and those that are left are all that there were
 ends-one : (page : PageView) (requests : List Asked) (asked : Asked) → AreRequestsApart requests → request_for page requests ≡ Some asked
-    → IsPermutation (owed_for asked ∷ map owed_for (answered page requests)) (map owed_for requests)
+    → IsPermutation (owed_for asked ∷ map owed_for (requests_without page requests)) (map owed_for requests)
 ends-one page [] asked apart e = let never : ⊥ = cc in absurd never
 ends-one page (first ∷ requests) asked apart e = by (ends-one page requests asked apart.1) (same_page page first.page) refl e where
   swapped : (a b : Label) (ls : List Label) → IsPermutation (a ∷ b ∷ ls) (b ∷ a ∷ ls)
   swapped a b ls = IsPermutation-middle (a ∷ []) b ls
 
-  by : (request_for page requests ≡ Some asked → IsPermutation (owed_for asked ∷ map owed_for (answered page requests)) (map owed_for requests))
+  by : (request_for page requests ≡ Some asked → IsPermutation (owed_for asked ∷ map owed_for (requests_without page requests)) (map owed_for requests))
       → (b : Bool) → same_page page first.page ≡ b → cond b (Some first) (request_for page requests) ≡ Some asked
-      → IsPermutation (owed_for asked ∷ map owed_for (cond (not b) (first ∷ answered page requests) (answered page requests))) (owed_for first ∷ map owed_for requests)
+      → IsPermutation (owed_for asked ∷ map owed_for (cond (not b) (first ∷ requests_without page requests) (requests_without page requests))) (owed_for first ∷ map owed_for requests)
   by rest true s e =
       let none = none-for page requests (subst (λ p. AllByRecursion (λ other. same_page p other.page ≡ false) requests) (sym (same_page-true page first.page s)) apart.0) in
       subst (λ l. IsPermutation l (owed_for first ∷ map owed_for requests)) (λ i. owed_for (same_Some _ _ e i) ∷ map owed_for (sym none i)) (IsPermutation-refl (owed_for first ∷ map owed_for requests))
   by rest false s e =
-      IsPermutation-trans _ _ _ (swapped (owed_for asked) (owed_for first) (map owed_for (answered page requests))) (IsPermutation-cons (owed_for first) _ _ (rest e))
+      IsPermutation-trans _ _ _ (swapped (owed_for asked) (owed_for first) (map owed_for (requests_without page requests))) (IsPermutation-cons (owed_for first) _ _ (rest e))
 
 -- what waited for a request is performed, and the request is out no longer
-record Ended (asked : Asked) (blade : BladeView) (e : Effect) : Type 0 where
+record Ended (asked : Asked) (blade : BladeView) (e : BladeEffect) : Type 0 where
   label : labels e.noted ≡ owed_for asked ∷ []
-  left : e.blade.requests ≡ answered asked.page blade.requests
+  left : e.blade.requests ≡ requests_without asked.page blade.requests
 
-ended-pays : (page : PageView) (asked : Asked) (blade : BladeView) (e : Effect) → AreRequestsApart blade.requests → request_for page blade.requests ≡ Some asked → Ended asked blade e → Pays blade e
+ended-pays : (page : PageView) (asked : Asked) (blade : BladeView) (e : BladeEffect) → AreRequestsApart blade.requests → request_for page blade.requests ≡ Some asked → Ended asked blade e → Pays blade e
 ended-pays page asked blade e apart out ended = record {
   same = subst (λ l. IsPermutation l (owed_by blade)) (λ i. sym ended.label i ++ map owed_for (sym left i)) (ends-one page blade.requests asked apart out);
   rests = λ free. let none : None ≡ Some asked = sym (ap (request_for page) free) ∙ out in let never : ⊥ = cc in absurd never;
@@ -143,8 +143,8 @@ ended-pays page asked blade e apart out ended = record {
   all-units [] = tt
   all-units (first ∷ requests) = (tt, all-units requests)
 
-  left : e.blade.requests ≡ answered page blade.requests
-  left = ended.left ∙ ap (λ q. answered q blade.requests) (of_found (λ other. Unit {0}) page blade.requests asked (all-units blade.requests) out).1
+  left : e.blade.requests ≡ requests_without page blade.requests
+  left = ended.left ∙ ap (λ q. requests_without q blade.requests) (of_found (λ other. Unit {0}) page blade.requests asked (all-units blade.requests) out).1
 
 -- ---- a step goes on
 
@@ -162,13 +162,13 @@ answered-left Denied h plan found pc blade hart = by (denial_in found) where
   by (Some denial) = refl
 
 steps-on : (answer : Answer) (images : List Image) (perms : PageView → Perm) (blade : BladeView) (page : PageView) (asked : Asked) (entries : Entries) → IsSoundBlade perms blade → IsNeeded images blade
-    → request_for page blade.requests ≡ Some asked → asked.waits ≡ Step → Ended asked blade (resumed answer images asked (with_entries blade entries))
+    → request_for page blade.requests ≡ Some asked → asked.waits ≡ Step → Ended asked blade (resumed answer images asked (with_frames blade entries))
 steps-on answer images perms blade page asked entries sound is out step =
     let goes = resumes answer images perms blade page asked entries sound is out step in
     record {
       label = ap labels goes.label ∙ ap (λ w. waiting_label w asked.hart ∷ []) (sym step);
-      left = ap (λ (e : Effect). e.blade.requests) goes.does
-          ∙ answered-left answer asked.hart goes.plan (found goes.image goes.hart.regs goes.pc) goes.pc (woken_for asked goes.hart (with_entries blade entries)) (awake Step goes.hart);
+      left = ap (λ (e : BladeEffect). e.blade.requests) goes.does
+          ∙ answered-left answer asked.hart goes.plan (found goes.image goes.hart.regs goes.pc) goes.pc (woken_for asked goes.hart (with_frames blade entries)) (awake Step goes.hart);
     }
 
 -- ---- a drain goes on
@@ -178,7 +178,7 @@ drains-on : (h : ℕ) (plan : ThreadPlan) (oldest : PendingView) (newer : List P
     → is_writable (frame_of (page_at (place_of plan.domain oldest.address)) blade.cache.entries) ≡ true
     → (labels (draining_by h plan (oldest ∷ newer) blade hart).noted ≡ label.Drain h ∷ []) × ((draining_by h plan (oldest ∷ newer) blade hart).blade.requests ≡ blade.requests)
 drains-on h plan oldest newer blade hart held =
-    let effect : Bool → Effect = λ b. if b then drained h plan oldest newer blade hart else asking h Drain (record { page = page_at (place_of plan.domain oldest.address); write = true }) blade hart in
+    let effect : Bool → BladeEffect = λ b. if b then drained h plan oldest newer blade hart else asking h Drain (record { page = page_at (place_of plan.domain oldest.address); write = true }) blade hart in
     (ap (λ b. labels (effect b).noted) held, ap (λ b. (effect b).blade.requests) held)
 
 -- a page that came is held as it came
@@ -192,14 +192,14 @@ held-put cache page frame is = by (put_of cache page) refl where
 
 filled-drains : (images : List Image) (perms : PageView → Perm) (blade : BladeView) (page : PageView) (asked : Asked) (frame : Frame) → IsSoundBlade perms blade
     → request_for page blade.requests ≡ Some asked → (asked.write ≡ true → frame.writable ≡ true) → asked.waits ≡ Drain
-    → Ended asked blade (resumed Filled images asked (with_entries blade (entries_after_put blade.cache page frame)))
+    → Ended asked blade (resumed Filled images asked (with_frames blade (entries_after_put blade.cache page frame)))
 unfolding awaking
 filled-drains images perms blade page asked frame sound out fits drain = record {
-  label = ap (λ (e : Effect). labels e.noted) does ∙ goes.0 ∙ ap (λ w. waiting_label w asked.hart ∷ []) (sym drain);
-  left = ap (λ (e : Effect). e.blade.requests) does ∙ goes.1;
+  label = ap (λ (e : BladeEffect). labels e.noted) does ∙ goes.0 ∙ ap (λ w. waiting_label w asked.hart ∷ []) (sym drain);
+  left = ap (λ (e : BladeEffect). e.blade.requests) does ∙ goes.1;
 } where
   mid : BladeView
-  mid = with_entries blade (entries_after_put blade.cache page frame)
+  mid = with_frames blade (entries_after_put blade.cache page frame)
 
   its : IsRequest blade.plan.threads blade.harts asked × (asked.page ≡ page)
   its = of_found (IsRequest blade.plan.threads blade.harts) page blade.requests asked sound.requests out
@@ -214,7 +214,7 @@ filled-drains images perms blade page asked frame sound out fits drain = record 
   held = ap (λ q. is_writable (frame_of q (entries_after_put blade.cache page frame))) (r.page ∙ its.1) ∙ ap is_writable (held-put blade.cache page frame sound.cache) ∙ fits r.write
 
   goes : (labels (draining_by asked.hart r.plan (r.oldest ∷ r.newer) (awaking asked r.hart mid) (awake Drain r.hart)).noted ≡ label.Drain asked.hart ∷ [])
-      × ((draining_by asked.hart r.plan (r.oldest ∷ r.newer) (awaking asked r.hart mid) (awake Drain r.hart)).blade.requests ≡ answered asked.page blade.requests)
+      × ((draining_by asked.hart r.plan (r.oldest ∷ r.newer) (awaking asked r.hart mid) (awake Drain r.hart)).blade.requests ≡ requests_without asked.page blade.requests)
   goes = drains-on asked.hart r.plan r.oldest r.newer (awaking asked r.hart mid) (awake Drain r.hart) held
 
   does : resumed Filled images asked mid ≡ draining_by asked.hart r.plan (r.oldest ∷ r.newer) (awaking asked r.hart mid) (awake Drain r.hart)
@@ -224,7 +224,7 @@ filled-drains images perms blade page asked frame sound out fits drain = record 
 
 -- ---- messages
 
-pub message-pays : (images : List Image) (perms : PageView → Perm) (blade : BladeView) (message : Msg) → IsSoundBlade perms blade → IsNeeded images blade → MayCome blade message
+pub message-pays : (images : List Image) (perms : PageView → Perm) (blade : BladeView) (message : Msg) → IsSoundBlade perms blade → IsNeeded images blade → MayComeToBlade blade message
     → Pays blade (after_message images message blade)
 message-pays images perms blade (Fill page perm writable image) sound is may =
     ended-pays page asked blade (after_message images (Fill page perm writable image) blade) sound.apart out (record {
@@ -238,7 +238,7 @@ message-pays images perms blade (Fill page perm writable image) sound is may =
     frame = record { image = image; writable = writable; dirty = false; perm = perm }
 
     mid : BladeView
-    mid = with_entries blade (entries_after_put blade.cache page frame)
+    mid = with_frames blade (entries_after_put blade.cache page frame)
 
     first : List Note
     first = noted_out blade.number (put_of blade.cache page) ++ note.Take blade.number page writable ∷ []
@@ -269,13 +269,4 @@ message-pays images perms blade (Lower number range asked) sound is may =
     let each = each-silent lowered lowers-silent (writable_in range blade) blade in
     silent-pays blade (after_message images (Lower number range asked) blade)
     (record { silent = then-silent blade (each_in lowered (writable_in range blade) blade) [] each refl; requests = each.requests; harts = each.harts; plan = each.plan })
-message-pays images perms blade (Get page write) sound is may = absurd may
-message-pays images perms blade (Back page image) sound is may = absurd may
-message-pays images perms blade (Ack number count) sound is may = absurd may
-message-pays images perms blade (Close number span ends) sound is may = absurd may
-message-pays images perms blade (Closed number) sound is may = absurd may
-message-pays images perms blade (Reopen number) sound is may = absurd may
-message-pays images perms blade (Read phys of page) sound is may = absurd may
-message-pays images perms blade (image_message of page image) sound is may = absurd may
-message-pays images perms blade (Write phys image) sound is may = absurd may
-message-pays images perms blade (Zero phys pages) sound is may = absurd may
+message-pays images perms blade message sound is may = absurd may

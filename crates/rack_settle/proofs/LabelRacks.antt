@@ -22,10 +22,10 @@ use Rattle.hart_effect.specs.Thread.{Thread}
 use Rattle.page_image.specs.PageImage.{PageImageView}
 use Rattle.protect_table.specs.Protect.{permission_at}
 use Rattle.wire_msg.specs.declared.msgs.Msg.{Msg}
-use Rattle.compute_blade.specs.Blade.{HartView, BladeView, Effect, hart_of}
+use Rattle.compute_blade.specs.Blade.{HartView, BladeView, BladeEffect, hart_of}
 use Rattle.compute_blade.specs.Messages.{after_message}
 use Rattle.compute_blade.specs.Pages.{given_up}
-use Rattle.compute_blade.specs.Steps.{step_at, drain_of, after_step, after_drain}
+use Rattle.compute_blade.specs.Steps.{step_at, drain_of, after_step, blade_after_drain}
 use Rattle.coherence.specs.Facts.{IsCoherent}
 use Rattle.coherence.proofs.Whole.{run_keeps}
 use Rattle.tso_machine.specs.Replay.{label_of, labels}
@@ -48,12 +48,12 @@ use Rattle.rack_core.proofs.BladeSteps.{OfHart, for_hart-some}
 use Rattle.rack_core.proofs.Delivering.{gave_on}
 use Rattle.rack_core.proofs.Lookups.{slice_get-set, slice_get-set_other}
 use Rattle.rack_core.proofs.StandSilent.{receives-silent}
-use Rattle.rack_core.proofs.SwitchLookups.{all-got}
 use Rattle.rack_core.proofs.WaitsMessages.{message_keeps}
 use Rattle.rack_settle.specs.Labels.{asked_blade, asked_labels, owed, owed_by, owed_for, AsksNothing}
 use Rattle.rack_settle.proofs.LabelLists.{both-changed, one-changed}
 use Rattle.rack_settle.proofs.LabelMessages.{IsLeft, Pays, gives-silent, message-pays, silent-pays}
 use Rattle.rack_settle.proofs.LabelSteps.{comes_of, drain-comes, step-comes}
+use Rattle.switch_core.proofs.Lists.{all-at}
 
 -- ---- one thing after another
 
@@ -97,7 +97,7 @@ from-net net old new noted does = record { same = does.same; plan = does.plan; r
 -- ---- one blade does something
 
 -- Elsewhere are other blades, or what was done left the blade alone where it owed nothing.
-acts-does : (asked : List Label) (Elsewhere : ℕ → Type 0) (n : ℕ) (blade : BladeView) (e : Effect) (old new : RackView) (noted : List Note) → slice_get old.blades n ≡ Some blade → BladeActs n e old new noted
+acts-does : (asked : List Label) (Elsewhere : ℕ → Type 0) (n : ℕ) (blade : BladeView) (e : BladeEffect) (old new : RackView) (noted : List Note) → slice_get old.blades n ≡ Some blade → BladeActs n e old new noted
     → IsPermutation (comes_of e) (asked ++ owed_by blade) → (Elsewhere n → blade.requests ≡ [] → IsLeft blade e.blade) → Does asked Elsewhere old new noted
 acts-does asked Elsewhere n blade e old new noted there acts same left = record {
   same = subst (λ l. IsPermutation l (asked ++ owed old)) (λ i. labels (sym acts.notes i) ++ owed (sym acts.after i)) (one-changed owed_by (labels e.noted) asked old.blades n blade e.blade there same);
@@ -113,8 +113,8 @@ acts-does asked Elsewhere n blade e old new noted there acts same left = record 
   by c now apart is false s =
       (now, sym (slice_get-set_other old.blades n e.blade c s) ∙ ap (λ (r : RackView). slice_get r.blades c) (sym acts.after) ∙ is, λ free. record { plan = refl; harts = refl; free = free })
 
-pays-does : (n : ℕ) (act : BladeView → Option Effect) (old new : RackView) (noted : List Note)
-    → ((blade : BladeView) (e : Effect) → slice_get old.blades n ≡ Some blade → act blade ≡ Some e → Pays blade e) → BladeDoes n act old new noted → Does [] Any old new noted
+pays-does : (n : ℕ) (act : BladeView → Option BladeEffect) (old new : RackView) (noted : List Note)
+    → ((blade : BladeView) (e : BladeEffect) → slice_get old.blades n ≡ Some blade → act blade ≡ Some e → Pays blade e) → BladeDoes n act old new noted → Does [] Any old new noted
 pays-does n act old new noted each does =
     let d = did n act old new noted does in
     let pays = each d.blade d.effect d.there d.does in
@@ -127,13 +127,13 @@ blade-hears : (images : List Image) (n : ℕ) (taken : List Msg) (old new : Rack
 blade-hears images n [] old new flat noted coherent sound all hands = does-nothing old new noted (ap (λ (r : RackView). r.plan) hands.0) (ap (λ (r : RackView). r.blades) hands.0) (ap labels hands.1)
 blade-hears images n (message ∷ rest) old new flat noted coherent sound all hands =
     let mid = hands.0 in
-    let act : BladeView → Option Effect = λ blade. Some (after_message images message blade) in
+    let act : BladeView → Option BladeEffect = λ blade. Some (after_message images message blade) in
     let led = blade_handed images old mid flat n message rest hands.1 coherent sound hands.3 in
     let first = pays-does n act old mid hands.1
     (λ blade e there does. subst (Pays blade) (same_Some _ _ does) (message-pays images (permission_at old.switch.protect) blade message (sound n blade there) (all n blade there)
     (handed_may_come images old flat n blade message rest coherent sound there))) hands.3 in
     let needed = blade_keeps images n act old mid hands.1
-    (λ blade e there its does. subst (λ (x : Effect). IsNeeded images x.blade) (same_Some _ _ does) (message_keeps images (permission_at old.switch.protect) blade message (sound n blade there)
+    (λ blade e there its does. subst (λ (x : BladeEffect). IsNeeded images x.blade) (same_Some _ _ does) (message_keeps images (permission_at old.switch.protect) blade message (sound n blade there)
     (handed_may_come images old flat n blade message rest coherent sound there) (all n blade there))) all hands.3 in
     let later = blade-hears images n rest mid new led.leads.flat hands.2
     (run_keeps (handing n (message ∷ rest) (seen old flat)) (handing n rest (seen mid led.leads.flat)) led.leads.moves coherent led.leads.run) led.leads.sound needed hands.4 in
@@ -204,9 +204,9 @@ abbrev pub NotOf : RackView → Event → ℕ → Type 0
 NotOf rack event c = asked_blade rack.plan event ≡ Some c → ⊥
 
 -- what a hart of a blade that owes nothing does, where its label is what comes of it
-hart-does : (event : Event) (h : ℕ) (act : BladeView → Option Effect) (asked : List Label) (old new : RackView) (noted : List Note)
+hart-does : (event : Event) (h : ℕ) (act : BladeView → Option BladeEffect) (asked : List Label) (old new : RackView) (noted : List Note)
     → asked_blade old.plan event ≡ option_map (λ (t : ThreadPlan). t.blade) (slice_get old.plan.threads h)
-    → ((thread : ThreadPlan) (blade : BladeView) (e : Effect) → slice_get old.plan.threads h ≡ Some thread → slice_get old.blades thread.blade ≡ Some blade → act blade ≡ Some e
+    → ((thread : ThreadPlan) (blade : BladeView) (e : BladeEffect) → slice_get old.plan.threads h ≡ Some thread → slice_get old.blades thread.blade ≡ Some blade → act blade ≡ Some e
     → (comes_of e ≡ asked) × (blade.requests ≡ []))
     → HartDoes (slice_get old.plan.threads h) act old new noted → Does asked (NotOf old event) old new noted
 hart-does event h act asked old new noted its comes does = by (slice_get old.plan.threads h) refl does where
@@ -220,7 +220,7 @@ hart-does event h act asked old new noted its comes does = by (slice_get old.pla
       (subst (λ l. IsPermutation l (asked ++ owed_by d.blade)) (sym (c.0 ∙ nothing)) (IsPermutation-refl (asked ++ owed_by d.blade)))
       (λ apart free. absurd (apart (its ∙ ap (option_map (λ (t : ThreadPlan). t.blade)) planned)))
 
-step-label : (images : List Image) (setup : Setup) (threads : List Thread) (flat : PageView → PageImageView) (old : RackView) (h : ℕ) (thread : ThreadPlan) (blade : BladeView) (e : Effect)
+step-label : (images : List Image) (setup : Setup) (threads : List Thread) (flat : PageView → PageImageView) (old : RackView) (h : ℕ) (thread : ThreadPlan) (blade : BladeView) (e : BladeEffect)
     → FitsSetup images setup old → AreBladesSound old → AreNeeded images old → slice_get old.blades thread.blade ≡ Some blade → IsReadyAt threads flat old h blade
     → after_step images h blade ≡ Some e → comes_of e ≡ option_to_list (step_label setup threads h)
 step-label images setup threads flat old h thread blade e fits sound all there ready does = by (slice_get images o.plan.image) refl o.does where
@@ -240,13 +240,13 @@ step-label images setup threads flat old h thread blade e fits sound all there r
         free = ready.free;
         own = o.own;
         places = ((all thread.blade blade there).queues h o.plan o.hart o.thread o.own).places;
-        some = (all-got (IsFitThread (length old.plan.frames) (length old.plan.images)) old.plan.threads h o.plan fits.fit.each_thread planned).queue.0;
+        some = (all-at (IsFitThread (length old.plan.frames) (length old.plan.images)) old.plan.threads h o.plan fits.fit.each_thread planned).queue.0;
       }) o.hart.end
       ∙ ap option_to_list (sym (looked-up (λ image thread plan. label_at thread.end image thread plan.queue h) setup threads h o.plan image (machine_thread flat o.hart)
       (ap (λ p. slice_get p.threads h) fits.plan ∙ planned) (ap (λ all. slice_get all o.plan.image) fits.code ∙ code) (ready.stands o.hart o.own)))
 
-drain-label : (images : List Image) (threads : List Thread) (flat : PageView → PageImageView) (old : RackView) (h : ℕ) (thread : ThreadPlan) (blade : BladeView) (e : Effect)
-    → AreBladesSound old → slice_get old.blades thread.blade ≡ Some blade → IsReadyAt threads flat old h blade → after_drain h blade ≡ Some e → comes_of e ≡ option_to_list (drain_label threads h)
+drain-label : (images : List Image) (threads : List Thread) (flat : PageView → PageImageView) (old : RackView) (h : ℕ) (thread : ThreadPlan) (blade : BladeView) (e : BladeEffect)
+    → AreBladesSound old → slice_get old.blades thread.blade ≡ Some blade → IsReadyAt threads flat old h blade → blade_after_drain h blade ≡ Some e → comes_of e ≡ option_to_list (drain_label threads h)
 drain-label images threads flat old h thread blade e sound there ready does =
     let o = for_hart-some blade h (λ plan hart. Some (drain_of h plan blade hart)) e does in
     ap comes_of (sym (same_Some _ _ o.does))
@@ -261,5 +261,5 @@ step-asks images setup threads flat h old new noted fits sound all ready given =
 
 pub drain-asks : (images : List Image) (setup : Setup) (threads : List Thread) (flat : PageView → PageImageView) (h : ℕ) (old new : RackView) (noted : List Note)
     → AreBladesSound old → IsReady threads flat old h → Leads images (Drain h) old new noted → Does (asked_labels setup threads (Drain h)) (NotOf old (Drain h)) old new noted
-drain-asks images setup threads flat h old new noted sound ready given = hart-does (Drain h) h (after_drain h) (option_to_list (drain_label threads h)) old new noted refl
+drain-asks images setup threads flat h old new noted sound ready given = hart-does (Drain h) h (blade_after_drain h) (option_to_list (drain_label threads h)) old new noted refl
     (λ thread blade e planned there does. let is = ready thread blade planned there in (drain-label images threads flat old h thread blade e sound there is does, is.free)) given

@@ -36,6 +36,7 @@ use Rattle.rack_core.proofs.StandLogs.{runs-log}
 use Rattle.rack_core.proofs.StandStarts.{start-logs}
 use Rattle.rack_core.proofs.WaitsRuns.{event_needs, run_needs, start_needs}
 use Rattle.rack_core.proofs.Whole.{event_keeps, run_keeps-all}
+use Rattle.rack_core.proofs.Lists.{append-none}
 use Rattle.rack_settle.specs.Labels.{owed, owed_by, owed_for, OwesNothingFor, asked_labels, all_asked, AsksNothing, AskNothing, asked_blade, IsOneEach, LeadsAndSettles, SettlesEach, threads_in, asked_after, settled_labels}
 use Rattle.rack_settle.proofs.LabelLists.{only-none, only-one}
 use Rattle.rack_settle.proofs.LabelMessages.{IsLeft}
@@ -47,15 +48,11 @@ no-label : (requests : List Asked) → map owed_for requests ≡ [] → requests
 no-label [] e = refl
 no-label (first ∷ requests) e = let never : ⊥ = cc in absurd never
 
-no-part : {X : Type 0} (xs ys : List X) → xs ++ ys ≡ [] → (xs ≡ []) × (ys ≡ [])
-no-part [] ys e = (refl, e)
-no-part (x ∷ xs) ys e = let never : ⊥ = cc in absurd never
-
 none-owed : (blades : List BladeView) (c : ℕ) (blade : BladeView) → flat_map owed_by blades ≡ [] → slice_get blades c ≡ Some blade → blade.requests ≡ []
 none-owed [] c blade e there = let never : ⊥ = cc in absurd never
 none-owed (first ∷ blades) zero blade e there =
-    subst (λ (b : BladeView). b.requests ≡ []) (same_Some _ _ there) (no-label first.requests (no-part (owed_by first) (flat_map owed_by blades) e).0)
-none-owed (first ∷ blades) (suc c) blade e there = none-owed blades c blade (no-part (owed_by first) (flat_map owed_by blades) e).1 there
+    subst (λ (b : BladeView). b.requests ≡ []) (same_Some _ _ there) (no-label first.requests (append-none (owed_by first) (flat_map owed_by blades) e).0)
+none-owed (first ∷ blades) (suc c) blade e there = none-owed blades c blade (append-none (owed_by first) (flat_map owed_by blades) e).1 there
 
 quiet-all : (blades : List BladeView) → All (λ blade. blade.requests ≡ []) blades → flat_map owed_by blades ≡ []
 quiet-all [] all = refl

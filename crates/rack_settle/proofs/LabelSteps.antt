@@ -15,12 +15,12 @@ use Rattle.mind_base.specs.declared.plans.ThreadPlan.{ThreadPlan}
 use Rattle.hart_effect.specs.Deed.{found, drains_first, holds_stores, is_store, wants_empty}
 use Rattle.hart_effect.specs.declared.finds.Found.{Found}
 use Rattle.hart_effect.specs.declared.finds.Found.TheVariants.{Outside, Unknown, Asks}
-use Rattle.page_cache.specs.PageCache.{frame_of}
+use Rattle.page_cache.specs.PageCache.{frame_of, is_writable}
 use Rattle.page_image.specs.PageImage.{PageImageView}
 use Rattle.wire_msg.specs.declared.msgs.Msg.TheVariants.{Get}
-use Rattle.compute_blade.specs.Blade.{HartView, BladeView, Effect, with_hart, is_asked, only}
+use Rattle.compute_blade.specs.Blade.{HartView, BladeView, BladeEffect, with_hart, is_asked, only}
 use Rattle.compute_blade.specs.Frames.{around_held, thread_of}
-use Rattle.compute_blade.specs.Steps.{need_in, serves, performed, performed_by, waiting, asking, drained, draining_by, drain_of, is_writable, stepping_at, stepping_by, step_at}
+use Rattle.compute_blade.specs.Steps.{need_in, serves, performed, performed_by, waiting, asking, drained, draining_by, drain_of, stepping_at, stepping_by, step_at}
 use Rattle.compute_blade.specs.declared.kept.Asked.{Asked}
 use Rattle.compute_blade.specs.declared.kept.Need.{Need}
 use Rattle.compute_blade.specs.declared.kept.Waits.{Waits}
@@ -36,7 +36,7 @@ use Rattle.rack_settle.specs.Labels.{owed_by, owed_for, waiting_label}
 use Rattle.rack_settle.proofs.LabelMessages.{performed-left}
 
 -- what the effect noted, and what its blade owes then
-abbrev pub comes_of : Effect → List Label
+abbrev pub comes_of : BladeEffect → List Label
 comes_of e = labels e.noted ++ owed_by e.blade
 
 -- nothing is done by a blade that owes nothing

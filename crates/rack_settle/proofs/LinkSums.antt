@@ -76,42 +76,37 @@ over-new : (number_of : NetLink → ℕ) (name : LinkName) (old new : NetView) �
     → over_links number_of new ≡ sum_below (of_two number_of new Up Down) old.blades + sum_below (of_two number_of new To From) old.memories
 over-new number_of name old new only = ap₂ (λ b m. sum_below (of_two number_of new Up Down) b + sum_below (of_two number_of new To From) m) only.blades only.memories
 
+-- a link with a compute blade changes, or one with a memory blade
+of-blades : (number_of : NetLink → ℕ) (name : LinkName) (old new : NetView) (v w : ℕ) → ChangesOnly name old new
+    → sum_below (of_two number_of new Up Down) old.blades + v ≤ sum_below (of_two number_of old Up Down) old.blades + w
+    → sum_below (of_two number_of new To From) old.memories ≡ sum_below (of_two number_of old To From) old.memories → over_links number_of new + v ≤ over_links number_of old + w
+of-blades number_of name old new v w only here same = omega (arith, over-new number_of name old new only, here, same)
+
+of-memories : (number_of : NetLink → ℕ) (name : LinkName) (old new : NetView) (v w : ℕ) → ChangesOnly name old new
+    → sum_below (of_two number_of new Up Down) old.blades ≡ sum_below (of_two number_of old Up Down) old.blades
+    → sum_below (of_two number_of new To From) old.memories + v ≤ sum_below (of_two number_of old To From) old.memories + w → over_links number_of new + v ≤ over_links number_of old + w
+of-memories number_of name old new v w only same here = omega (arith, over-new number_of name old new only, here, same)
+
 -- One link changes: the sum over all changes by as much, if it is one of them.
 pub changed_on : (number_of : NetLink → ℕ) (kind : LinkKind) (c : ℕ) (old new : NetView) (v w : ℕ) → ChangesOnly (record { kind = kind; number = c }) old new
     → of_link number_of new kind c + v ≤ of_link number_of old kind c + w → (links_of_kind old.blades old.memories kind ≤ c → v ≤ w)
     → over_links number_of new + v ≤ over_links number_of old + w
 changed_on number_of Up c old new v w only here away =
-    let other = other_kind number_of (record { kind = Up; number = c }) old new only in
-    omega (
-      arith,
-      over-new number_of (record { kind = Up; number = c }) old new only,
-      first-changed number_of old.blades Up Down c old new v w only (other Down refl) here away,
-      two-same number_of old.memories To From old new (other To refl) (other From refl),
-    )
+    let name : LinkName = record { kind = Up; number = c } in
+    let other = other_kind number_of name old new only in
+    of-blades number_of name old new v w only (first-changed number_of old.blades Up Down c old new v w only (other Down refl) here away) (two-same number_of old.memories To From old new (other To refl) (other From refl))
 changed_on number_of Down c old new v w only here away =
-    let other = other_kind number_of (record { kind = Down; number = c }) old new only in
-    omega (
-      arith,
-      over-new number_of (record { kind = Down; number = c }) old new only,
-      second-changed number_of old.blades Up Down c old new v w only (other Up refl) here away,
-      two-same number_of old.memories To From old new (other To refl) (other From refl),
-    )
+    let name : LinkName = record { kind = Down; number = c } in
+    let other = other_kind number_of name old new only in
+    of-blades number_of name old new v w only (second-changed number_of old.blades Up Down c old new v w only (other Up refl) here away) (two-same number_of old.memories To From old new (other To refl) (other From refl))
 changed_on number_of To c old new v w only here away =
-    let other = other_kind number_of (record { kind = To; number = c }) old new only in
-    omega (
-      arith,
-      over-new number_of (record { kind = To; number = c }) old new only,
-      two-same number_of old.blades Up Down old new (other Up refl) (other Down refl),
-      first-changed number_of old.memories To From c old new v w only (other From refl) here away,
-    )
+    let name : LinkName = record { kind = To; number = c } in
+    let other = other_kind number_of name old new only in
+    of-memories number_of name old new v w only (two-same number_of old.blades Up Down old new (other Up refl) (other Down refl)) (first-changed number_of old.memories To From c old new v w only (other From refl) here away)
 changed_on number_of From c old new v w only here away =
-    let other = other_kind number_of (record { kind = From; number = c }) old new only in
-    omega (
-      arith,
-      over-new number_of (record { kind = From; number = c }) old new only,
-      two-same number_of old.blades Up Down old new (other Up refl) (other Down refl),
-      second-changed number_of old.memories To From c old new v w only (other To refl) here away,
-    )
+    let name : LinkName = record { kind = From; number = c } in
+    let other = other_kind number_of name old new only in
+    of-memories number_of name old new v w only (two-same number_of old.blades Up Down old new (other Up refl) (other Down refl)) (second-changed number_of old.memories To From c old new v w only (other To refl) here away)
 
 -- ---- how much it can be
 

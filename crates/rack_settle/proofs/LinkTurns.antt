@@ -4,8 +4,8 @@ use Rattle.std.specs.Prelude.{if◌then◌else◌, nat_lt}
 use Rattle.std.specs.List.{list_any, remove}
 use Rattle.std.proofs.lemmas.Bool.{false≢true}
 use Rattle.std.proofs.lemmas.List.Folds.{list_any-append}
-use Rattle.link_retry.specs.Link.{LinkView, IsLink, Receives, Acknowledges, DeliversMessage, DeliversAck, Delivers, Resends, first_kept, expected, wire_of}
-use Rattle.link_retry.specs.Wire.{frame_at, without, with_frame}
+use Rattle.link_retry.specs.Link.{LinkView, IsLink, FrameReceives, Acknowledges, DeliversMessage, DeliversAck, FrameDelivers, Resends, first_kept, expected, wire_of}
+use Rattle.link_retry.specs.Wire.{frame_at, without_frame, with_frame}
 use Rattle.mind_base.specs.declared.links.Side.{Side}
 use Rattle.mind_base.specs.declared.links.Side.TheVariants.{Messages, Acks}
 use Rattle.rack_net.specs.Net.{NetLink, spelled}
@@ -19,8 +19,8 @@ first-place wire = omega arith
 first-frame : (number : ℕ) (rest : List ℕ) → frame_at (number ∷ rest) 0 ≡ Some number
 first-frame number rest = ap (slice_get (number ∷ rest)) (first-place (number ∷ rest))
 
-without-first : (wire rest : List ℕ) (number : ℕ) → wire ≡ number ∷ rest → without wire 0 ≡ rest
-without-first wire rest number is = ap (λ w. without w 0) is ∙ ap (remove (number ∷ rest)) (first-place (number ∷ rest))
+without-first : (wire rest : List ℕ) (number : ℕ) → wire ≡ number ∷ rest → without_frame wire 0 ≡ rest
+without-first wire rest number is = ap (λ w. without_frame w 0) is ∙ ap (remove (number ∷ rest)) (first-place (number ∷ rest))
 
 length-with_frame : (wire : List ℕ) (number : ℕ) → length (with_frame wire number) ≤ length wire + 1
 length-with_frame wire number = by (nat_lt (length wire) 64) where
@@ -60,7 +60,7 @@ message-hope first number next rest messages (ack ∷ acks) passes is = by (nat_
   by false = is
 
 message_delivered : (old new : NetLink) (number : ℕ) (rest : List ℕ) (taken : List (List ℕ)) → old.messages ≡ number ∷ rest
-    → Receives (spelled old) 0 number taken (spelled new) → link_turns new < link_turns old
+    → FrameReceives (spelled old) 0 number taken (spelled new) → link_turns new < link_turns old
 message_delivered old new number rest taken is received = omega (arith, frames, flag-le (is_hopeful old) (is_hopeful new) hope) where
   kept : new.kept ≡ old.kept
   kept = received.kept
@@ -138,7 +138,7 @@ ack_falls old new taken (number ∷ rest) is some link given =
     ack_delivered old new number rest taken is link (subst (λ f. DeliversAck (spelled old) 0 f taken (spelled new)) (first-frame number rest) given)
 
 pub link_delivered : (side : Side) (old new : NetLink) (taken : List (List ℕ)) → IsLink (spelled old) → 0 < length (wire_of (spelled old) side)
-    → Delivers (spelled old) side 0 taken (spelled new) → link_turns new < link_turns old
+    → FrameDelivers (spelled old) side 0 taken (spelled new) → link_turns new < link_turns old
 link_delivered Messages old new taken link some given = message_falls old new taken old.messages refl some given
 link_delivered Acks old new taken link some given = ack_falls old new taken old.acks refl some link given
 

@@ -28,22 +28,13 @@ use Rattle.rack_core.proofs.StandLogs.{runs-log, runs-stay}
 use Rattle.rack_core.proofs.StandStarts.{start-logs}
 use Rattle.rack_core.proofs.WaitsRuns.{run_needs, start_needs}
 use Rattle.rack_core.proofs.Whole.{run_keeps-all}
+use Rattle.rack_core.proofs.Lists.{all_front}
 use Rattle.rack_settle.specs.Labels.{owed, all_asked, AsksNothing, AskNothing, IsOneEach, LeadsAndSettles, SettlesEach, settled_labels}
 use Rattle.rack_settle.specs.Ran.{IsRunFor, LeadsOrSettles, Ran}
 use Rattle.rack_settle.specs.Settled.{IsTurn, AreTurns, Settles}
 use Rattle.rack_settle.specs.Stretches.{IsNoSettling, EndSettled, IsStretch, HasItsLabels, AreSettledEach, HasSettledLabels}
 use Rattle.rack_settle.proofs.LabelRuns.{quiet-owes, start-owes, safe-log, stretch-settles, settles-start}
 use Rattle.rack_settle.proofs.Rans.{stands-noted}
-
--- ---- lists
-
-all-front : {X : Type 0} (P : X → Type 0) (xs ys : List X) → AllByRecursion P (xs ++ ys) → AllByRecursion P xs
-all-front P [] ys all = tt
-all-front P (x ∷ xs) ys all = (all.0, all-front P xs ys all.1)
-
-all-behind : {X : Type 0} (P : X → Type 0) (xs ys : List X) → AllByRecursion P (xs ++ ys) → AllByRecursion P ys
-all-behind P [] ys all = all
-all-behind P (x ∷ xs) ys all = all-behind P xs ys all.1
 
 -- ---- the events by which a schedule's event leads on
 
@@ -263,10 +254,10 @@ between images plan xs ys first last log fit start its ran counted =
     let behind : Ran images (length xs) ys mid last whole.two = subst (λ n. Ran images n ys mid last whole.two) (let same : 0 + length xs ≡ length xs = omega arith in same) whole.behind in
     let start_ahead = starts-ahead images plan first fit start in
     let first_safe = safe-log images first [] start_ahead.stands in
-    let fits_xs = all-front (IsRunFor plan) xs ys its in
+    let fits_xs = (all_front (IsRunFor plan) xs ys its).0 in
     let stay = ran-stays images plan 0 xs first mid whole.one fit fits_xs start.of_plan first_safe whole.before in
     let safe = ran-safe images plan 0 xs first mid whole.one fit fits_xs start.of_plan first_safe whole.before in
-    let onward = ran-stays images plan (length xs) ys mid last whole.two fit (all-behind (IsRunFor plan) xs ys its) (stay.plan ∙ start.of_plan) safe behind in
+    let onward = ran-stays images plan (length xs) ys mid last whole.two fit (all_front (IsRunFor plan) xs ys its).1 (stay.plan ∙ start.of_plan) safe behind in
     let ahead = ran-ahead images plan 0 xs first mid [] whole.one fit fits_xs start_ahead whole.before (counted-before mid last onward counted) in
     record {
       mid = mid;
@@ -292,9 +283,9 @@ stretch_labels images plan events first last log fit start fits ran counted befo
     let behind = ran-parts images (length before) stretch (Settle ∷ after) mid last whole.two whole.behind in
     let end = behind.behind in
     let mid_safe = safe-log images mid whole.one whole.stands in
-    let fits_rest = all-behind (IsRunFor plan) before rest its in
+    let fits_rest = (all_front (IsRunFor plan) before rest its).1 in
     let none = ends-owing images before first mid whole.one (start-owes plan first start) is.begins whole.before in
-    let fits_stretch = all-front (IsRunFor plan) stretch (Settle ∷ after) fits_rest in
+    let fits_stretch = (all_front (IsRunFor plan) stretch (Settle ∷ after) fits_rest).0 in
     let on = lead-on images (length before) stretch mid behind.mid behind.one is.unsettled behind.before in
     let settles = settled-owes images Settle behind.mid end.0 end.1 refl end.3 in
     let same : mid.plan ≡ plan = whole.same in

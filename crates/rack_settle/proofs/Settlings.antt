@@ -16,10 +16,10 @@ use Rattle.rack_core.specs.Rack.{RackView}
 use Rattle.rack_core.specs.StandLog.{StandsForLog}
 use Rattle.rack_core.proofs.NotedEvents.{in-settling}
 use Rattle.rack_core.proofs.Quiet.{quiet-rack}
-use Rattle.rack_core.proofs.Sending.{all-both}
 use Rattle.rack_settle.specs.Settled.{IsTurn, HasNoTurn, AreTurns, Settles, HasTurned}
 use Rattle.rack_settle.specs.Turns.{turns_left}
 use Rattle.rack_settle.proofs.TurnsFall.{deliver, resend}
+use Rattle.switch_core.proofs.Lists.{all-append}
 
 -- ---- one turn
 
@@ -115,10 +115,10 @@ turned-more images turn first mid last before between behind has is (added, lead
     record {
       turns = has.turns ++ turn ∷ [];
       noted = has.noted ++ added;
-      fits = all-both (IsEventFor first.plan) has.turns (turn ∷ []) has.fits (subst (λ p. IsEventFor p turn) has.plan (turn-fits mid turn has.kept is), tt);
+      fits = all-append (IsEventFor first.plan) has.turns (turn ∷ []) has.fits (subst (λ p. IsEventFor p turn) has.plan (turn-fits mid turn has.kept is), tt);
       taken = turns-more images has.turns turn first mid last has.noted added has.taken is leads_on;
       stands = λ start at. subst (StandsForLog images last) (append_assoc start has.noted added) (carries_on (start ++ has.noted) (has.stands start at));
-      places = all-both (StandsIn first.plan event.Settle) has.noted added has.places (turn-places first.plan turn added (subst (λ p. AreInPlace p turn added) has.plan stand));
+      places = all-append (StandsIn first.plan event.Settle) has.noted added has.places (turn-places first.plan turn added (subst (λ p. AreInPlace p turn added) has.plan stand));
       kept = kept;
       plan = plan ∙ has.plan;
       log = log ∙ ap (λ ns. ns ++ added) has.log ∙ append_assoc before has.noted added;

@@ -1,13 +1,9 @@
 -- Each message that the switch handles makes the weight of what is still to come less.
-use Rattle.std.proofs.Common.{◌≡◌, refl, sym, ◌∙◌, ap, subst, ℕ, ◌+◌, ◌*◌, ◌^◌, ◌<◌, ◌≤◌, Bool, true, false, not, ◌==◌, List, [], ◌∷◌, ◌++◌, length, map, zero, suc, arith, Option, Some, None}
-use Rattle.std.specs.Prelude.{if◌then◌else◌, slice_get, position, find, is_none, option_map, unwrap_or}
-use Rattle.std.specs.List.{sum, list_any}
-use Rattle.std.proofs.Math.Nat.{le_trans}
-use Rattle.std.proofs.lemmas.Bool.{and_parts}
+use Rattle.std.proofs.Common.{◌≡◌, refl, sym, ◌∙◌, ap, subst, ℕ, ◌+◌, ◌*◌, ◌^◌, ◌<◌, ◌≤◌, Bool, true, false, not, ◌==◌, List, [], ◌∷◌, ◌++◌, length, map, suc, arith, Option, Some, None}
+use Rattle.std.specs.Prelude.{if◌then◌else◌}
+use Rattle.std.specs.List.{sum}
 use Rattle.mind_base.specs.Page.{PageView}
-use Rattle.mind_base.specs.Range.{RangeView, in_range}
-use Rattle.mind_base.specs.declared.links.LinkKind.{LinkKind}
-use Rattle.mind_base.specs.declared.links.LinkKind.TheVariants.{Up, Down, To, From}
+use Rattle.mind_base.specs.Range.{RangeView}
 use Rattle.mind_base.specs.declared.links.LinkName.{LinkName}
 use Rattle.mind_base.specs.declared.notes.State.{State}
 use Rattle.mind_base.specs.declared.notes.State.TheVariants.{I, S, M}
@@ -15,28 +11,26 @@ use Rattle.page_image.specs.PageImage.{PageImageView}
 use Rattle.invalidate_multicast.specs.Blades.{has_blade, without_blade, casts_of}
 use Rattle.invalidate_multicast.specs.Transition.{after_answer, acknowledged, finished, is_answered, is_number, target_of, without_waiting}
 use Rattle.invalidate_multicast.specs.declared.casts.Cast.{Cast}
-use Rattle.region_directory.specs.Entry.{fresh_entry, in_state, place_of, plus_hits, with_busy}
-use Rattle.region_directory.specs.Room.{is_droppable, is_evictable, is_for_room, first_rule}
+use Rattle.region_directory.specs.Entry.{fresh_entry, in_state, entry_place, plus_hits, with_busy}
 use Rattle.region_directory.specs.declared.entries.Busy.{Busy}
 use Rattle.region_directory.specs.declared.entries.Entry.{Entry}
-use Rattle.request_list.specs.Requests.{is_of, fetched_pages, fetching_at}
+use Rattle.request_list.specs.Requests.{is_of, fetching_at}
 use Rattle.request_list.specs.declared.requests.Request.{Request}
 use Rattle.wire_msg.specs.declared.msgs.Msg.{Msg}
 use Rattle.wire_msg.specs.declared.msgs.Msg.TheVariants.{Get, Back, Inv, Lower, Ack, Image}
-use Rattle.switch_core.specs.Handling.{answered, asked, ended, filled, filling, from_blade, from_memory, handled_from, went_back, writing, Receives}
-use Rattle.switch_core.specs.Serving.{treated_if, treated_next, over, one_pass, passes, first_pass}
+use Rattle.switch_core.specs.Handling.{answered, request_noted, ended, filling, handled_from, went_back, writing, Receives}
 use Rattle.switch_core.specs.Standing.{waiting_in}
-use Rattle.switch_core.specs.Switch.{SwitchView, Effect, and_then, only, place_in, to_blade}
-use Rattle.switch_core.specs.Treating.{Pass, waits, blocks, does, grants, granted_state, holders, is_denied, denied, reading, granted, begun, cleared, left_to, invalidated, lowered, changed_for, invalidations, is_fetched, with_idle, with_entry, at_entry, entered, new_range, enters, dropped, with_room, without_entry, entry_for, for_entry, treated, without_request}
+use Rattle.switch_core.specs.Switch.{SwitchView, SwitchEffect, and_then, only, place_in, to_blade}
+use Rattle.switch_core.specs.Treating.{granted_state, holders, denied_request, reading, granted, with_transition, cleared, left_to, invalidated, lowered, invalidations, entered, dropped, without_request}
 use Rattle.switch_core.proofs.EachEnding.{answered-is}
 use Rattle.switch_core.proofs.Lists.{waiting-fetching, waiting-filter, waiting-without}
-use Rattle.rack_core.proofs.SwitchTreats.{found-passes, none-so}
+use Rattle.rack_core.proofs.Serving.{IsIdle, IsWaiting, IsKept, IsHeard, handled-heard, receives-kept}
 use Rattle.rack_settle.specs.Weight.{weight_of, sent_weight, request_weight, state_weight, entry_weight, switch_weight}
 use Rattle.rack_settle.proofs.BladeCounts.{size, none-size, one-size, less-size, with-size, without-size}
 use Rattle.rack_settle.proofs.ListSums.{sum-first, sum-joined, sum-inserted, sum-removed, sum-mapped, sum-changed, sum-first_changed}
 
 -- the switch and what it has sent, together
-abbrev effect_weight : Effect → ℕ
+abbrev effect_weight : SwitchEffect → ℕ
 effect_weight effect = switch_weight effect.switch + sent_weight effect.sent
 
 -- ---- requests
@@ -150,7 +144,7 @@ message-weighs message = by message where
 -- ---- what serving does
 
 -- what is done with a switch weighs no more than the switch did
-abbrev AddsNothing : SwitchView → Effect → Type 0
+abbrev AddsNothing : SwitchView → SwitchEffect → Type 0
 AddsNothing switch effect = effect_weight effect ≤ switch_weight switch
 
 nothing : (switch : SwitchView) → AddsNothing switch (only switch)
@@ -158,20 +152,25 @@ nothing switch = same (switch_weight switch) where
   same : (n : ℕ) → n + 0 ≤ n
   same n = omega arith
 
-denies : (switch : SwitchView) (r : Request) (at : ℕ) → slice_get switch.requests at ≡ Some r → r.fetching ≡ false → AddsNothing switch (denied r switch)
-denies switch r at stands waiting =
-    plain _ _ _ _ _ (waiting-weight (without_request r switch.requests)) (waiting-weight switch.requests) (waiting-without switch.requests at r stands waiting) where
+follows : (most : ℕ) (first : SwitchEffect) (next : SwitchView → SwitchEffect) → effect_weight first ≤ most → AddsNothing first.switch (next first.switch) → effect_weight (and_then first next) ≤ most
+follows most first next le keeps =
+    plain _ _ _ _ _ _ (sent-joined first.sent (next first.switch).sent) le keeps where
+      plain : (new old first next all most : ℕ) → all ≡ first + next → old + first ≤ most → new + next ≤ old → new + all ≤ most
+      plain new old first next all most e le keeps = omega arith
+
+denies : (r : Request) (at : ℕ) (switch : SwitchView) → IsWaiting r at switch → AddsNothing switch (denied_request r switch)
+denies r at switch is =
+    plain _ _ _ _ _ (waiting-weight (without_request r switch.requests)) (waiting-weight switch.requests) (waiting-without switch.requests at r is.stands is.waiting) where
       plain : (new old n m e : ℕ) → new ≡ 13 * n → old ≡ 13 * m → n < m → new + e + 1 ≤ old + e
       plain new old n m e f g lt = omega arith
 
-grants_it : (switch : SwitchView) (r : Request) (at i : ℕ) (entry : Entry) → slice_get switch.requests at ≡ Some r → r.fetching ≡ false
-    → slice_get switch.directory.entries i ≡ Some entry → entry.busy ≡ None → AddsNothing switch (granted r at i entry switch)
-grants_it switch r at i entry stands waiting found idle =
+grants : (r : Request) (at i : ℕ) (entry : Entry) (switch : SwitchView) → IsWaiting r at switch → IsIdle i entry switch → AddsNothing switch (granted r at i entry switch)
+grants r at i entry switch is free =
     let state : State = granted_state r.write r.blade entry.state in
     plain _ _ _ _ _ _ _ _ _
-    (waiting-weight (fetching_at switch.requests at)) (waiting-weight switch.requests) (waiting-fetching switch.requests at r stands waiting)
-    (sum-changed entry_weight i (in_state state) switch.directory.entries entry found)
-    (subst (λ n. n ≤ entry_weight entry + 6) (sym (state-weight state entry idle)) (subst (λ n. state_weight state ≤ n + 6) (sym (idle-weight entry idle)) (granted-weight r.write r.blade entry.state)))
+    (waiting-weight (fetching_at switch.requests at)) (waiting-weight switch.requests) (waiting-fetching switch.requests at r is.stands is.waiting)
+    (sum-changed entry_weight i (in_state state) switch.directory.entries entry free.found)
+    (subst (λ n. n ≤ entry_weight entry + 6) (sym (state-weight state entry free.idle)) (subst (λ n. state_weight state ≤ n + 6) (sym (idle-weight entry free.idle)) (granted-weight r.write r.blade entry.state)))
     (reads (place_in switch r.page)) where
       reads : (place : Option (ℕ × ℕ)) → sent_weight (reading r place) ≤ 6
       reads None = omega arith
@@ -180,10 +179,10 @@ grants_it switch r at i entry stands waiting found idle =
       plain : (new old n m es fs one other sent : ℕ) → new ≡ 13 * n → old ≡ 13 * m → m ≡ n + 1 → es + one ≡ fs + other → other ≤ one + 6 → sent ≤ 6 → new + es + sent ≤ old + fs
       plain new old n m es fs one other sent e f g h le few = omega arith
 
-begins : (switch : SwitchView) (i : ℕ) (busy : Busy) (messages : List (LinkName × Msg)) (entry : Entry) → slice_get switch.directory.entries i ≡ Some entry → entry.busy ≡ None
-    → state_weight busy.target + sent_weight messages ≤ state_weight entry.state → AddsNothing switch (begun i busy messages switch)
-begins switch i busy messages entry found idle le =
-    plain (sum (map request_weight switch.requests)) _ _ _ _ _ _ (sum-changed entry_weight i (with_busy (Some busy)) switch.directory.entries entry found) (idle-weight entry idle) le where
+begins : (switch : SwitchView) (i : ℕ) (busy : Busy) (messages : List (LinkName × Msg)) (entry : Entry) → IsIdle i entry switch
+    → state_weight busy.target + sent_weight messages ≤ state_weight entry.state → AddsNothing switch (with_transition i busy messages switch)
+begins switch i busy messages entry free le =
+    plain (sum (map request_weight switch.requests)) _ _ _ _ _ _ (sum-changed entry_weight i (with_busy (Some busy)) switch.directory.entries entry free.found) (idle-weight entry free.idle) le where
       plain : (rs es fs one other target sent : ℕ) → es + one ≡ fs + target → one ≡ other → target + sent ≤ other → rs + es + sent ≤ rs + fs
       plain rs es fs one other target sent e f le = omega arith
 
@@ -191,165 +190,56 @@ begins switch i busy messages entry found idle le =
 asked-weight : (target number : ℕ) (range : RangeView) (page : Option PageView) (blades most : ℕ) → target + 2 * size blades ≤ most → target + sent_weight (invalidations number range page blades) ≤ most
 asked-weight target number range page blades most le = subst (λ n. target + n ≤ most) (sym (invalidations-weight number range page blades)) le
 
-clears : (switch : SwitchView) (i : ℕ) (entry : Entry) → slice_get switch.directory.entries i ≡ Some entry → entry.busy ≡ None → AddsNothing switch (cleared i entry switch)
-clears switch i entry found idle =
+clears : (i : ℕ) (entry : Entry) (switch : SwitchView) → IsIdle i entry switch → AddsNothing switch (cleared i entry switch)
+clears i entry switch free =
     begins switch i (record { number = switch.last + 1; waiting = holders entry.state; target = I; for_room = true })
-    (invalidations (switch.last + 1) entry.range None (holders entry.state)) entry found idle
+    (invalidations (switch.last + 1) entry.range None (holders entry.state)) entry free
     (asked-weight 0 (switch.last + 1) entry.range None (holders entry.state) (state_weight entry.state) (held-weight entry.state))
 
-changes : (switch : SwitchView) (r : Request) (i : ℕ) (entry : Entry) → slice_get switch.directory.entries i ≡ Some entry → entry.busy ≡ None → AddsNothing switch (changed_for r entry.state i entry switch)
-changes switch r i entry found idle = by entry.state refl where
-  number : ℕ
-  number = switch.last + 1
+invalidates : (r : Request) (i : ℕ) (entry : Entry) (switch : SwitchView) → IsIdle i entry switch → AddsNothing switch (invalidated r i entry switch)
+invalidates r i entry switch free =
+    let number : ℕ = switch.last + 1 in
+    let blades : ℕ = without_blade (holders entry.state) r.blade in
+    begins switch i (record { number = number; waiting = blades; target = left_to r.blade entry.state; for_room = false }) (invalidations number entry.range (Some r.page) blades) entry free
+    (asked-weight (state_weight (left_to r.blade entry.state)) number entry.range (Some r.page) blades (state_weight entry.state) (left-weight r.blade entry.state))
 
-  to_write : AddsNothing switch (invalidated r i entry switch)
-  to_write =
-      let blades : ℕ = without_blade (holders entry.state) r.blade in
-      begins switch i (record { number = number; waiting = blades; target = left_to r.blade entry.state; for_room = false }) (invalidations number entry.range (Some r.page) blades) entry found idle
-      (asked-weight (state_weight (left_to r.blade entry.state)) number entry.range (Some r.page) blades (state_weight entry.state) (left-weight r.blade entry.state))
-
-  to_read : (owner : ℕ) → entry.state ≡ M owner → AddsNothing switch (lowered r owner i entry switch)
-  to_read owner is =
-      begins switch i (record { number = number; waiting = 2 ^ owner; target = S (2 ^ owner); for_room = false }) (to_blade owner (Lower number entry.range r.page) ∷ []) entry found idle
-      (subst (λ state. 3 * size (2 ^ owner) + 2 ≤ state_weight state) (sym is) (one _ (one-size owner))) where
-        one : (n : ℕ) → n ≤ 1 → 3 * n + 2 ≤ 6
-        one n le = omega arith
-
-  owned : (write : Bool) (owner : ℕ) → entry.state ≡ M owner → AddsNothing switch (if write then invalidated r i entry switch else lowered r owner i entry switch)
-  owned true owner is = to_write
-  owned false owner is = to_read owner is
-
-  by : (state : State) → entry.state ≡ state → AddsNothing switch (changed_for r state i entry switch)
-  by I is = nothing switch
-  by (S sharers) is = to_write
-  by (M owner) is = owned r.write owner is
-
--- ---- a waiting request
-
--- what was done after that weighs no more than what was done before
-abbrev IsNoHeavier : Effect → Effect → Type 0
-IsNoHeavier done after = effect_weight after ≤ effect_weight done
-
-stays : (done : Effect) → IsNoHeavier done done
-stays done = same (effect_weight done) where
-  same : (n : ℕ) → n ≤ n
-  same n = omega arith
-
-follows : (done : Effect) (change : SwitchView → Effect) → AddsNothing done.switch (change done.switch) → IsNoHeavier done (and_then done change)
-follows done change keeps =
-    plain _ _ _ _ _ (sent-joined done.sent (change done.switch).sent) keeps where
-      plain : (new old first next all : ℕ) → all ≡ first + next → new + next ≤ old → new + all ≤ old + first
-      plain new old first next all e le = omega arith
-
--- a request that stands at its place and does not fetch yet
-record IsWaiting (r : Request) (at : ℕ) (switch : SwitchView) : Type 0 where
-  stands : slice_get switch.requests at ≡ Some r
-  waiting : r.fetching ≡ false
-
-treats_idle : (r : Request) (i : ℕ) (entry : Entry) (pass : Pass) → IsWaiting r pass.at pass.done.switch → slice_get pass.done.switch.directory.entries i ≡ Some entry → entry.busy ≡ None
-    → IsNoHeavier pass.done (with_idle r i entry pass).done
-treats_idle r i entry pass is found idle = by (grants r.write r.blade entry.state) (is_fetched entry.range pass.done.switch.requests) where
-  by : (b c : Bool) → IsNoHeavier pass.done (if b then waits (does (granted r pass.at i entry) pass) else (if c then waits pass else waits (does (changed_for r entry.state i entry) pass))).done
-  by true c = follows pass.done (granted r pass.at i entry) (grants_it pass.done.switch r pass.at i entry is.stands is.waiting found idle)
-  by false true = stays pass.done
-  by false false = follows pass.done (changed_for r entry.state i entry) (changes pass.done.switch r i entry found idle)
-
-treats_at : (r : Request) (i : ℕ) (pass : Pass) → IsWaiting r pass.at pass.done.switch → IsNoHeavier pass.done (at_entry r i pass).done
-treats_at r i pass is = by (slice_get pass.done.switch.directory.entries i) refl where
-  by_busy : (entry : Entry) → slice_get pass.done.switch.directory.entries i ≡ Some entry → (b : Bool) → is_none entry.busy ≡ b
-      → IsNoHeavier pass.done (if b then with_idle r i entry pass else waits pass).done
-  by_busy entry found true e = treats_idle r i entry pass is found (none-so entry.busy e)
-  by_busy entry found false e = stays pass.done
-
-  by : (o : Option Entry) → slice_get pass.done.switch.directory.entries i ≡ o → IsNoHeavier pass.done (with_entry r i o pass).done
-  by None found = stays pass.done
-  by (Some entry) found = by_busy entry found (is_none entry.busy) refl
+lowers : (r : Request) (owner i : ℕ) (entry : Entry) (switch : SwitchView) → IsIdle i entry switch → entry.state ≡ M owner → AddsNothing switch (lowered r owner i entry switch)
+lowers r owner i entry switch free is =
+    let number : ℕ = switch.last + 1 in
+    begins switch i (record { number = number; waiting = 2 ^ owner; target = S (2 ^ owner); for_room = false }) (to_blade owner (Lower number entry.range r.page) ∷ []) entry free
+    (subst (λ state. 3 * size (2 ^ owner) + 2 ≤ state_weight state) (sym is) (one _ (one-size owner))) where
+      one : (n : ℕ) → n ≤ 1 → 3 * n + 2 ≤ 6
+      one n le = omega arith
 
 -- a new entry names nobody
-treats_new : (r : Request) (pass : Pass) → IsWaiting r pass.at pass.done.switch → IsNoHeavier pass.done (enters r pass).done
-treats_new r pass is =
-    let range : RangeView = new_range r.page pass.done.switch in
-    let place : ℕ = place_of pass.done.switch.directory.entries range in
-    let mid : Pass = does (entered range) pass in
-    le_trans (treats_at r place mid (record { stands = is.stands; waiting = is.waiting }))
-    (follows pass.done (entered range) (plain (sum (map request_weight pass.done.switch.requests)) _ _ (sum-inserted entry_weight pass.done.switch.directory.entries place (fresh_entry range)))) where
+enters : (range : RangeView) (switch : SwitchView) → AddsNothing switch (entered range switch)
+enters range switch =
+    plain (sum (map request_weight switch.requests)) _ _ (sum-inserted entry_weight switch.directory.entries (entry_place switch.directory.entries range) (fresh_entry range)) where
       plain : (rs new old : ℕ) → new ≡ old + 0 → rs + new + 0 ≤ rs + old
       plain rs new old e = omega arith
 
-treats_room : (r : Request) (pass : Pass) → IsWaiting r pass.at pass.done.switch
-    → (drop : Option ℕ) (clearing : Bool) (evict : Option ℕ) → position (is_evictable (fetched_pages pass.done.switch.requests)) pass.done.switch.directory.entries ≡ evict
-    → IsNoHeavier pass.done (with_room r (first_rule drop clearing evict) pass).done
-treats_room r pass is (Some i) clearing evict evicted = by (slice_get pass.done.switch.directory.entries i) where
+drops : (i : ℕ) (entry : Entry) (switch : SwitchView) → AddsNothing switch (dropped i entry switch)
+drops i entry switch = plain (sum (map request_weight switch.requests)) _ _ (sum-removed entry_weight switch.directory.entries i) where
   plain : (rs new old : ℕ) → new ≤ old → rs + new + 0 ≤ rs + old
   plain rs new old le = omega arith
 
-  by : (o : Option Entry) → IsNoHeavier pass.done (unwrap_or (option_map (λ entry. enters r (does (dropped i entry) pass)) o) (blocks pass)).done
-  by None = stays pass.done
-  by (Some entry) =
-      le_trans (treats_new r (does (dropped i entry) pass) (record { stands = is.stands; waiting = is.waiting }))
-      (follows pass.done (dropped i entry) (plain (sum (map request_weight pass.done.switch.requests)) _ _ (sum-removed entry_weight pass.done.switch.directory.entries i)))
-treats_room r pass is None true evict evicted = stays pass.done
-treats_room r pass is None false None evicted = stays pass.done
-treats_room r pass is None false (Some i) evicted = by (slice_get pass.done.switch.directory.entries i) refl where
-  by : (o : Option Entry) → slice_get pass.done.switch.directory.entries i ≡ o
-      → IsNoHeavier pass.done (unwrap_or (option_map (λ entry. blocks (does (cleared i entry) pass)) o) (blocks pass)).done
-  by None found = stays pass.done
-  by (Some entry) found =
-      let fetching = fetched_pages pass.done.switch.requests in
-      let parts = and_parts (is_none entry.busy) (not (list_any (in_range entry.range) fetching)) (found-passes (is_evictable fetching) pass.done.switch.directory.entries i entry evicted found) in
-      follows pass.done (cleared i entry) (clears pass.done.switch i entry found (none-so entry.busy parts.0))
-
-treats_without : (r : Request) (pass : Pass) → IsWaiting r pass.at pass.done.switch → IsNoHeavier pass.done (without_entry r pass).done
-treats_without r pass is = by pass.blocked (length pass.done.switch.directory.entries == pass.done.switch.directory.slots) where
-  drop : Option ℕ
-  drop = position is_droppable pass.done.switch.directory.entries
-
-  clearing : Bool
-  clearing = list_any (λ entry. is_for_room entry.busy) pass.done.switch.directory.entries
-
-  evict : Option ℕ
-  evict = position (is_evictable (fetched_pages pass.done.switch.requests)) pass.done.switch.directory.entries
-
-  by : (b c : Bool) → IsNoHeavier pass.done (if b then waits pass else (if c then with_room r (first_rule drop clearing evict) pass else enters r pass)).done
-  by true c = stays pass.done
-  by false true = treats_room r pass is drop clearing evict refl
-  by false false = treats_new r pass is
-
-treats : (r : Request) (pass : Pass) → slice_get pass.done.switch.requests pass.at ≡ Some r → IsNoHeavier pass.done (treated r pass).done
-treats r pass stands = by r.fetching refl (is_denied pass.done.switch r) where
-  by_entry : IsWaiting r pass.at pass.done.switch → (o : Option ℕ) → IsNoHeavier pass.done (for_entry r o pass).done
-  by_entry is None = treats_without r pass is
-  by_entry is (Some i) = treats_at r i pass is
-
-  by : (b : Bool) → r.fetching ≡ b → (c : Bool)
-      → IsNoHeavier pass.done (if b then waits pass else (if c then does (denied r) pass else for_entry r (entry_for r.page pass.done.switch.directory.entries) pass)).done
-  by true e c = stays pass.done
-  by false e true = follows pass.done (denied r) (denies pass.done.switch r pass.at stands e)
-  by false e false = by_entry (record { stands = stands; waiting = e }) (entry_for r.page pass.done.switch.directory.entries)
-
--- ---- passes
-
-treats_next : (pass : Pass) → IsNoHeavier pass.done (treated_next pass).done
-treats_next pass = by (slice_get pass.done.switch.requests pass.at) refl where
-  by : (o : Option Request) → slice_get pass.done.switch.requests pass.at ≡ o → IsNoHeavier pass.done (treated_if o pass).done
-  by None at = stays pass.done
-  by (Some r) at = treats r pass at
-
-treats_over : (left : ℕ) (pass : Pass) → IsNoHeavier pass.done (over left pass).done
-treats_over zero pass = stays pass.done
-treats_over (suc left) pass = le_trans (treats_over left (treated_next pass)) (treats_next pass)
-
-pass_adds : (switch : SwitchView) → AddsNothing switch (one_pass switch)
-pass_adds switch = le_trans (treats_over (length switch.requests) (first_pass switch)) (nothing switch)
-
-passes_add : (n : ℕ) (done : Effect) → IsNoHeavier done (passes n done)
-passes_add zero done = stays done
-passes_add (suc n) done = le_trans (passes_add n (and_then done one_pass)) (follows done one_pass (pass_adds done.switch))
+serving-adds : IsKept switch_weight (λ most effect. effect_weight effect ≤ most)
+serving-adds = record {
+  nothing = nothing;
+  follows = follows;
+  denies = denies;
+  grants = grants;
+  invalidates = invalidates;
+  lowers = lowers;
+  enters = enters;
+  drops = drops;
+  clears = clears;
+}
 
 -- ---- a message is handled
 
 -- what is done with a message weighs less than the switch and the message did
-abbrev Hears : SwitchView → Msg → Effect → Type 0
+abbrev Hears : SwitchView → Msg → SwitchEffect → Type 0
 Hears switch message effect = effect_weight effect + 1 ≤ switch_weight switch + weight_of message
 
 hears_nothing : (switch : SwitchView) (message : Msg) → Hears switch message (only switch)
@@ -357,7 +247,7 @@ hears_nothing switch message = plain _ _ (message-weighs message) where
   plain : (old m : ℕ) → 1 ≤ m → old + 0 + 1 ≤ old + m
   plain old m le = omega arith
 
-hears_get : (switch : SwitchView) (blade : ℕ) (page : PageView) (write : Bool) → Hears switch (Get page write) (asked blade page write switch)
+hears_get : (switch : SwitchView) (blade : ℕ) (page : PageView) (write : Bool) → Hears switch (Get page write) (request_noted blade page write switch)
 hears_get switch blade page write =
     plain _ _ _ (sum-joined request_weight switch.requests (record { blade = blade; page = page; write = write; fetching = false } ∷ [])) where
       plain : (new old es : ℕ) → new ≡ old + 13 → new + es + 0 + 1 ≤ old + es + 14
@@ -385,38 +275,29 @@ hears_ack switch blade number count =
       plain : (rs new old : ℕ) → new ≡ old → rs + new + 0 + 1 ≤ rs + old + 1
       plain rs new old e = omega arith
 
-hears_image : (switch : SwitchView) (blade : Option ℕ) (page : PageView) (image : PageImageView) → Hears switch (Image blade page image) (filled blade page image switch)
-hears_image switch None page image = hears_nothing switch (Image None page image)
-hears_image switch (Some blade) page image = by (find (is_of blade page) switch.requests) where
-  plain : (new old n m es : ℕ) → new ≡ 13 * n → old ≡ 13 * m → n ≤ m → new + es + 4 + 1 ≤ old + es + 5
-  plain new old n m es e f le = omega arith
+hears_image : (switch : SwitchView) (blade : ℕ) (page : PageView) (image : PageImageView) (r : Request) → Hears switch (Image (Some blade) page image) (filling (Some r) image switch)
+hears_image switch blade page image r =
+    plain _ _ _ _ _ (waiting-weight (without_request r switch.requests)) (waiting-weight switch.requests) (waiting-filter (λ q. not (is_of r.blade r.page q)) switch.requests) where
+      plain : (new old n m es : ℕ) → new ≡ 13 * n → old ≡ 13 * m → n ≤ m → new + es + 4 + 1 ≤ old + es + 5
+      plain new old n m es e f le = omega arith
 
-  by : (o : Option Request) → Hears switch (Image (Some blade) page image) (filling o image switch)
-  by None = hears_nothing switch (Image (Some blade) page image)
-  by (Some r) =
-      plain _ _ _ _ _ (waiting-weight (without_request r switch.requests)) (waiting-weight switch.requests) (waiting-filter (λ q. not (is_of r.blade r.page q)) switch.requests)
-
-hears_up : (switch : SwitchView) (blade : ℕ) (message : Msg) → Hears switch message (from_blade blade message switch)
-hears_up switch blade (Get page write) = hears_get switch blade page write
-hears_up switch blade (Back page image) = hears_back switch page image
-hears_up switch blade (Ack number count) = hears_ack switch blade number count
-hears_up switch blade message = hears_nothing switch message
-
-hears_from : (switch : SwitchView) (message : Msg) → Hears switch message (from_memory message switch)
-hears_from switch (Image blade page image) = hears_image switch blade page image
-hears_from switch message = hears_nothing switch message
-
-hears : (switch : SwitchView) (kind : LinkKind) (number : ℕ) (message : Msg) → Hears switch message (handled_from kind number message switch)
-hears switch Up number message = hears_up switch number message
-hears switch From number message = hears_from switch message
-hears switch Down number message = hears_nothing switch message
-hears switch To number message = hears_nothing switch message
+handling-lightens : IsHeard (λ kind message switch effect. Hears switch message effect)
+handling-lightens = record {
+  nothing = λ kind message switch. hears_nothing switch message;
+  asks = λ blade page write switch. hears_get switch blade page write;
+  goes_back = λ page image switch. hears_back switch page image;
+  answers = λ blade number count switch. hears_ack switch blade number count;
+  fills = λ blade page image r switch. hears_image switch blade page image r;
+}
 
 -- what is still to come when a message is handled is less than what was to come with it, whatever the switch
-pub switch_lightens : (name : LinkName) (message : Msg) (switch : SwitchView) (effect : Effect) → Receives name message switch effect
+pub switch_lightens : (name : LinkName) (message : Msg) (switch : SwitchView) (effect : SwitchEffect) → Receives name message switch effect
     → switch_weight effect.switch + sent_weight effect.sent + 1 ≤ switch_weight switch + weight_of message
 switch_lightens name message switch effect receives =
-    let first : Effect = handled_from name.kind name.number message switch in
-    plain _ _ _ (subst (IsNoHeavier first) (sym receives.1) (passes_add receives.0 first)) (hears switch name.kind name.number message) where
+    let first : SwitchEffect = handled_from name.kind name.number message switch in
+    plain _ _ _ (receives-kept serving-adds (effect_weight first) name message switch effect receives (same _)) (handled-heard handling-lightens name.kind name.number message switch) where
+      same : (n : ℕ) → n ≤ n
+      same n = omega arith
+
       plain : (last first old : ℕ) → last ≤ first → first + 1 ≤ old → last + 1 ≤ old
       plain last first old le lt = omega arith

@@ -1,12 +1,14 @@
+//! The law of what a blade sends, as clauses of a function that does nothing.
+
 ghost use Rattle.std.specs.Prelude.{◌+◌, ◌≤◌, ℕ, List};
 ghost use Rattle.std.specs.List.{AllByRecursion};
 ghost use Rattle.compute_blade.specs.Blade.{BladeView};
-ghost use Rattle.compute_blade.specs.Messages.{MayCome, after_message};
+ghost use Rattle.compute_blade.specs.Messages.{MayComeToBlade, after_message};
 ghost use Rattle.memory_blade.specs.MemoryBlade.{answer_to};
 ghost use Rattle.mind_base.specs.declared.images.Image.{Image as image};
 ghost use Rattle.page_image.specs.PageImage.{PageImageView};
 ghost use Rattle.rack_core.specs.BladeMoves.{IsRequest};
-ghost use Rattle.rack_core.specs.Events.{answers};
+ghost use Rattle.rack_core.specs.Events.{answer_to_switch};
 ghost use Rattle.rack_settle.specs.Weight.{blade_weight, messages_weight, sent_weight, weight_of};
 ghost use Rattle.wire_msg.specs.declared.msgs.Msg.{Msg as message};
 
@@ -16,9 +18,9 @@ ghost use Rattle.wire_msg.specs.declared.msgs.Msg.{Msg as message};
 /// drain waits for, as in every rack; so no drain that goes on asks again. A memory blade does so at each message.
 pub fn blades_send_less()
     ensures compute { (images : List image) (msg : message) (blade : BladeView)
-        → AllByRecursion (IsRequest blade.plan.threads blade.harts) blade.requests → MayCome blade msg
+        → AllByRecursion (IsRequest blade.plan.threads blade.harts) blade.requests → MayComeToBlade blade msg
         → blade_weight (after_message images msg blade).blade + messages_weight (after_message images msg blade).sent + 1
         ≤ blade_weight blade + weight_of msg }
     ensures memory { (number : ℕ) (images : List PageImageView) (msg : message)
-        → sent_weight (answers number (answer_to images msg)) + 1 ≤ weight_of msg }
+        → sent_weight (answer_to_switch number (answer_to images msg)) + 1 ≤ weight_of msg }
 {}

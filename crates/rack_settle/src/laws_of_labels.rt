@@ -1,3 +1,5 @@
+//! Laws of the labels of settled events: functions that do nothing, with the laws as clauses.
+
 ghost use Rattle.std.specs.Prelude.{◌≡◌, ◌++◌, ◌∷◌, ℕ, List, []};
 ghost use Rattle.std.specs.List.Sorted.{IsPermutation};
 ghost use Rattle.mind_base.specs.Fit.{IsFit};

@@ -1,3 +1,5 @@
+//! The law of the measure that each turn lowers, as clauses of a function that does nothing.
+
 ghost use Rattle.std.specs.Prelude.{◌<◌, List};
 ghost use Rattle.mind_base.specs.declared.events.Event.TheVariants.{Deliver, Resend};
 ghost use Rattle.mind_base.specs.declared.images.Image.{Image as image};

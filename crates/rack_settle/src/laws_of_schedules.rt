@@ -1,3 +1,5 @@
+//! Laws of whole schedules: functions that do nothing, with the laws as clauses.
+
 ghost use Rattle.std.specs.Prelude.{◌≡◌, ◌++◌, ◌∷◌, List, length};
 ghost use Rattle.std.specs.List.{AllByRecursion};
 ghost use Rattle.mind_base.specs.Fit.{IsFit};

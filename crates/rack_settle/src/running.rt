@@ -1,3 +1,5 @@
+//! A schedule on a rack, event by event, with the notes of each.
+
 ghost use Rattle.std.specs.Prelude.{◌≡◌, ◌≤◌, ◌⊎◌, ◌++◌, ◌∷◌, ◌↔◌, [], length, Err, IsTrue, OnOk, OnErr};
 ghost use Rattle.std.specs.List.{AllByRecursion};
 ghost use Rattle.mind_base.specs.Fit.{FitImages};

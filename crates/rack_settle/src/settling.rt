@@ -1,3 +1,5 @@
+//! A settling: turns of the network until nothing is under way.
+
 ghost use Rattle.std.specs.Prelude.{◌≡◌, Err, OnErr, OnOk};
 ghost use Rattle.mind_base.specs.Fit.{FitImages};
 ghost use Rattle.mind_base.specs.declared.events.Event.TheVariants as event;

@@ -7,7 +7,7 @@ ghost use Rattle.mind_base.specs.declared.failures.Stop.TheVariants.{Spent};
 ghost use Rattle.mind_base.specs.declared.links.LinkKind.TheVariants.{Down, To};
 ghost use Rattle.wire_msg.specs.WellFormed.{IsWellFormed};
 ghost use Rattle.compute_blade.specs.Blade.{BeginsWith};
-ghost use Rattle.switch_core.specs.Handling.{MayCome};
+ghost use Rattle.switch_core.specs.Handling.{MayComeToSwitch};
 ghost use Rattle.switch_core.specs.Sending.{AreFetchesAllowed};
 ghost use Rattle.rack_core.specs.BladeMoves.{AreBladesSound};
 ghost use Rattle.rack_core.specs.Calls.{HasLink, HasSpentNumber, IsKept, MayBeHanded, Notes};
@@ -100,7 +100,7 @@ impl Rack {
 
     fn hand_to_switch(&mut self, link: LinkName, msg: Msg, log: &mut Log) -> Result<(), Stop>
         requires shape { IsShaped self.old }
-        requires may { MayCome self.old.switch link msg }
+        requires may { MayComeToSwitch self.old.switch link msg }
         requires formed { IsWellFormed msg }
         requires allowed { AreFetchesAllowed self.old.switch }
         ensures ok { OnOk result (Notes (SwitchHears link msg self.old self.new) log.old.notes log.new.notes) }

@@ -1,55 +1,41 @@
-use Rattle.std.proofs.Common.{◌≡◌, ap, sym, subst, [], Err, rules, inr}
+use Rattle.std.proofs.Common.{◌≡◌, ap, sym, subst, Err, rules, inr}
 use Rattle.mind_base.specs.declared.failures.Stop.TheVariants.{Spent}
-use Rattle.compute_blade.specs.Blade.{BladeView, DidSome, HasSpent}
-use Rattle.compute_blade.specs.Steps.{after_drain}
+use Rattle.compute_blade.specs.Blade.{BladeView, HasSpent}
+use Rattle.compute_blade.specs.Steps.{blade_after_drain}
 use Rattle.compute_blade.proofs.Acting.{drain_acts}
-use Rattle.rack_net.specs.Net.{IsNet}
 use Rattle.rack_core.specs.Rack.{RackView}
-use Rattle.rack_core.proofs.CodeBlades.{IsAtPlace, there, went, spent-place, blade-within, blade-own, blade-did, hart-did, did-agrees, shape-went, when-ok, of-net}
+use Rattle.rack_core.proofs.CodeBlades.{there, spent-place, blade-within, blade-own, did-agrees, did-sent, of-net, hart-at, hart-acted, shape-acted}
 use Rattle.rack_core.proofs.racks.Rack.drain.Goals as goal
 
 pub drain-requires : goal.drain-requires
 drain-requires c =
-    let inside : RackView = record { plan = c.self.inside.plan; blades = c.self.inside.blades.items; switch = c.self.inside.switch; memories = c.self.inside.memories.items; net = c.self.inside.net; asked = c.self.inside.asked } in
-    let at : IsAtPlace inside c.args.self.now c.from.result c.blade_of-number.result c.index_mut.result.now = record { view = c.self.view_is; index = c.from.ensures; value = c.index_mut.ensures.value; within = blade-within c.args.self.now c.args.hart c.blade_of-number.result c.requires.kept.shape c.blade_of-number.ensures } in
-    blade-own c.args.self.now c.args.hart c.blade_of-number.result c.index_mut.result.now c.requires.kept.shape c.blade_of-number.ensures (there inside c.args.self.now c.from.result c.blade_of-number.result c.index_mut.result.now at)
+    blade-own c.args.self.now c.args.hart c.blade_of-number.result c.index_mut.result.now c.requires.kept.shape c.blade_of-number.ensures
+    (there _ c.args.self.now _ c.blade_of-number.result c.index_mut.result.now (hart-at _ c.args.self.now _ _ c.args.hart _ c.self.view_is c.from.ensures c.index_mut.ensures.value c.requires.kept.shape c.blade_of-number.ensures))
 
 pub returns-in_err-drain-clause-spent : goal.returns-in_err-drain-clause-spent
 returns-in_err-drain-clause-spent c = λ err.
-    let inside : RackView = record { plan = c.self.inside.plan; blades = c.self.inside.blades.items; switch = c.self.inside.switch; memories = c.self.inside.memories.items; net = c.self.inside.net; asked = c.self.inside.asked } in
-    let at : IsAtPlace inside c.args.self.now c.from.result c.blade_of-number.result c.index_mut.result.now = record { view = c.self.view_is; index = c.from.ensures; value = c.index_mut.ensures.value; within = blade-within c.args.self.now c.args.hart c.blade_of-number.result c.requires.kept.shape c.blade_of-number.ensures } in
     let is : c.drain.result ≡ Err Spent = search rules in
     let spent = c.drain.ensures.spent is in
-    inr (inr (spent-place inside c.args.self.now c.from.result c.blade_of-number.result c.index_mut.result.now c.drain.new.self c.args.hart at (subst (λ (b : BladeView). HasSpent c.args.hart b) (sym spent.1) spent.0)))
+    inr (inr (spent-place _ c.args.self.now _ c.blade_of-number.result c.index_mut.result.now c.drain.new.self c.args.hart
+    (hart-at _ c.args.self.now _ _ c.args.hart _ c.self.view_is c.from.ensures c.index_mut.ensures.value c.requires.kept.shape c.blade_of-number.ensures)
+    (subst (λ (b : BladeView). HasSpent c.args.hart b) (sym spent.1) spent.0)))
 
 pub send_up-requires-clause-of_rack : goal.send_up-requires-clause-of_rack
 send_up-requires-clause-of_rack c = of-net c.blade_of-number.result c.args.self.now c.self.inside.net.blades (ap (λ (r : RackView). r.net.blades) c.self.view_is) c.requires.kept.shape (blade-within c.args.self.now c.args.hart c.blade_of-number.result c.requires.kept.shape c.blade_of-number.ensures)
 
 pub send_up-requires-clause-fields : goal.send_up-requires-clause-fields
 send_up-requires-clause-fields c =
-    let did : DidSome (after_drain c.args.hart c.index_mut.result.now) c.drain.new.self [] c.as_slice.result.now c.args.log.now.notes c.drain.new.log.notes =
-    subst (λ s. DidSome (after_drain c.args.hart c.index_mut.result.now) c.drain.new.self [] s c.args.log.now.notes c.drain.new.log.notes) (sym c.as_slice.ensures.value)
-    (subst (λ s. DidSome (after_drain c.args.hart c.index_mut.result.now) c.drain.new.self s c.drain.new.out.items c.args.log.now.notes c.drain.new.log.notes) c.new-sent.ensures.items c.in_ok-drain.ensures.ok) in
-    did-agrees (after_drain c.args.hart c.index_mut.result.now) c.index_mut.result.now c.drain.new.self c.as_slice.result.now c.args.log.now.notes c.drain.new.log.notes (drain_acts c.args.hart c.index_mut.result.now) did
+    did-agrees (blade_after_drain c.args.hart c.index_mut.result.now) c.index_mut.result.now c.drain.new.self c.as_slice.result.now c.args.log.now.notes c.drain.new.log.notes (drain_acts c.args.hart c.index_mut.result.now)
+    (did-sent (blade_after_drain c.args.hart c.index_mut.result.now) c.drain.new.self _ c.drain.new.out.items c.as_slice.result.now c.args.log.now.notes c.drain.new.log.notes c.new-sent.ensures.items c.as_slice.ensures.value c.in_ok-drain.ensures.ok)
 
 pub returns-clause-leads : goal.returns-clause-leads
 returns-clause-leads c = λ images.
-    let inside : RackView = record { plan = c.self.inside.plan; blades = c.self.inside.blades.items; switch = c.self.inside.switch; memories = c.self.inside.memories.items; net = c.self.inside.net; asked = c.self.inside.asked } in
-    let at : IsAtPlace inside c.args.self.now c.from.result c.blade_of-number.result c.index_mut.result.now = record { view = c.self.view_is; index = c.from.ensures; value = c.index_mut.ensures.value; within = blade-within c.args.self.now c.args.hart c.blade_of-number.result c.requires.kept.shape c.blade_of-number.ensures } in
-    let did : DidSome (after_drain c.args.hart c.index_mut.result.now) c.drain.new.self [] c.as_slice.result.now c.args.log.now.notes c.drain.new.log.notes =
-    subst (λ s. DidSome (after_drain c.args.hart c.index_mut.result.now) c.drain.new.self [] s c.args.log.now.notes c.drain.new.log.notes) (sym c.as_slice.ensures.value)
-    (subst (λ s. DidSome (after_drain c.args.hart c.index_mut.result.now) c.drain.new.self s c.drain.new.out.items c.args.log.now.notes c.drain.new.log.notes) c.new-sent.ensures.items c.in_ok-drain.ensures.ok) in
-    when-ok c.send_up.result
-    (λ done. hart-did (after_drain c.args.hart) c.args.hart c.blade_of-number.result c.blade_of-number.ensures.0 c.args.self.now c.send_up.new.self c.args.log.now.notes c.drain.new.log.notes c.blade_of-number.ensures.1 c.blade_of-number.ensures.2
-    (blade-did (after_drain c.args.hart) c.blade_of-number.result c.index_mut.result.now c.drain.new.self c.as_slice.result.now c.args.self.now c.send_up.new.self c.args.log.now.notes c.drain.new.log.notes
-    (went inside c.args.self.now c.send_up.new.self c.from.result c.blade_of-number.result c.index_mut.result.now c.drain.new.self c.as_slice.result.now at done) did))
-    c.send_up.ensures.ok
+    hart-acted (blade_after_drain c.args.hart) c.args.hart _ c.args.self.now c.send_up.new.self _ c.blade_of-number.result c.index_mut.result.now c.drain.new.self c.as_slice.result.now c.args.log.now.notes c.drain.new.log.notes c.send_up.result
+    (hart-at _ c.args.self.now _ _ c.args.hart _ c.self.view_is c.from.ensures c.index_mut.ensures.value c.requires.kept.shape c.blade_of-number.ensures)
+    c.blade_of-number.ensures
+    (did-sent (blade_after_drain c.args.hart c.index_mut.result.now) c.drain.new.self _ c.drain.new.out.items c.as_slice.result.now c.args.log.now.notes c.drain.new.log.notes c.new-sent.ensures.items c.as_slice.ensures.value c.in_ok-drain.ensures.ok) c.send_up.ensures.ok
 
 pub returns-clause-shape : goal.returns-clause-shape
 returns-clause-shape c =
-    let inside : RackView = record { plan = c.self.inside.plan; blades = c.self.inside.blades.items; switch = c.self.inside.switch; memories = c.self.inside.memories.items; net = c.self.inside.net; asked = c.self.inside.asked } in
-    let at : IsAtPlace inside c.args.self.now c.from.result c.blade_of-number.result c.index_mut.result.now = record { view = c.self.view_is; index = c.from.ensures; value = c.index_mut.ensures.value; within = blade-within c.args.self.now c.args.hart c.blade_of-number.result c.requires.kept.shape c.blade_of-number.ensures } in
-    when-ok c.send_up.result
-    (λ done. shape-went c.blade_of-number.result c.index_mut.result.now c.drain.new.self c.as_slice.result.now c.args.self.now c.send_up.new.self (went inside c.args.self.now c.send_up.new.self c.from.result c.blade_of-number.result c.index_mut.result.now c.drain.new.self c.as_slice.result.now at done)
-    c.drain.ensures.keeps (c.send_up.ensures.net (subst (λ (r : RackView). IsNet r.net) (sym c.self.view_is) c.requires.kept.shape.net)) c.requires.kept.shape)
-    c.send_up.ensures.ok
+    shape-acted _ c.args.self.now c.send_up.new.self _ c.blade_of-number.result c.index_mut.result.now c.drain.new.self c.as_slice.result.now c.send_up.result
+    (hart-at _ c.args.self.now _ _ c.args.hart _ c.self.view_is c.from.ensures c.index_mut.ensures.value c.requires.kept.shape c.blade_of-number.ensures) c.drain.ensures.keeps c.send_up.ensures.net c.requires.kept.shape c.send_up.ensures.ok

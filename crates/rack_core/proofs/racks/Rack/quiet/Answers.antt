@@ -1,5 +1,5 @@
 use Rattle.std.proofs.Common.{sym, subst}
-use Rattle.switch_core.specs.Handling as switches
+use Rattle.switch_core.specs.Handling.{IsQuietSwitch}
 use Rattle.rack_core.specs.Calls.{HasNoFrame, KeepsNothing}
 use Rattle.rack_core.specs.Rack.{RackView}
 use Rattle.rack_core.proofs.CodeEvents.{not-true}
@@ -12,4 +12,4 @@ pub returns-then-not-keeps_nothing : goal.returns-then-not-keeps_nothing
 returns-then-not-keeps_nothing c = (λ t. not-true t, λ q. c.if-not-keeps_nothing.ensures.1 (subst (λ (r : RackView). KeepsNothing r.net) (sym c.self.view_is) q.kept))
 
 pub returns-then-not-quiet : goal.returns-then-not-quiet
-returns-then-not-quiet c = (λ t. not-true t, λ q. c.if-not-quiet.ensures.1 (subst (λ (r : RackView). switches.IsQuiet r.switch) (sym c.self.view_is) q.switch))
+returns-then-not-quiet c = (λ t. not-true t, λ q. c.if-not-quiet.ensures.1 (subst (λ (r : RackView). IsQuietSwitch r.switch) (sym c.self.view_is) q.switch))
