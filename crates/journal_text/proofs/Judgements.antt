@@ -1,8 +1,8 @@
 -- A text has one judgement.
-use Rattle.std.proofs.Common.{◌≡◌, ℕ, ◌+◌, ◌<◌, ◌∙◌, List, [], ◌∷◌, ◌++◌, length, drop, append_assoc, append-nil, length-append, Result, Ok, Err, ap, sym, refl, arith}
+use Rattle.std.proofs.Common.{◌≡◌, ℕ, ◌∙◌, List, [], ◌∷◌, ◌++◌, length, drop, append_assoc, append-nil, length-append, Result, Ok, Err, ap, sym, refl, arith}
 use Rattle.mind_base.specs.declared.notes.Note.{Note}
-use Rattle.journal_text.specs.Journal.{heading, note_line, note_lines, journal_text_of, IsJournalNote, AreJournalNotes}
-use Rattle.journal_text.specs.Reading.{LacksHeading, LacksLine, IsBadLine, IsFault, IsJudged}
+use Rattle.journal_text.specs.Journal.{heading, note_line, note_lines, journal_text_of, AreJournalNotes}
+use Rattle.journal_text.specs.Reading.{LacksLine, IsBadLine, IsJournalFault, IsJudged}
 use Rattle.journal_text.specs.declared.refusals.JournalFault.{JournalFault}
 use Rattle.journal_text.specs.declared.refusals.JournalFault.TheVariants.{Head, Line}
 use Rattle.journal_text.proofs.Prefix.{line_some}
@@ -36,14 +36,14 @@ one-fault lines more line other same a b =
     let notes = (same-lines a.notes b.notes a.rest b.rest a.within b.within a.no_line b.no_line (sym a.front ∙ same ∙ b.front)).0 in
     omega (arith, a.number, b.number, ap length notes)
 
-refused-twice : (bytes : List ℕ) (line other : ℕ) (what why : JournalFault) → IsFault bytes line what → IsFault bytes other why → (line ≡ other) × (what ≡ why)
+refused-twice : (bytes : List ℕ) (line other : ℕ) (what why : JournalFault) → IsJournalFault bytes line what → IsJournalFault bytes other why → (line ≡ other) × (what ≡ why)
 refused-twice bytes line other Head Head a b = (a.0 ∙ sym b.0, refl)
 refused-twice bytes line other Head Line (first, lacks) (lines, is, bad) = absurd (lacks lines is)
 refused-twice bytes line other Line Head (lines, is, bad) (first, lacks) = absurd (lacks lines is)
 refused-twice bytes line other Line Line (lines, is, bad) (more, also, worse) =
     (one-fault lines more line other (behind-heading lines more (sym is ∙ also)) bad worse, refl)
 
-not-both : (bytes : List ℕ) (notes : List Note) (line : ℕ) (what : JournalFault) → AreJournalNotes notes → bytes ≡ journal_text_of notes → IsFault bytes line what → ⊥
+not-both : (bytes : List ℕ) (notes : List Note) (line : ℕ) (what : JournalFault) → AreJournalNotes notes → bytes ≡ journal_text_of notes → IsJournalFault bytes line what → ⊥
 not-both bytes notes line Head within is (first, lacks) = lacks (note_lines notes) is
 not-both bytes notes line Line within is (lines, also, bad) = no-fault notes lines line within (behind-heading lines (note_lines notes) (sym also ∙ is)) bad
 

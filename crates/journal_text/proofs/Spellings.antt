@@ -11,7 +11,9 @@ use Rattle.mind_base.specs.declared.notes.State.{State}
 use Rattle.mind_base.specs.declared.notes.State.TheVariants as state
 use Rattle.mind_base.specs.declared.notes.Note.{Note}
 use Rattle.mind_base.specs.declared.notes.Note.TheVariants.{Event, Exec, Drain, Command, Moved, Take, Give, Down, Region, Gone, Split, Merge}
-use Rattle.journal_text.specs.Journal.{decimal, page_text, range_text, outcome_word, access_word, state_text, note_line, IsPlace, IsBlock, IsJournalState, IsJournalNote}
+use Rattle.mind_base.specs.OutcomeWord.{outcome_word}
+use Rattle.std.specs.Fmt.{decimal}
+use Rattle.journal_text.specs.Journal.{page_text, range_text, access_word, state_text, note_line, IsNotedPage, IsBlock, IsJournalState, IsJournalNote}
 use Rattle.journal_text.proofs.Decimals.{ends}
 
 -- ---- the parts of a line
@@ -33,7 +35,7 @@ same-number n m end x y small few stop e =
 join : (p q x : List ℕ) → ((p ++ (32 ∷ [])) ++ q) ++ x ≡ p ++ (32 ∷ (q ++ x))
 join p q x = append_assoc (p ++ (32 ∷ [])) q x ∙ append_assoc p (32 ∷ []) (q ++ x)
 
-same-page : (p q : PageView) (end : ℕ) (x y : List ℕ) → IsPlace p → IsPlace q → is_digit end 10 ≡ false → page_text p ++ (end ∷ x) ≡ page_text q ++ (end ∷ y) → (p ≡ q) × (x ≡ y)
+same-page : (p q : PageView) (end : ℕ) (x y : List ℕ) → IsNotedPage p → IsNotedPage q → is_digit end 10 ≡ false → page_text p ++ (end ∷ x) ≡ page_text q ++ (end ∷ y) → (p ≡ q) × (x ≡ y)
 same-page p q end x y a b stop e =
     let domain = same-number p.domain q.domain 32 (decimal p.number ++ (end ∷ x)) (decimal q.number ++ (end ∷ y)) (omega (arith, a.0)) (omega (arith, b.0)) refl
     (sym (join (decimal p.domain) (decimal p.number) (end ∷ x)) ∙ e ∙ join (decimal q.domain) (decimal q.number) (end ∷ y)) in

@@ -1,19 +1,14 @@
 -- The text of a log: a heading, and one line for each note.
 use Rattle.std.specs.Prelude.{ℕ, ◌<◌, Bool, true, false, codes, List, ◌++◌}
 use Rattle.std.specs.List.{flat_map, AllByRecursion}
-use Rattle.std.specs.Fmt.{digits}
+use Rattle.std.specs.Fmt.{decimal}
 use Rattle.mind_base.specs.Page.{PageView, IsPage}
 use Rattle.mind_base.specs.Range.{RangeView, IsRange}
-use Rattle.mind_base.specs.declared.commands.Outcome.{Outcome}
-use Rattle.mind_base.specs.declared.commands.Outcome.TheVariants as outcome
 use Rattle.mind_base.specs.declared.notes.State.{State}
 use Rattle.mind_base.specs.declared.notes.State.TheVariants as state
 use Rattle.mind_base.specs.declared.notes.Note.{Note}
 use Rattle.mind_base.specs.declared.notes.Note.TheVariants as note
-
--- a number in decimal digits
-abbrev pub decimal : ℕ → List ℕ
-decimal n = digits 10 false n
+use Rattle.mind_base.specs.OutcomeWord.{outcome_word}
 
 abbrev pub page_text : PageView → List ℕ
 page_text page = decimal page.domain ++ codes " " ++ decimal page.number
@@ -21,15 +16,6 @@ page_text page = decimal page.domain ++ codes " " ++ decimal page.number
 -- a block: its domain, its first page, and the logarithm of its pages
 abbrev pub range_text : RangeView → List ℕ
 range_text range = decimal range.domain ++ codes " " ++ decimal range.base ++ codes " " ++ decimal range.log
-
-abbrev pub outcome_word : Outcome → List ℕ
-outcome_word outcome.Fine = codes "ok"
-outcome_word outcome.Unplaced = codes "unplaced"
-outcome_word outcome.Overlap = codes "overlap"
-outcome_word outcome.Unmapped = codes "unmapped"
-outcome_word outcome.Slots = codes "slots"
-outcome_word outcome.Same = codes "same"
-outcome_word outcome.Room = codes "room"
 
 -- whether a page was taken to be written
 abbrev pub access_word : Bool → List ℕ
@@ -75,8 +61,8 @@ IsJournalState (state.S sharers) = (0 < sharers) × (sharers < 256)
 IsJournalState (state.M owner) = owner < 8
 
 -- the page is one of a domain
-abbrev pub IsPlace : PageView → Type 0
-IsPlace page = IsPage page.domain page.number
+abbrev pub IsNotedPage : PageView → Type 0
+IsNotedPage page = IsPage page.domain page.number
 
 -- the block is one of a domain
 abbrev pub IsBlock : RangeView → Type 0
@@ -89,9 +75,9 @@ IsJournalNote (note.Exec hart) = hart < 64
 IsJournalNote (note.Drain hart) = hart < 64
 IsJournalNote (note.Command index) = index < 1000000
 IsJournalNote (note.Moved index outcome) = index < 1000000
-IsJournalNote (note.Take blade page writable) = (blade < 8) × IsPlace page
-IsJournalNote (note.Give blade page) = (blade < 8) × IsPlace page
-IsJournalNote (note.Down blade page) = (blade < 8) × IsPlace page
+IsJournalNote (note.Take blade page writable) = (blade < 8) × IsNotedPage page
+IsJournalNote (note.Give blade page) = (blade < 8) × IsNotedPage page
+IsJournalNote (note.Down blade page) = (blade < 8) × IsNotedPage page
 IsJournalNote (note.Region range state) = IsBlock range × IsJournalState state
 IsJournalNote (note.Gone range) = IsBlock range
 IsJournalNote (note.Split range) = IsBlock range

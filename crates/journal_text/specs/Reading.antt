@@ -28,20 +28,20 @@ pub record IsBadLine (lines : List ℕ) (line : ℕ) : Type 0 where
   pub no_line : LacksLine rest
 
 -- the fault is the first of the text, at this line
-abbrev pub IsFault : List ℕ → ℕ → JournalFault → Type 0
-IsFault bytes line Head = (line ≡ 1) × LacksHeading bytes
-IsFault bytes line Line = (lines : List ℕ) × (bytes ≡ heading ++ lines) × IsBadLine lines line
+abbrev pub IsJournalFault : List ℕ → ℕ → JournalFault → Type 0
+IsJournalFault bytes line Head = (line ≡ 1) × LacksHeading bytes
+IsJournalFault bytes line Line = (lines : List ℕ) × (bytes ≡ heading ++ lines) × IsBadLine lines line
 
 -- How a text is judged: it is the journal of these notes, whose numbers are within bounds, or it is none by this first
 -- fault, at this line.
 abbrev pub IsJudged : List ℕ → Result (List Note) (ℕ × JournalFault) → Type 0
 IsJudged bytes (Ok notes) = AreJournalNotes notes × (bytes ≡ journal_text_of notes)
-IsJudged bytes (Err (line, what)) = IsFault bytes line what
+IsJudged bytes (Err (line, what)) = IsJournalFault bytes line what
 
 -- a refusal names the first fault of the text, where it is not want of memory
 abbrev pub IsRefusal : List ℕ → JournalRefusal → Type 0
 IsRefusal bytes NoMemory = Unit {0}
-IsRefusal bytes (Refused line what) = IsFault bytes line what
+IsRefusal bytes (Refused line what) = IsJournalFault bytes line what
 
 abbrev pub IsWant : JournalRefusal → Type 0
 IsWant NoMemory = Unit {0}

@@ -1,23 +1,35 @@
+//! The numbers, pages and ranges of a journal's lines.
+
 ghost use Rattle.std.specs.Prelude.{◌≡◌, ℕ, ◌<◌, ◌≤◌, ◌^◌, ◌++◌, ◌∷◌, List, false, length, IfSome, MatchOption};
 ghost use Rattle.std.specs.List.{prefix_len};
 ghost use Rattle.std.specs.Char.{digit_value, is_digit};
 ghost use Rattle.std.specs.Str.Parse.{AllDigits};
 ghost use Rattle.mind_base.specs.Page.{PageView};
 ghost use Rattle.mind_base.specs.Range.{RangeView};
-ghost use Rattle.journal_text.specs.Journal.{decimal, page_text, range_text, IsPlace, IsBlock};
+ghost use Rattle.std.specs.Fmt.{decimal};
+ghost use Rattle.journal_text.specs.Journal.{page_text, range_text, IsNotedPage, IsBlock};
 
 use mind_base::{Page, Range};
 
+/// The numbers of harts are less than this.
+pub const THREADS: u32 = 64;
+
+/// The numbers of compute blades are less than this.
+pub const BLADES: u32 = 8;
+
+/// The numbers of events and of commands are less than this.
+pub const EVENTS: u32 = 1_000_000;
+
+const DOMAINS: u32 = 16;
+
+/// The pages of a domain.
+const PAGES: u32 = 0x10_0000;
+
 /// The value of a digit or letter as a digit; 36 for any other byte.
-fn digit(byte: u8) -> u8
+fn digit(byte: u8) -> u32
     ensures { result ≡ digit_value byte }
 {
-    match byte {
-        b'0'..=b'9' => byte - b'0',
-        b'A'..=b'Z' => byte - b'A' + 10,
-        b'a'..=b'z' => byte - b'a' + 10,
-        _ => 36,
-    }
+    char::from(byte).to_digit(36).unwrap_or(36)
 }
 
 /// How many digits the text begins with.
@@ -25,7 +37,7 @@ fn digit_count(text: &[u8]) -> usize
     ensures { result ≡ prefix_len (λ b. is_digit b 10) text.now }
 {
     for (i, b) in text.iter().enumerate() {
-        if digit(*b) >= 10 {
+        if !char::from(*b).is_digit(10) {
             return i;
         }
     }
@@ -47,7 +59,7 @@ fn value_of(digits: &[u8], below: u32) -> Option<u32>
     }
     let mut value: u32 = 0;
     for byte in digits {
-        value = value * 10 + u32::from(digit(*byte));
+        value = value * 10 + digit(*byte);
         if value >= below {
             return None;
         }
@@ -80,11 +92,11 @@ pub fn number_before(text: &[u8], end: u8, below: u32) -> Option<(u32, &[u8])>
 /// A page up to the byte that ends it, and what follows that byte.
 pub fn page_before(text: &[u8], end: u8) -> Option<(Page, &[u8])>
     requires { is_digit end 10 ≡ false }
-    ensures found { IfSome result (λ read. IsPlace read.0 × (text.now ≡ page_text read.0 ++ end ∷ read.1.now)) }
-    ensures only { (page : PageView) (rest : List ℕ) → IsPlace page → text.now ≡ page_text page ++ end ∷ rest → MatchOption result ⊥ (λ read. (read.0 ≡ page) × (read.1.now ≡ rest)) }
+    ensures found { IfSome result (λ read. IsNotedPage read.0 × (text.now ≡ page_text read.0 ++ end ∷ read.1.now)) }
+    ensures only { (page : PageView) (rest : List ℕ) → IsNotedPage page → text.now ≡ page_text page ++ end ∷ rest → MatchOption result ⊥ (λ read. (read.0 ≡ page) × (read.1.now ≡ rest)) }
 {
-    let (domain, rest) = number_before(text, b' ', 16)?;
-    let (number, rest) = number_before(rest, end, 0x10_0000)?;
+    let (domain, rest) = number_before(text, b' ', DOMAINS)?;
+    let (number, rest) = number_before(rest, end, PAGES)?;
     let page = Page {
         domain: domain as u8,
         number,
@@ -98,8 +110,8 @@ pub fn range_before(text: &[u8], end: u8) -> Option<(Range, &[u8])>
     ensures found { IfSome result (λ read. IsBlock read.0 × (text.now ≡ range_text read.0 ++ end ∷ read.1.now)) }
     ensures only { (range : RangeView) (rest : List ℕ) → IsBlock range → text.now ≡ range_text range ++ end ∷ rest → MatchOption result ⊥ (λ read. (read.0 ≡ range) × (read.1.now ≡ rest)) }
 {
-    let (domain, rest) = number_before(text, b' ', 16)?;
-    let (base, rest) = number_before(rest, b' ', 0x10_0000)?;
+    let (domain, rest) = number_before(text, b' ', DOMAINS)?;
+    let (base, rest) = number_before(rest, b' ', PAGES)?;
     let (log, rest) = number_before(rest, end, 10)?;
     let log = log as u8;
     if base % (1 << log) != 0 {

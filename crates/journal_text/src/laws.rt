@@ -1,3 +1,5 @@
+//! The law of journals: a function that does nothing, with the law as clauses.
+
 ghost use Rattle.std.specs.Prelude.{◌≡◌, ◌++◌, ℕ, List, Result};
 ghost use Rattle.mind_base.specs.declared.notes.Note.{Note};
 ghost use Rattle.journal_text.specs.declared.refusals.JournalFault.{JournalFault};

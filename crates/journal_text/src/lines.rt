@@ -1,50 +1,30 @@
+//! The line of a note, written.
+
 ghost use Rattle.std.specs.Prelude.{◌≡◌, ◌++◌, codes, OnOk};
-ghost use Rattle.journal_text.specs.Journal.{decimal, page_text, range_text, outcome_word, access_word, state_text, note_line};
+ghost use Rattle.mind_base.specs.OutcomeWord.{outcome_word};
+ghost use Rattle.std.specs.Fmt.{decimal};
+ghost use Rattle.journal_text.specs.Journal.{page_text, range_text, access_word, state_text, note_line};
 
 use mind_base::{NoMemory, Note, Outcome, Page, Range, State};
+use plain_text::put_decimal;
 use std::alloc::Global;
-
-/// A number in decimal digits.
-fn put_decimal(alloc: Global, out: &mut Vec<u8>, n: u32) -> Result<(), NoMemory>
-    ensures { OnOk result (out.new.items ≡ out.old.items ++ decimal n) }
-{
-    let text = format!(in alloc; "{n}")?;
-    out.extend_from_slice(text.as_bytes())?;
-    Ok(())
-}
 
 fn put_page(alloc: Global, out: &mut Vec<u8>, page: &Page) -> Result<(), NoMemory>
     ensures { OnOk result (out.new.items ≡ out.old.items ++ page_text page.now) }
 {
-    put_decimal(alloc, out, u32::from(page.domain))?;
+    put_decimal(alloc, out, u64::from(page.domain))?;
     out.extend_from_slice(b" ")?;
-    put_decimal(alloc, out, page.number)?;
-    Ok(())
+    put_decimal(alloc, out, u64::from(page.number))
 }
 
 fn put_range(alloc: Global, out: &mut Vec<u8>, range: &Range) -> Result<(), NoMemory>
     ensures { OnOk result (out.new.items ≡ out.old.items ++ range_text range.now) }
 {
-    put_decimal(alloc, out, u32::from(range.domain))?;
+    put_decimal(alloc, out, u64::from(range.domain))?;
     out.extend_from_slice(b" ")?;
-    put_decimal(alloc, out, range.base)?;
+    put_decimal(alloc, out, u64::from(range.base))?;
     out.extend_from_slice(b" ")?;
-    put_decimal(alloc, out, u32::from(range.log))?;
-    Ok(())
-}
-
-fn word_for(outcome: Outcome) -> &'static [u8]
-    ensures { result.now ≡ outcome_word outcome }
-{
-    match outcome {
-        Outcome::Fine => b"ok",
-        Outcome::Unplaced => b"unplaced",
-        Outcome::Overlap => b"overlap",
-        Outcome::Unmapped => b"unmapped",
-        Outcome::Slots => b"slots",
-        Outcome::Same => b"same",
-        Outcome::Room => b"room",
-    }
+    put_decimal(alloc, out, u64::from(range.log))
 }
 
 fn access_for(writable: bool) -> &'static [u8]
@@ -63,11 +43,11 @@ fn put_state(alloc: Global, out: &mut Vec<u8>, state: State) -> Result<(), NoMem
         }
         State::S { sharers } => {
             out.extend_from_slice(b"s ")?;
-            put_decimal(alloc, out, u32::from(sharers))
+            put_decimal(alloc, out, u64::from(sharers))
         }
         State::M { owner } => {
             out.extend_from_slice(b"m ")?;
-            put_decimal(alloc, out, u32::from(owner))
+            put_decimal(alloc, out, u64::from(owner))
         }
     }
 }
@@ -77,7 +57,7 @@ fn put_counted(alloc: Global, out: &mut Vec<u8>, letter: &[u8], n: u32) -> Resul
     ensures { OnOk result (out.new.items ≡ out.old.items ++ (letter.now ++ decimal n)) }
 {
     out.extend_from_slice(letter)?;
-    put_decimal(alloc, out, n)
+    put_decimal(alloc, out, u64::from(n))
 }
 
 /// A letter with its space, and a block.
@@ -108,7 +88,7 @@ fn put_moved(alloc: Global, out: &mut Vec<u8>, index: u32, outcome: Outcome) -> 
 {
     put_counted(alloc, out, b"m ", index)?;
     out.extend_from_slice(b" ")?;
-    out.extend_from_slice(word_for(outcome))?;
+    out.extend_from_slice(outcome.word())?;
     Ok(())
 }
 

@@ -1,11 +1,14 @@
+//! The words of a journal's lines: outcomes, accesses and states, read.
+
 ghost use Rattle.std.specs.Prelude.{◌≡◌, ℕ, ◌<◌, ◌++◌, ◌∷◌, List, Bool, IfSome, MatchOption};
-ghost use Rattle.mind_base.specs.Page.{PageView};
 ghost use Rattle.mind_base.specs.declared.commands.Outcome.{Outcome};
 ghost use Rattle.mind_base.specs.declared.notes.State.{State};
-ghost use Rattle.journal_text.specs.Journal.{decimal, page_text, outcome_word, state_text, access_word, IsJournalState, IsPlace};
+ghost use Rattle.mind_base.specs.OutcomeWord.{outcome_word};
+ghost use Rattle.std.specs.Fmt.{decimal};
+ghost use Rattle.journal_text.specs.Journal.{state_text, access_word, IsJournalState};
 
-use crate::fields::{number_before, page_before};
-use mind_base::{Outcome, Page, State};
+use crate::fields::{BLADES, number_before};
+use mind_base::{Outcome, State};
 
 /// What follows a word that the text begins with.
 pub fn behind<'a>(text: &'a [u8], word: &[u8]) -> Option<&'a [u8]>
@@ -14,30 +17,40 @@ pub fn behind<'a>(text: &'a [u8], word: &[u8]) -> Option<&'a [u8]>
     text.strip_prefix(word)
 }
 
+/// What follows the word of this outcome and the end of its line.
+fn outcome_front(text: &[u8], outcome: Outcome) -> Option<&[u8]>
+    ensures { MatchOption result ((rest : List ℕ) → text.now ≡ outcome_word outcome ++ 10 ∷ rest → ⊥) (λ rest. text.now ≡ outcome_word outcome ++ 10 ∷ rest.now) }
+{
+    match behind(text, outcome.word()) {
+        None => None,
+        Some(line_end) => behind(line_end, b"\n"),
+    }
+}
+
 /// The word of an outcome and the end of its line, and what follows.
 pub fn outcome_line(text: &[u8]) -> Option<(Outcome, &[u8])>
     ensures found { IfSome result (λ read. text.now ≡ outcome_word read.0 ++ 10 ∷ read.1.now) }
     ensures only { (outcome : Outcome) (rest : List ℕ) → text.now ≡ outcome_word outcome ++ 10 ∷ rest → MatchOption result ⊥ (λ read. (read.0 ≡ outcome) × (read.1.now ≡ rest)) }
 {
-    if let Some(rest) = behind(text, b"ok\n") {
+    if let Some(rest) = outcome_front(text, Outcome::Fine) {
         return Some((Outcome::Fine, rest));
     }
-    if let Some(rest) = behind(text, b"unplaced\n") {
+    if let Some(rest) = outcome_front(text, Outcome::Unplaced) {
         return Some((Outcome::Unplaced, rest));
     }
-    if let Some(rest) = behind(text, b"overlap\n") {
+    if let Some(rest) = outcome_front(text, Outcome::Overlap) {
         return Some((Outcome::Overlap, rest));
     }
-    if let Some(rest) = behind(text, b"unmapped\n") {
+    if let Some(rest) = outcome_front(text, Outcome::Unmapped) {
         return Some((Outcome::Unmapped, rest));
     }
-    if let Some(rest) = behind(text, b"slots\n") {
+    if let Some(rest) = outcome_front(text, Outcome::Slots) {
         return Some((Outcome::Slots, rest));
     }
-    if let Some(rest) = behind(text, b"same\n") {
+    if let Some(rest) = outcome_front(text, Outcome::Same) {
         return Some((Outcome::Same, rest));
     }
-    if let Some(rest) = behind(text, b"room\n") {
+    if let Some(rest) = outcome_front(text, Outcome::Room) {
         return Some((Outcome::Room, rest));
     }
     None
@@ -82,7 +95,7 @@ pub fn state_line(text: &[u8]) -> Option<(State, &[u8])>
         return Some((State::S { sharers }, rest));
     }
     if let Some(front) = behind(text, b"m ") {
-        let (owner, rest) = number_before(front, b'\n', 8)?;
+        let (owner, rest) = number_before(front, b'\n', BLADES)?;
         return Some((State::M { owner: owner as u8 }, rest));
     }
     None

@@ -1,3 +1,5 @@
+//! The notes of a journal, or the first fault of its text.
+
 ghost use Rattle.std.specs.Prelude.{◌≡◌, ◌+◌, ◌<◌, ◌^◌, List, length, IfOk, IfErr};
 ghost use Rattle.mind_base.specs.declared.notes.Note.{Note};
 ghost use Rattle.journal_text.specs.Journal.{note_lines, journal_text_of, AreJournalNotes};

@@ -1,3 +1,5 @@
+//! Why a text is no journal.
+
 ghost use Rattle.std.specs.Prelude.{◌≡◌};
 ghost use Rattle.journal_text.specs.declared.refusals.JournalRefusal.TheVariants.{NoMemory as no_memory};
 

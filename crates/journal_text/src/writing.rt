@@ -1,3 +1,5 @@
+//! The journal of a log.
+
 ghost use Rattle.std.specs.Prelude.{◌≡◌, IfOk};
 ghost use Rattle.journal_text.specs.Journal.{journal_text_of};
 

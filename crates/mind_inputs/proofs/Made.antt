@@ -13,8 +13,10 @@ use Rattle.rack_gen.specs.declared.lines.Line.TheVariants.{Step, Drain, Deliver,
 use Rattle.rack_gen.specs.Line.{event_of}
 use Rattle.rack_gen.specs.Generator.{lines_for, generated, generated_text}
 use Rattle.rack_gen.proofs.Made.{IsSized, text_reads, text_fits}
-use Rattle.mind_inputs.specs.Inputs.{Long, Bytes, Ending, Judged, JudgesWith, JudgesSchedule, MakesEvents, Judges, JudgesMade, is_built, IsBuilt, schedule_answer, schedule_judged, seen_of, rack_judged}
-use Rattle.mind_inputs.proofs.Chains.{one-is}
+use Rattle.mind_inputs.specs.Inputs.{Long, Bytes, Ending, Judged, ImagesSeen, Judges, JudgesMade, is_built, IsBuilt, schedule_answer, schedule_judged, seen_of, rack_seen_judged, judged_then, images_judged, events_then, made_judged, judge, judge_made}
+use Rattle.mind_inputs.proofs.Chains.{judges-judge, judges-made, judge-judges, made-judges}
+use Rattle.mind_inputs.specs.Words.{Paths}
+use Rattle.mind_base.specs.declared.images.Image.{Image}
 
 built-line : (line : Line) → IsBuilt (event_of line)
 built-line (Step hart) = refl
@@ -55,29 +57,26 @@ schedule-made plan count seed fit few =
     ∙ ap schedule_answer (text_reads plan count seed (sized plan fit) few)
     ∙ rw (all-built (generated plan count seed) (generated-built plan count seed)) refl
 
--- events that are judged one way are judged the other, for the rack that is read
-events-as : (files : Files) (rack : List ℕ) (events other : RackPlan → Result (List Event) Ending → Type 0) (judged : Judged)
-    → ((plan : RackPlan) → rack_judged (seen_of (finite.get files rack) 65536) ≡ Ok plan → (answer : Result (List Event) Ending) → events plan answer → other plan answer)
-    → JudgesWith (Some files) rack events judged → JudgesWith (Some files) rack other judged
-events-as files rack events other judged turn (Err ending, one, rest) = (Err ending, one, rest)
-events-as files rack events other judged turn (Ok plan, one, (Err ending, images, rest)) = (Ok plan, one, (Err ending, images, rest))
-events-as files rack events other judged turn (Ok plan, one, (Ok images, parts, (answer, by, rest))) =
-    (Ok plan, one, (Ok images, parts, (answer, turn plan (sym (one-is files rack 65536 rack_judged (Ok plan) one)) answer by, rest)))
-
-same-plan : (plan other : RackPlan) (judged : Result RackPlan Ending) → judged ≡ Ok plan → judged ≡ Ok other → other ≡ plan
-same-plan plan other judged a b = let e = sym b ∙ a in cc
+-- events that are the same for the rack that is read are judged the same
+same-judged : (events other : RackPlan → Result (List Event) Ending) (r : Result RackPlan Ending) (plan : RackPlan) (images : ImagesSeen) → r ≡ Ok plan → events plan ≡ other plan
+    → events_then events (judged_then r (λ p. judged_then (images_judged images [] p.images) (λ accepted. Ok (p, accepted))))
+    ≡ events_then other (judged_then r (λ p. judged_then (images_judged images [] p.images) (λ accepted. Ok (p, accepted))))
+same-judged events other r plan images is same = rw (is) (behind (images_judged images [] plan.images))
+  where
+    behind : (x : Result (List Image) Ending) → events_then events (judged_then x (λ accepted. Ok (plan, accepted))) ≡ events_then other (judged_then x (λ accepted. Ok (plan, accepted)))
+    behind (Ok accepted) = ap (λ es. judged_then es (λ made. Ok (record { plan = plan; images = accepted; events = made }))) same
+    behind (Err ending) = refl
 
 pub judged-made : (files : Files) (rack schedule : List ℕ) (plan : RackPlan) (count seed : ℕ) → IsFit plan → count ≤ 200000
-    → rack_judged (seen_of (finite.get files rack) 65536) ≡ Ok plan → finite.get files schedule ≡ Some (generated_text plan count seed)
+    → rack_seen_judged (seen_of (finite.get files rack) 65536) ≡ Ok plan → finite.get files schedule ≡ Some (generated_text plan count seed)
     → (judged : Judged) → JudgesMade (Some files) rack count seed judged ↔ Judges (Some files) (record { rack = rack; schedule = schedule }) judged
 judged-made files rack schedule plan count seed fit few read held judged =
+    let paths : Paths = record { rack = rack; schedule = schedule } in
     let text : schedule_judged plan (seen_of (finite.get files schedule) 4194304) ≡ Ok (generated plan count seed) =
     ap (λ h. schedule_judged plan (seen_of h 4194304)) held ∙ schedule-made plan count seed fit few in
-    let Is : RackPlan → Type 0 = λ p. schedule_judged p (seen_of (finite.get files schedule) 4194304) ≡ Ok (generated p count seed) in
-    let is : (other : RackPlan) → rack_judged (seen_of (finite.get files rack) 65536) ≡ Ok other → Is other =
-    λ other also. subst Is (sym (same-plan plan other (rack_judged (seen_of (finite.get files rack) 65536)) read also)) text in (
-      events-as files rack (MakesEvents count seed) (JudgesSchedule (Some files) schedule) judged
-          (λ other also answer made. (seen_of (finite.get files schedule) 4194304, refl, is other also ∙ sym made)),
-      events-as files rack (JudgesSchedule (Some files) schedule) (MakesEvents count seed) judged
-          (λ other also answer one. one-is files schedule 4194304 (schedule_judged other) answer one ∙ is other also),
+    let same : judge files paths ≡ judge_made files rack count seed =
+    same-judged (λ p. schedule_judged p (seen_of (finite.get files schedule) 4194304)) (made_judged count seed) (rack_seen_judged (seen_of (finite.get files rack) 65536)) plan
+    (λ n name. seen_of (finite.get files name) 65536) read text in (
+      (λ made. judge-judges files paths judged (judges-made files rack count seed judged made ∙ sym same)),
+      (λ run. made-judges files rack count seed judged (judges-judge files paths judged run ∙ same)),
     )

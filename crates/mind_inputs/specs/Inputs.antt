@@ -1,5 +1,5 @@
 -- The inputs of a run, read and judged one after another: the first that is not held or is refused ends the call.
-use Rattle.std.specs.Prelude.{◌≡◌, ℕ, Bool, true, false, nat_lt, List, [], ◌∷◌, ◌++◌, length, Option, Some, None, Result, Ok, Err, MatchResult, if◌then◌else◌}
+use Rattle.std.specs.Prelude.{◌≡◌, ℕ, zero, suc, Bool, true, false, nat_lt, List, [], ◌∷◌, ◌++◌, length, Option, Some, None, Result, Ok, Err, if◌then◌else◌}
 use Rattle.std.specs.List.{list_all}
 use Rattle.std.specs.FinMap as finite
 use Rattle.mind_base.specs.Store.{Files}
@@ -37,10 +37,9 @@ pub record Accepted : Type 0 where
   pub images : List Image
   pub events : List Event
 
--- how the inputs are judged together
-pub data Judged : Type 0 where
-  Ends : (ending : Ending) → Judged
-  Accepts : (accepted : Accepted) → Judged
+-- how the inputs are judged together: these are run, or one of them ends the call
+abbrev pub Judged : Type 0
+Judged = Result Accepted Ending
 
 -- ---- one input
 
@@ -48,10 +47,10 @@ abbrev pub rack_answer : Result RackPlan (RackFault × List ℕ) → Result Rack
 rack_answer (Ok plan) = Ok plan
 rack_answer (Err (what, path)) = Err (Refused (RackRefused what path))
 
-abbrev pub rack_judged : Seen → Result RackPlan Ending
-rack_judged Absent = Err Missing
-rack_judged Long = Err (Refused RackLong)
-rack_judged (Bytes bytes) = rack_answer (racks.rack_judged (racks.document_of bytes))
+abbrev pub rack_seen_judged : Seen → Result RackPlan Ending
+rack_seen_judged Absent = Err Missing
+rack_seen_judged Long = Err (Refused RackLong)
+rack_seen_judged (Bytes bytes) = rack_answer (racks.rack_judged (racks.document_of bytes))
 
 abbrev pub image_answer : ℕ → Result Image ImageFault → Result Image Ending
 image_answer number (Ok image) = Ok image
@@ -59,10 +58,10 @@ image_answer number (Err Length) = Err (Refused (ImageLength number))
 image_answer number (Err End) = Err (Refused (ImageEnd number))
 
 -- the image with this number
-abbrev pub image_judged : ℕ → ImagePlan → Seen → Result Image Ending
-image_judged number plan Absent = Err Missing
-image_judged number plan Long = Err (Refused (ImageLong number))
-image_judged number plan (Bytes bytes) = image_answer number (image_file.image_judged plan bytes)
+abbrev pub image_seen_judged : ℕ → ImagePlan → Seen → Result Image Ending
+image_seen_judged number plan Absent = Err Missing
+image_seen_judged number plan Long = Err (Refused (ImageLong number))
+image_seen_judged number plan (Bytes bytes) = image_answer number (image_file.image_bytes_judged plan bytes)
 
 -- events of this kind are built: all but commands
 abbrev pub is_built : Event → Bool
@@ -89,6 +88,38 @@ schedule_judged plan Absent = Err Missing
 schedule_judged plan Long = Err (Refused ScheduleLong)
 schedule_judged plan (Bytes bytes) = schedule_answer (schedule_in plan bytes)
 
+-- ---- all of them, by what is seen of each
+
+-- the next judgement, unless this one ends the call
+abbrev pub judged_then : {X Y : Type 0} → Result X Ending → (X → Result Y Ending) → Result Y Ending
+judged_then (Ok x) next = next x
+judged_then (Err ending) next = Err ending
+
+-- what is seen of images that are read one after another, by their numbers and their names
+abbrev pub ImagesSeen : Type 0
+ImagesSeen = ℕ → List ℕ → Seen
+
+-- the images of these plans, one after another, behind those that are accepted
+abbrev pub images_judged : ImagesSeen → List Image → List ImagePlan → Result (List Image) Ending
+images_judged seen accepted [] = Ok accepted
+images_judged seen accepted (plan ∷ plans) =
+    judged_then (image_seen_judged (length accepted) plan (seen zero plan.name))
+    (λ image. images_judged (λ n. seen (suc n)) (accepted ++ image ∷ []) plans)
+
+-- the rack, and then its images in their order
+abbrev pub parts_judged : Seen → ImagesSeen → Result (RackPlan × List Image) Ending
+parts_judged rack images =
+    judged_then (rack_seen_judged rack) (λ plan. judged_then (images_judged images [] plan.images) (λ accepted. Ok (plan, accepted)))
+
+-- and then the events, by how those of a rack are judged
+abbrev pub events_then : (RackPlan → Result (List Event) Ending) → Result (RackPlan × List Image) Ending → Judged
+events_then events parts =
+    judged_then parts (λ p. judged_then (events p.0) (λ accepted. Ok (record { plan = p.0; images = p.1; events = accepted })))
+
+-- the events that the generator makes for the rack; no more is read
+abbrev pub made_judged : ℕ → ℕ → RackPlan → Result (List Event) Ending
+made_judged count seed plan = Ok (generated plan count seed)
+
 -- ---- reading
 
 -- what a read with a limit sees of what is held
@@ -97,86 +128,47 @@ seen_of None limit = Absent
 seen_of (Some bytes) limit = if nat_lt limit (length bytes) then Long else Bytes bytes
 
 -- this is what is seen under a name, where the store tells what it holds
-abbrev pub Reads : Option Files → List ℕ → ℕ → Seen → Type 0
-Reads None name limit seen = Unit {0}
-Reads (Some files) name limit seen = seen_of (finite.get files name) limit ≡ seen
+abbrev pub SeesFile : Option Files → List ℕ → ℕ → Seen → Type 0
+SeesFile None name limit seen = Unit {0}
+SeesFile (Some files) name limit seen = seen_of (finite.get files name) limit ≡ seen
+
+-- this is what is seen of each image
+abbrev pub SeesImages : Option Files → ImagesSeen → Type 0
+SeesImages holds images = (n : ℕ) (name : List ℕ) → SeesFile holds name 65536 (images n name)
 
 -- what is seen under a name is judged so
 abbrev pub JudgesOne : {X : Type 0} → Option Files → List ℕ → ℕ → (Seen → Result X Ending) → Result X Ending → Type 0
-JudgesOne holds name limit judged answer = (seen : Seen) × Reads holds name limit seen × (judged seen ≡ answer)
+JudgesOne holds name limit judged answer = (seen : Seen) × SeesFile holds name limit seen × (judged seen ≡ answer)
 
--- the images of these plans are judged so, one after another, behind those that are accepted
+-- what is seen of the images of these plans is judged so, behind those that are accepted
 abbrev pub JudgesImages : Option Files → List Image → List ImagePlan → Result (List Image) Ending → Type 0
-JudgesImages holds accepted [] answer = answer ≡ Ok accepted
-JudgesImages holds accepted (plan ∷ plans) answer =
-    (seen : Seen) × Reads holds plan.name 65536 seen ×
-    MatchResult (image_judged (length accepted) plan seen)
-    (λ image. JudgesImages holds (accepted ++ image ∷ []) plans answer)
-    (λ ending. answer ≡ Err ending)
+JudgesImages holds accepted plans answer = (images : ImagesSeen) × SeesImages holds images × (images_judged images accepted plans ≡ answer)
 
--- ---- one after another: the rest of the judgement, by what was judged last
+-- what is seen of the rack and its images is judged so
+abbrev pub JudgesParts : Option Files → List ℕ → Result (RackPlan × List Image) Ending → Type 0
+JudgesParts holds rack answer =
+    (seen : Seen) × SeesFile holds rack 65536 seen × (images : ImagesSeen) × SeesImages holds images × (parts_judged seen images ≡ answer)
 
-abbrev pub AfterSchedule : RackPlan → List Image → Result (List Event) Ending → Judged → Type 0
-AfterSchedule plan images (Err ending) judged = judged ≡ Ends ending
-AfterSchedule plan images (Ok events) judged = judged ≡ Accepts (record { plan = plan; images = images; events = events })
+-- and behind them the events
+abbrev pub JudgesWith : Option Files → List ℕ → (RackPlan → Result (List Event) Ending) → Judged → Type 0
+JudgesWith holds rack events judged = (parts : Result (RackPlan × List Image) Ending) × JudgesParts holds rack parts × (events_then events parts ≡ judged)
 
--- by how the events of a rack are judged
-abbrev pub AfterImages : (RackPlan → Result (List Event) Ending → Type 0) → RackPlan → Result (List Image) Ending → Judged → Type 0
-AfterImages events plan (Err ending) judged = judged ≡ Ends ending
-AfterImages events plan (Ok images) judged = (answer : Result (List Event) Ending) × events plan answer × AfterSchedule plan images answer judged
-
-abbrev pub AfterRack : Option Files → (RackPlan → Result (List Event) Ending → Type 0) → Result RackPlan Ending → Judged → Type 0
-AfterRack holds events (Err ending) judged = judged ≡ Ends ending
-AfterRack holds events (Ok plan) judged = (answer : Result (List Image) Ending) × JudgesImages holds [] plan.images answer × AfterImages events plan answer judged
-
--- the rack is read and judged, then its images in their order, then its events
-abbrev pub JudgesWith : Option Files → List ℕ → (RackPlan → Result (List Event) Ending → Type 0) → Judged → Type 0
-JudgesWith holds rack events judged = (answer : Result RackPlan Ending) × JudgesOne holds rack 65536 rack_judged answer × AfterRack holds events answer judged
-
--- the events are those of a schedule that is read and judged behind the images
-abbrev pub JudgesSchedule : Option Files → List ℕ → RackPlan → Result (List Event) Ending → Type 0
-JudgesSchedule holds schedule plan answer = JudgesOne holds schedule 4194304 (schedule_judged plan) answer
-
--- the events are those that the generator makes for the rack; no more is read
-abbrev pub MakesEvents : ℕ → ℕ → RackPlan → Result (List Event) Ending → Type 0
-MakesEvents count seed plan answer = answer ≡ Ok (generated plan count seed)
-
+-- the events are those of a schedule that is read behind the images
 abbrev pub Judges : Option Files → Paths → Judged → Type 0
-Judges holds paths judged = JudgesWith holds paths.rack (JudgesSchedule holds paths.schedule) judged
+Judges holds paths judged =
+    (schedule : Seen) × SeesFile holds paths.schedule 4194304 schedule × JudgesWith holds paths.rack (λ plan. schedule_judged plan schedule) judged
 
 abbrev pub JudgesMade : Option Files → List ℕ → ℕ → ℕ → Judged → Type 0
-JudgesMade holds rack count seed judged = JudgesWith holds rack (MakesEvents count seed) judged
+JudgesMade holds rack count seed judged = JudgesWith holds rack (made_judged count seed) judged
 
--- ---- the same as a function, where the store tells what it holds
-
--- the next judgement, unless this one ends the call
-abbrev pub judged_then : {X Y : Type 0} → Result X Ending → (X → Result Y Ending) → Result Y Ending
-judged_then (Ok x) next = next x
-judged_then (Err ending) next = Err ending
-
-abbrev pub images_from : Files → List Image → List ImagePlan → Result (List Image) Ending
-images_from files accepted [] = Ok accepted
-images_from files accepted (plan ∷ plans) =
-    judged_then (image_judged (length accepted) plan (seen_of (finite.get files plan.name) 65536))
-    (λ image. images_from files (accepted ++ image ∷ []) plans)
-
-abbrev pub schedule_ends : RackPlan → List Image → Result (List Event) Ending → Judged
-schedule_ends plan images (Err ending) = Ends ending
-schedule_ends plan images (Ok events) = Accepts (record { plan = plan; images = images; events = events })
-
-abbrev pub images_ends : (RackPlan → Result (List Event) Ending) → RackPlan → Result (List Image) Ending → Judged
-images_ends events plan (Err ending) = Ends ending
-images_ends events plan (Ok images) = schedule_ends plan images (events plan)
-
-abbrev pub rack_ends : Files → (RackPlan → Result (List Event) Ending) → Result RackPlan Ending → Judged
-rack_ends files events (Err ending) = Ends ending
-rack_ends files events (Ok plan) = images_ends events plan (images_from files [] plan.images)
+-- ---- the judgement of files
 
 abbrev pub judge_with : Files → List ℕ → (RackPlan → Result (List Event) Ending) → Judged
-judge_with files rack events = rack_ends files events (rack_judged (seen_of (finite.get files rack) 65536))
+judge_with files rack events =
+    events_then events (parts_judged (seen_of (finite.get files rack) 65536) (λ n name. seen_of (finite.get files name) 65536))
 
 abbrev pub judge : Files → Paths → Judged
 judge files paths = judge_with files paths.rack (λ plan. schedule_judged plan (seen_of (finite.get files paths.schedule) 4194304))
 
 abbrev pub judge_made : Files → List ℕ → ℕ → ℕ → Judged
-judge_made files rack count seed = judge_with files rack (λ plan. Ok (generated plan count seed))
+judge_made files rack count seed = judge_with files rack (made_judged count seed)

@@ -4,9 +4,9 @@ use Rattle.mind_base.specs.Log.{LogView}
 use Rattle.mind_base.specs.Store.{Files}
 use Rattle.mind_base.specs.declared.notes.Note.{Note}
 use Rattle.journal_text.specs.Journal.{AreJournalNotes, journal_text_of}
-use Rattle.journal_text.specs.Reading.{IsFault}
+use Rattle.journal_text.specs.Reading.{IsJournalFault}
 use Rattle.journal_text.specs.declared.refusals.JournalFault.{JournalFault}
-use Rattle.mind_inputs.specs.Inputs.{Seen, Absent, Long, Bytes, Ending, Missing, Refused, Accepted, Judged, Ends, Accepts, Reads, Judges}
+use Rattle.mind_inputs.specs.Inputs.{Seen, Absent, Long, Bytes, Ending, Missing, Refused, Accepted, Judged, SeesFile, Judges}
 use Rattle.mind_inputs.specs.Words.{Paths}
 use Rattle.mind_inputs.specs.declared.refusals.Refusal.TheVariants.{JournalRefused, JournalLong}
 use Rattle.mind_inputs.specs.declared.stopped.Stopped.{Stopped}
@@ -17,7 +17,7 @@ use Rattle.mind_inputs.specs.declared.stopped.Stopped.TheVariants as stopped
 -- the bytes are the text of these notes, whose numbers are within bounds; or this is their first fault
 abbrev pub IsJournal : List ℕ → Result (List Note) Ending → Type 0
 IsJournal bytes (Ok notes) = AreJournalNotes notes × (bytes ≡ journal_text_of notes)
-IsJournal bytes (Err ending) = (line : ℕ) × (what : JournalFault) × (ending ≡ Refused (JournalRefused line what)) × IsFault bytes line what
+IsJournal bytes (Err ending) = (line : ℕ) × (what : JournalFault) × (ending ≡ Refused (JournalRefused line what)) × IsJournalFault bytes line what
 
 -- a journal is judged so by what is seen of it
 abbrev pub JudgedJournal : Seen → Result (List Note) Ending → Type 0
@@ -27,7 +27,7 @@ JudgedJournal (Bytes bytes) answer = IsJournal bytes answer
 
 -- the journal of this name is judged so
 abbrev pub JudgesJournal : Option Files → List ℕ → Result (List Note) Ending → Type 0
-JudgesJournal holds name answer = (seen : Seen) × Reads holds name 268435456 seen × JudgedJournal seen answer
+JudgesJournal holds name answer = (seen : Seen) × SeesFile holds name 268435456 seen × JudgedJournal seen answer
 
 -- the notes of a log that was read
 abbrev pub notes_of : Result LogView Stopped → Result (List Note) Stopped
@@ -53,8 +53,8 @@ AfterJournal accepted (Err ending) answer = answer ≡ Err ending
 AfterJournal accepted (Ok notes) answer = answer ≡ Ok (record { accepted = accepted; notes = notes })
 
 abbrev pub AfterRun : Option Files → List ℕ → Judged → Result Checkable Ending → Type 0
-AfterRun holds journal (Ends ending) answer = answer ≡ Err ending
-AfterRun holds journal (Accepts accepted) answer = (notes : Result (List Note) Ending) × JudgesJournal holds journal notes × AfterJournal accepted notes answer
+AfterRun holds journal (Err ending) answer = answer ≡ Err ending
+AfterRun holds journal (Ok accepted) answer = (notes : Result (List Note) Ending) × JudgesJournal holds journal notes × AfterJournal accepted notes answer
 
 -- the inputs of a run are read and judged, then the journal of this name
 abbrev pub JudgesCheck : Option Files → Paths → List ℕ → Result Checkable Ending → Type 0

@@ -4,39 +4,24 @@ use Rattle.mind_base.specs.Store.{Files, Rises}
 use Rattle.mind_base.specs.declared.stores.ReadError.{ReadError}
 use Rattle.mind_base.specs.declared.stores.ReadError.TheVariants as read
 use Rattle.mind_inputs.specs.declared.refusals.Refusal.{Refusal}
-use Rattle.mind_inputs.specs.Inputs.{Judged, Ends, Accepts, Ending, Missing, Refused, Accepted}
+use Rattle.mind_inputs.specs.Inputs.{Ending, Missing, Refused}
 use Rattle.mind_inputs.specs.declared.stopped.Stopped.{Stopped}
 use Rattle.mind_inputs.specs.declared.stopped.Stopped.TheVariants as stopped
-
--- where the store tells what it holds, a failed read is a failed device, or an input that is not held
-abbrev pub FaultTold : Option Files → (Judged → Type 0) → ℕ → ℕ → Type 0
-FaultTold None judges faults faults' = Unit {0}
-FaultTold (Some files) judges faults faults' = Rises faults faults' ⊎ judges (Ends Missing)
-
--- The inputs are accepted or refused as they are judged; a read fails only with its cause; want of
--- memory may come at any time.
-abbrev pub Loads : Option Files → (Judged → Type 0) → ℕ → ℕ → ℕ → ℕ → Result Accepted Stopped → Type 0
-Loads holds judges faults faults' missed missed' (Ok accepted) = judges (Accepts accepted)
-Loads holds judges faults faults' missed missed' (Err (stopped.Refused refusal)) = judges (Ends (Refused refusal))
-Loads holds judges faults faults' missed missed' (Err stopped.ReadFault) =
-    (Rises faults faults' ⊎ Rises missed missed') × FaultTold holds judges faults faults'
-Loads holds judges faults faults' missed missed' (Err stopped.NoMemory) = Unit {0}
-
--- ---- the same of a part of the inputs
 
 -- where the store tells what it holds, a failed read is a failed device, or this is missing
 abbrev pub MissTold : Option Files → Type 0 → ℕ → ℕ → Type 0
 MissTold None missing faults faults' = Unit {0}
 MissTold (Some files) missing faults faults' = Rises faults faults' ⊎ missing
 
--- why a part of the inputs was not brought
+-- Why inputs were not brought: the one that ends the call was refused; or a read failed, and only with its cause; want of
+-- memory may come at any time.
 abbrev pub StopsBy : Option Files → (Ending → Type 0) → ℕ → ℕ → ℕ → ℕ → Stopped → Type 0
 StopsBy holds ends faults faults' missed missed' (stopped.Refused refusal) = ends (Refused refusal)
 StopsBy holds ends faults faults' missed missed' stopped.ReadFault =
     (Rises faults faults' ⊎ Rises missed missed') × MissTold holds (ends Missing) faults faults'
 StopsBy holds ends faults faults' missed missed' stopped.NoMemory = Unit {0}
 
--- a part of the inputs is brought as it is judged
+-- the inputs, or a part of them, are brought as they are judged
 abbrev pub Brings : {X : Type 0} → Option Files → (Result X Ending → Type 0) → ℕ → ℕ → ℕ → ℕ → Result X Stopped → Type 0
 Brings holds judges faults faults' missed missed' (Ok x) = judges (Ok x)
 Brings holds judges faults faults' missed missed' (Err why) = StopsBy holds (λ ending. judges (Err ending)) faults faults' missed missed' why

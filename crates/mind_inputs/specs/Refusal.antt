@@ -1,6 +1,6 @@
 -- The lines that say why an input is refused.
-use Rattle.std.specs.Prelude.{ℕ, codes, false, List, [], ◌∷◌, ◌++◌, length, ◌==◌, if◌then◌else◌}
-use Rattle.std.specs.Fmt.{digits}
+use Rattle.std.specs.Prelude.{ℕ, codes, List, [], ◌∷◌, ◌++◌, length, ◌==◌, if◌then◌else◌}
+use Rattle.std.specs.Fmt.{decimal}
 use Rattle.rack_file.specs.declared.refusals.RackFault.{RackFault}
 use Rattle.rack_file.specs.declared.refusals.RackFault.TheVariants as rack
 use Rattle.schedule_text.specs.declared.faults.LineFault.{LineFault}
@@ -9,9 +9,6 @@ use Rattle.journal_text.specs.declared.refusals.JournalFault.{JournalFault}
 use Rattle.journal_text.specs.declared.refusals.JournalFault.TheVariants.{Head, Line}
 use Rattle.mind_inputs.specs.declared.refusals.Refusal.{Refusal}
 use Rattle.mind_inputs.specs.declared.refusals.Refusal.TheVariants.{RackRefused, RackLong, ImageLength, ImageEnd, ImageLong, ScheduleRefused, ScheduleLong, ScheduleEarly, JournalRefused, JournalLong}
-
-abbrev pub decimal : ℕ → List ℕ
-decimal n = digits 10 false n
 
 abbrev pub rack_word : RackFault → List ℕ
 rack_word rack.Toml = codes "toml"
@@ -40,11 +37,14 @@ path_text path = if length path == 0 then [] else codes " " ++ path
 abbrev pub rack_text : RackFault → List ℕ → List ℕ
 rack_text what path = codes "refused rack " ++ rack_word what ++ path_text path
 
+abbrev pub numbered_text : List ℕ → List ℕ → ℕ → List ℕ
+numbered_text head word number = head ++ word ++ codes " " ++ decimal number
+
 abbrev pub image_text : List ℕ → ℕ → List ℕ
-image_text word number = codes "refused image " ++ word ++ codes " " ++ decimal number
+image_text word number = numbered_text (codes "refused image ") word number
 
 abbrev pub schedule_text : ℕ → LineFault → List ℕ
-schedule_text line what = codes "refused schedule " ++ schedule_word what ++ codes " " ++ decimal line
+schedule_text line what = numbered_text (codes "refused schedule ") (schedule_word what) line
 
 -- a first line that is another has no number
 abbrev pub journal_text : ℕ → JournalFault → List ℕ

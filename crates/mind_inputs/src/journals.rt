@@ -1,3 +1,5 @@
+//! The inputs of a check: a rack, its images, a schedule and a journal.
+
 ghost use Rattle.std.specs.Prelude.{◌≡◌, ◌≤◌, length, IfOk};
 ghost use Rattle.mind_base.specs.Fit.{IsFit, FitImages};
 ghost use Rattle.mind_inputs.specs.Loading.{Brings};

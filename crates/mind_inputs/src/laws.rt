@@ -1,10 +1,12 @@
+//! Laws of the judgement of inputs: functions that do nothing, with the laws as clauses.
+
 ghost use Rattle.std.specs.Prelude.{◌≡◌, ◌↔◌, ◌≤◌, ℕ, List, Some, Result, Ok};
 ghost use Rattle.std.specs.FinMap.{get};
 ghost use Rattle.mind_base.specs.Fit.{IsFit};
 ghost use Rattle.mind_base.specs.declared.plans.RackPlan.{RackPlan as rack_plan};
 ghost use Rattle.rack_gen.specs.Generator.{generated_text};
 ghost use Rattle.mind_base.specs.Store.{Files};
-ghost use Rattle.mind_inputs.specs.Inputs.{Ending, Judged, Judges, JudgesMade, rack_judged, seen_of, judge, judge_made};
+ghost use Rattle.mind_inputs.specs.Inputs.{Ending, Judged, Judges, JudgesMade, rack_seen_judged, seen_of, judge, judge_made};
 ghost use Rattle.mind_inputs.specs.Journals.{Checkable, JudgesCheck, IsOnlyJudgement};
 ghost use Rattle.mind_inputs.specs.Words.{Paths};
 
@@ -22,6 +24,6 @@ pub fn the_files_are_judged_one_way()
 /// generated schedule have the same inputs.
 pub fn a_made_schedule_is_judged_as_it_is_made()
     ensures { (files : Files) (rack schedule : List ℕ) (plan : rack_plan) (count seed : ℕ) → IsFit plan → count ≤ 200000
-        → rack_judged (seen_of (get files rack) 65536) ≡ Ok plan → get files schedule ≡ Some (generated_text plan count seed)
+        → rack_seen_judged (seen_of (get files rack) 65536) ≡ Ok plan → get files schedule ≡ Some (generated_text plan count seed)
         → (judged : Judged) → JudgesMade (Some files) rack count seed judged ↔ Judges (Some files) (record { rack = rack; schedule = schedule }) judged }
 {}

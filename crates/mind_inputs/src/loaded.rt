@@ -1,3 +1,5 @@
+//! Inputs that were read and accepted.
+
 use mind_base::{Event, Image, RackPlan, Sequence};
 use std::marker::Model;
 

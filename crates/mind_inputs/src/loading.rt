@@ -1,12 +1,14 @@
+//! Reads and judges a rack, its images and a schedule, in this order.
+
 ghost use Rattle.std.specs.Prelude.{◌≡◌, ◌≤◌, ◌<◌, [], length, Err, IfOk, OnErr};
 ghost use Rattle.std.specs.List.{AllByRecursion, list_all};
 ghost use Rattle.mind_base.specs.Fit.{IsFit, FitsImage, FitImages};
 ghost use Rattle.schedule_text.specs.Event.{IsEventOf};
 ghost use Rattle.rack_gen.specs.Generator.{generated};
 ghost use Rattle.mind_inputs.specs.declared.stopped.Stopped.TheVariants.{NoMemory as no_memory};
-ghost use Rattle.mind_inputs.specs.Inputs.{Judges, JudgesMade, JudgesOne, JudgesImages, Bytes, rack_judged, image_judged, schedule_judged, is_built, IsBuilt};
-ghost use Rattle.mind_inputs.specs.Judged.{Gives};
-ghost use Rattle.mind_inputs.specs.Loading.{Loads, Brings, stopped_of};
+ghost use Rattle.mind_inputs.specs.Inputs.{Judges, JudgesMade, JudgesOne, JudgesImages, JudgesParts, Bytes, rack_seen_judged, image_seen_judged, schedule_judged, is_built, IsBuilt};
+ghost use Rattle.mind_inputs.specs.Judged.{GivesEnding};
+ghost use Rattle.mind_inputs.specs.Loading.{Brings, stopped_of};
 
 use crate::{Loaded, Refusal, Stopped};
 use mind_base::{Event, Image, ImagePlan, NoMemory, RackPlan, ReadError, Sequence, Store};
@@ -38,7 +40,7 @@ pub(crate) fn stopped_by(error: ReadError, long: Refusal) -> Stopped
 // ---- one input, of its bytes
 
 fn plan_from(alloc: Global, bytes: &[u8]) -> Result<RackPlan, Stopped>
-    ensures judged { Gives result (rack_judged (Bytes bytes.now)) }
+    ensures judged { GivesEnding result (rack_seen_judged (Bytes bytes.now)) }
     ensures fit { IfOk result (λ plan. IsFit plan) }
 {
     match rack_of(alloc, bytes) {
@@ -51,7 +53,7 @@ fn plan_from(alloc: Global, bytes: &[u8]) -> Result<RackPlan, Stopped>
 }
 
 fn image_from(number: u8, plan: &ImagePlan, bytes: Vec<u8>) -> Result<Image, Stopped>
-    ensures judged { Gives result (image_judged number plan.now (Bytes bytes.items)) }
+    ensures judged { GivesEnding result (image_seen_judged number plan.now (Bytes bytes.items)) }
     ensures fits { IfOk result (λ image. FitsImage plan.now image) }
 {
     match image_of(plan, bytes) {
@@ -91,7 +93,7 @@ fn all_built(events: &[Event]) -> bool
 fn events_from(alloc: Global, bytes: &[u8], plan: &RackPlan) -> Result<Sequence<Event>, Stopped>
     requires fit { IsFit plan.now }
     requires short { length bytes.now ≤ 4194304 }
-    ensures judged { Gives result (schedule_judged plan.now (Bytes bytes.now)) }
+    ensures judged { GivesEnding result (schedule_judged plan.now (Bytes bytes.now)) }
     ensures few { IfOk result (λ events. length events ≤ 1000000) }
     ensures built { IfOk result (λ events. AllByRecursion IsBuilt events) }
     ensures numbers { IfOk result (λ events. AllByRecursion (IsEventOf plan.now) events) }
@@ -118,7 +120,7 @@ pub fn load_rack<S: Store>(alloc: Global, store: &mut S, name: &str) -> Result<R
     ensures keeps { S.holds store.new ≡ S.holds store.old }
     ensures faults { S.faults store.old ≤ S.faults store.new }
     ensures missed { S.missed store.old ≤ S.missed store.new }
-    ensures brings { Brings (S.holds store.old) (JudgesOne (S.holds store.old) name.now 65536 rack_judged)
+    ensures brings { Brings (S.holds store.old) (JudgesOne (S.holds store.old) name.now 65536 rack_seen_judged)
         (S.faults store.old) (S.faults store.new) (S.missed store.old) (S.missed store.new) result }
     ensures fit { IfOk result (λ plan. IsFit plan) }
 {
@@ -137,7 +139,7 @@ fn read_image<S: Store>(
     ensures keeps { S.holds store.new ≡ S.holds store.old }
     ensures faults { S.faults store.old ≤ S.faults store.new }
     ensures missed { S.missed store.old ≤ S.missed store.new }
-    ensures brings { Brings (S.holds store.old) (JudgesOne (S.holds store.old) plan.now.name 65536 (image_judged number plan.now))
+    ensures brings { Brings (S.holds store.old) (JudgesOne (S.holds store.old) plan.now.name 65536 (image_seen_judged number plan.now))
         (S.faults store.old) (S.faults store.new) (S.missed store.old) (S.missed store.new) result }
     ensures fits { IfOk result (λ image. FitsImage plan.now image) }
 {
@@ -183,6 +185,31 @@ fn read_images<S: Store>(
     Ok(images)
 }
 
+/// Reads and judges the rack of this name, then its images in their order.
+fn load_parts<S: Store>(
+    alloc: Global,
+    store: &mut S,
+    rack: &str,
+) -> Result<(RackPlan, Sequence<Image>), Stopped>
+    ensures keeps { S.holds store.new ≡ S.holds store.old }
+    ensures faults { S.faults store.old ≤ S.faults store.new }
+    ensures missed { S.missed store.old ≤ S.missed store.new }
+    ensures brings { Brings (S.holds store.old) (JudgesParts (S.holds store.old) rack.now)
+        (S.faults store.old) (S.faults store.new) (S.missed store.old) (S.missed store.new) result }
+    ensures fit { IfOk result (λ parts. IsFit parts.0) }
+    ensures images { IfOk result (λ parts. FitImages parts.0.images parts.1) }
+{
+    let plan = match load_rack(alloc, store, rack) {
+        Ok(plan) => plan,
+        Err(stopped) => return Err(stopped),
+    };
+    let images = match read_images(alloc, store, plan.images.as_slice()) {
+        Ok(images) => images,
+        Err(stopped) => return Err(stopped),
+    };
+    Ok((plan, images))
+}
+
 fn read_schedule<S: Store>(
     alloc: Global,
     store: &mut S,
@@ -219,7 +246,7 @@ pub fn load<S: Store>(
     ensures missed { S.missed store.old ≤ S.missed store.new }
 
     // The inputs are accepted or refused exactly as they are judged.
-    ensures loads { Loads (S.holds store.old) (Judges (S.holds store.old) (record { rack = rack.now; schedule = schedule.now }))
+    ensures loads { Brings (S.holds store.old) (Judges (S.holds store.old) (record { rack = rack.now; schedule = schedule.now }))
         (S.faults store.old) (S.faults store.new) (S.missed store.old) (S.missed store.new) result }
 
     // What is accepted: a fit rack, its images, and events of that rack, of kinds that are built.
@@ -229,12 +256,8 @@ pub fn load<S: Store>(
     ensures built { IfOk result (λ loaded. AllByRecursion IsBuilt loaded.events) }
     ensures numbers { IfOk result (λ loaded. AllByRecursion (IsEventOf loaded.plan) loaded.events) }
 {
-    let plan = match load_rack(alloc, store, rack) {
-        Ok(plan) => plan,
-        Err(stopped) => return Err(stopped),
-    };
-    let images = match read_images(alloc, store, plan.images.as_slice()) {
-        Ok(images) => images,
+    let (plan, images) = match load_parts(alloc, store, rack) {
+        Ok(parts) => parts,
         Err(stopped) => return Err(stopped),
     };
     let events = match read_schedule(alloc, store, schedule, &plan) {
@@ -287,7 +310,7 @@ pub fn load_made<S: Store>(
     ensures missed { S.missed store.old ≤ S.missed store.new }
 
     // The inputs are accepted or refused exactly as they are judged.
-    ensures loads { Loads (S.holds store.old) (JudgesMade (S.holds store.old) rack.now count seed)
+    ensures loads { Brings (S.holds store.old) (JudgesMade (S.holds store.old) rack.now count seed)
         (S.faults store.old) (S.faults store.new) (S.missed store.old) (S.missed store.new) result }
 
     // What is accepted: a fit rack, its images, and events of that rack, of kinds that are built.
@@ -297,12 +320,8 @@ pub fn load_made<S: Store>(
     ensures built { IfOk result (λ loaded. AllByRecursion IsBuilt loaded.events) }
     ensures numbers { IfOk result (λ loaded. AllByRecursion (IsEventOf loaded.plan) loaded.events) }
 {
-    let plan = match load_rack(alloc, store, rack) {
-        Ok(plan) => plan,
-        Err(stopped) => return Err(stopped),
-    };
-    let images = match read_images(alloc, store, plan.images.as_slice()) {
-        Ok(images) => images,
+    let (plan, images) = match load_parts(alloc, store, rack) {
+        Ok(parts) => parts,
         Err(stopped) => return Err(stopped),
     };
     let events = match events_made(alloc, &plan, count, seed) {

@@ -1,8 +1,11 @@
+//! Why an input is refused, and the line that says it.
+
 ghost use Rattle.std.specs.Prelude.{◌≡◌, ◌++◌, ◌∷◌, [], IfOk, OnOk};
-ghost use Rattle.mind_inputs.specs.Refusal.{decimal, rack_word, schedule_word, path_text, rack_text, image_text, schedule_text, journal_text, line_of};
+ghost use Rattle.mind_inputs.specs.Refusal.{rack_word, schedule_word, path_text, rack_text, numbered_text, image_text, schedule_text, journal_text, line_of};
 
 use journal_text::JournalFault;
 use mind_base::NoMemory;
+use plain_text::put_decimal;
 use rack_file::{Path, RackFault};
 use schedule_text::LineFault;
 use std::alloc::Global;
@@ -53,15 +56,6 @@ fn word_of_line(what: LineFault) -> &'static [u8]
     }
 }
 
-/// A number in decimal digits.
-fn put_decimal(alloc: Global, out: &mut Vec<u8>, n: u32) -> Result<(), NoMemory>
-    ensures { OnOk result (out.new.items ≡ out.old.items ++ decimal n) }
-{
-    let text = format!(in alloc; "{n}")?;
-    out.extend_from_slice(text.as_bytes())?;
-    Ok(())
-}
-
 fn put_path(out: &mut Vec<u8>, path: &[u8]) -> Result<(), NoMemory>
     ensures { OnOk result (out.new.items ≡ out.old.items ++ path_text path.now) }
 {
@@ -84,28 +78,28 @@ fn rack_line(alloc: Global, what: RackFault, path: &[u8]) -> Result<Vec<u8>, NoM
     Ok(out)
 }
 
+fn numbered_line(alloc: Global, head: &[u8], word: &[u8], number: u32) -> Result<Vec<u8>, NoMemory>
+    ensures { IfOk result (λ text. text.items ≡ numbered_text head.now word.now number ++ 10 ∷ []) }
+{
+    let mut out = Vec::new(alloc);
+    out.extend_from_slice(head)?;
+    out.extend_from_slice(word)?;
+    out.extend_from_slice(b" ")?;
+    put_decimal(alloc, &mut out, u64::from(number))?;
+    out.extend_from_slice(b"\n")?;
+    Ok(out)
+}
+
 fn image_line(alloc: Global, word: &[u8], number: u8) -> Result<Vec<u8>, NoMemory>
     ensures { IfOk result (λ text. text.items ≡ image_text word.now number ++ 10 ∷ []) }
 {
-    let mut out = Vec::new(alloc);
-    out.extend_from_slice(b"refused image ")?;
-    out.extend_from_slice(word)?;
-    out.extend_from_slice(b" ")?;
-    put_decimal(alloc, &mut out, u32::from(number))?;
-    out.extend_from_slice(b"\n")?;
-    Ok(out)
+    numbered_line(alloc, b"refused image ", word, u32::from(number))
 }
 
 fn schedule_line(alloc: Global, line: u32, what: LineFault) -> Result<Vec<u8>, NoMemory>
     ensures { IfOk result (λ text. text.items ≡ schedule_text line what ++ 10 ∷ []) }
 {
-    let mut out = Vec::new(alloc);
-    out.extend_from_slice(b"refused schedule ")?;
-    out.extend_from_slice(word_of_line(what))?;
-    out.extend_from_slice(b" ")?;
-    put_decimal(alloc, &mut out, line)?;
-    out.extend_from_slice(b"\n")?;
-    Ok(out)
+    numbered_line(alloc, b"refused schedule ", word_of_line(what), line)
 }
 
 fn journal_line(alloc: Global, line: u32, what: JournalFault) -> Result<Vec<u8>, NoMemory>
@@ -116,7 +110,7 @@ fn journal_line(alloc: Global, line: u32, what: JournalFault) -> Result<Vec<u8>,
         JournalFault::Head => out.extend_from_slice(b"refused journal head")?,
         JournalFault::Line => {
             out.extend_from_slice(b"refused journal line ")?;
-            put_decimal(alloc, &mut out, line)?;
+            put_decimal(alloc, &mut out, u64::from(line))?;
         }
     }
     out.extend_from_slice(b"\n")?;

@@ -1,3 +1,5 @@
+//! Why inputs were not brought.
+
 ghost use Rattle.std.specs.Prelude.{◌≡◌};
 ghost use Rattle.mind_inputs.specs.declared.stopped.Stopped.TheVariants.{NoMemory as no_memory};
 

@@ -18,23 +18,13 @@ setup_of plan images = record { plan = plan; images = images; commands = [] }
 -- ---- the events of a log
 
 -- the number of an event note
-abbrev pub event_of : Note → Option ℕ
-event_of (note.Event index) = Some index
-event_of (note.Exec hart) = None
-event_of (note.Drain hart) = None
-event_of (note.Command index) = None
-event_of (note.Moved index outcome) = None
-event_of (note.Take blade page writable) = None
-event_of (note.Give blade page) = None
-event_of (note.Down blade page) = None
-event_of (note.Region range state) = None
-event_of (note.Gone range) = None
-event_of (note.Split range) = None
-event_of (note.Merge range) = None
+abbrev pub event_number : Note → Option ℕ
+event_number (note.Event index) = Some index
+event_number other = None
 
 -- the events of a log, in order
 abbrev pub events : List Note → List ℕ
-events notes = filter_map event_of notes
+events notes = filter_map event_number notes
 
 -- the numbers from 0 up to below n
 abbrev pub below : ℕ → List ℕ
@@ -42,7 +32,7 @@ below zero = []
 below (suc n) = below n ++ n ∷ []
 
 abbrev pub is_event : Note → Bool
-is_event note = is_some (event_of note)
+is_event note = is_some (event_number note)
 
 -- the notes before the last event note
 abbrev pub before_last : List Note → List Note

@@ -1,3 +1,5 @@
+//! The report of a run, and the check of a journal.
+
 ghost use Rattle.std.specs.Prelude.{◌≡◌, IfOk};
 ghost use Rattle.mind_base.specs.Fit.{IsFit, FitImages};
 ghost use Rattle.tso_machine.specs.State.{start_state};

@@ -5,12 +5,12 @@ use Rattle.mind_base.specs.Sink.{Appends}
 use Rattle.mind_base.specs.declared.plans.RackPlan.{RackPlan}
 use Rattle.rack_gen.specs.Generator.{generated_text}
 use Rattle.mind_inputs.specs.Words.{Paths}
-use Rattle.mind_inputs.specs.Inputs.{Ending, Missing, Refused, Ends, Accepts, Accepted, JudgesOne, Judges, JudgesMade, rack_judged}
+use Rattle.mind_inputs.specs.Inputs.{Ending, Missing, Refused, Accepted, JudgesOne, Judges, JudgesMade, rack_seen_judged}
 use Rattle.mind_inputs.specs.Journals.{Checkable, JudgesCheck}
 use Rattle.mind_inputs.proofs.Chains.{one-is, judges-judge, judges-made}
 use Rattle.mind_inputs.proofs.Checkables.{only}
-use Rattle.mind_top.specs.Words.{Form, Run, Check, Make, Load, IsForm, IsCheck, IsMake, IsLoad, IsNoForm}
-use Rattle.mind_top.specs.Due.{IsWhole, DoneBy, EndsBy, IsRunBy, Due, StopsRun, status_of_ending, status_of, status_of_one, status_of_replay, CallFor, IsSaid, IsAnswered, MayStop, Decides}
+use Rattle.mind_top.specs.Words.{Form, Run, Check, Make, Load, IsForm, IsCheckForm, IsMakeForm, IsLoadForm, IsNoForm}
+use Rattle.mind_top.specs.Due.{IsWhole, DoneBy, IsEndedBy, IsRunBy, Due, StopsRun, status_of_ending, status_of, status_of_replay, CallFor, IsSaid, IsAnswered, MayStop, Decides}
 use Rattle.mind_top.specs.Ending.{Counts, EndsWith}
 use Rattle.mind_top.specs.Headline.{RunWrites, Headline}
 use Rattle.mind_top.specs.Left.{Left, LeavesNothing}
@@ -31,29 +31,29 @@ done-by holds words left before now old new result form ends is done =
 
 pub run-done : (holds : Option Files) (words : List (List ℕ)) (left : Left) (before now : Counts) (old new : Option (List ℕ)) (result : Status) (output : Output)
     → EndsWith holds words left before now old new result → (paths : Paths) → IsForm words (Run output paths) → result ≡ status.Done
-    → (accepted : Accepted) × Judges holds paths (Accepts accepted) × (text : List ℕ) × RunWrites output accepted left text × Appends old new text
+    → (accepted : Accepted) × Judges holds paths (Ok accepted) × (text : List ℕ) × RunWrites output accepted left text × Appends old new text
 run-done holds words left before now old new result output ends paths is done =
     let (text, (accepted, judges, writes), appends) = done-by holds words left before now old new result (Run output paths) ends is done in
     (accepted, judges, text, writes, appends)
 
 pub check-done : (holds : Option Files) (words : List (List ℕ)) (left : Left) (before now : Counts) (old new : Option (List ℕ)) (result : Status)
-    → EndsWith holds words left before now old new result → (paths : Paths) (journal : List ℕ) → IsCheck words paths journal → result ≡ status.Done
+    → EndsWith holds words left before now old new result → (paths : Paths) (journal : List ℕ) → IsCheckForm words paths journal → result ≡ status.Done
     → (inputs : Checkable) × JudgesCheck holds paths journal (Ok inputs) × (text : List ℕ) × IsWhole inputs text × Appends old new text
 check-done holds words left before now old new result ends paths journal is done =
     let (text, (inputs, judges, whole, empty), appends) = done-by holds words left before now old new result (Check paths journal) ends is done in
     (inputs, judges, text, whole, appends)
 
 pub make-done : (holds : Option Files) (words : List (List ℕ)) (left : Left) (before now : Counts) (old new : Option (List ℕ)) (result : Status)
-    → EndsWith holds words left before now old new result → (rack : List ℕ) (count seed : ℕ) → IsMake words rack count seed → result ≡ status.Done
-    → (plan : RackPlan) × JudgesOne holds rack 65536 rack_judged (Ok plan) × Appends old new (generated_text plan count seed)
+    → EndsWith holds words left before now old new result → (rack : List ℕ) (count seed : ℕ) → IsMakeForm words rack count seed → result ≡ status.Done
+    → (plan : RackPlan) × JudgesOne holds rack 65536 rack_seen_judged (Ok plan) × Appends old new (generated_text plan count seed)
 make-done holds words left before now old new result ends rack count seed is done =
     let (text, (plan, judges, made, empty), appends) = done-by holds words left before now old new result (Make rack count seed) ends is done in
     let P : List ℕ → Type 0 = λ t. Appends old new t in
     (plan, judges, subst P made appends)
 
 pub load-done : (holds : Option Files) (words : List (List ℕ)) (left : Left) (before now : Counts) (old new : Option (List ℕ)) (result : Status)
-    → EndsWith holds words left before now old new result → (rack : List ℕ) (count seed : ℕ) → IsLoad words rack count seed → result ≡ status.Done
-    → (accepted : Accepted) × JudgesMade holds rack count seed (Accepts accepted) × (text : List ℕ) × Headline accepted left text × Appends old new text
+    → EndsWith holds words left before now old new result → (rack : List ℕ) (count seed : ℕ) → IsLoadForm words rack count seed → result ≡ status.Done
+    → (accepted : Accepted) × JudgesMade holds rack count seed (Ok accepted) × (text : List ℕ) × Headline accepted left text × Appends old new text
 load-done holds words left before now old new result ends rack count seed is done =
     let (text, (accepted, judges, writes), appends) = done-by holds words left before now old new result (Load rack count seed) ends is done in
     (accepted, judges, text, writes, appends)
@@ -109,11 +109,11 @@ form-leaves holds words left before now old new status.NoMemory (some, (no_rack,
 form-leaves holds words left before now old new status.Spent ((found, also, accepted, by, stopped), kept) form is none = absurd (not-run holds words found form accepted also by is none)
 
 pub check-leaves : (holds : Option Files) (words : List (List ℕ)) (left : Left) (before now : Counts) (old new : Option (List ℕ)) (result : Status)
-    → EndsWith holds words left before now old new result → (paths : Paths) (journal : List ℕ) → IsCheck words paths journal → LeavesNothing left
+    → EndsWith holds words left before now old new result → (paths : Paths) (journal : List ℕ) → IsCheckForm words paths journal → LeavesNothing left
 check-leaves holds words left before now old new result ends paths journal is = form-leaves holds words left before now old new result ends (Check paths journal) is tt
 
 pub make-leaves : (holds : Option Files) (words : List (List ℕ)) (left : Left) (before now : Counts) (old new : Option (List ℕ)) (result : Status)
-    → EndsWith holds words left before now old new result → (rack : List ℕ) (count seed : ℕ) → IsMake words rack count seed → LeavesNothing left
+    → EndsWith holds words left before now old new result → (rack : List ℕ) (count seed : ℕ) → IsMakeForm words rack count seed → LeavesNothing left
 make-leaves holds words left before now old new result ends rack count seed is = form-leaves holds words left before now old new result ends (Make rack count seed) is tt
 
 -- ---- a run that stopped
@@ -139,23 +139,23 @@ usage-answered holds words left before now old new status.Spent ((found, also, a
 -- ---- where the store tells what it holds, the files decide the status
 
 done-called : (files : Files) (form : Form) (left : Left) (text : List ℕ) → DoneBy (Some files) form left text → CallFor files form status.Done
-done-called files (Run output paths) left text (accepted, judges, writes) = ap status_of (judges-judge files paths (Accepts accepted) judges)
+done-called files (Run output paths) left text (accepted, judges, writes) = ap status_of (judges-judge files paths (Ok accepted) judges)
 done-called files (Check paths journal) left text (inputs, judges, (state, whole, report), empty) = (Ok inputs, only files paths journal (Ok inputs) judges, ap status_of_replay (sym whole))
-done-called files (Make rack count seed) left text (plan, judges, made, empty) = ap status_of_one (one-is files rack 65536 rack_judged (Ok plan) judges)
-done-called files (Load rack count seed) left text (accepted, judges, writes) = ap status_of (judges-made files rack count seed (Accepts accepted) judges)
+done-called files (Make rack count seed) left text (plan, judges, made, empty) = ap status_of (one-is files rack 65536 rack_seen_judged (Ok plan) judges)
+done-called files (Load rack count seed) left text (accepted, judges, writes) = ap status_of (judges-made files rack count seed (Ok accepted) judges)
 
-ends-called : (files : Files) (form : Form) (ending : Ending) → EndsBy (Some files) form ending → CallFor files form (status_of_ending ending)
-ends-called files (Run output paths) ending judges = ap status_of (judges-judge files paths (Ends ending) judges)
+ends-called : (files : Files) (form : Form) (ending : Ending) → IsEndedBy (Some files) form ending → CallFor files form (status_of_ending ending)
+ends-called files (Run output paths) ending judges = ap status_of (judges-judge files paths (Err ending) judges)
 ends-called files (Check paths journal) ending judges = (Err ending, only files paths journal (Err ending) judges, refl)
-ends-called files (Make rack count seed) ending judges = ap status_of_one (one-is files rack 65536 rack_judged (Err ending) judges)
-ends-called files (Load rack count seed) ending judges = ap status_of (judges-made files rack count seed (Ends ending) judges)
+ends-called files (Make rack count seed) ending judges = ap status_of (one-is files rack 65536 rack_seen_judged (Err ending) judges)
+ends-called files (Load rack count seed) ending judges = ap status_of (judges-made files rack count seed (Err ending) judges)
 
 -- inputs that are run call for the end of a run, which may stop
 run-called : (files : Files) (form : Form) (accepted : Accepted) → IsRunBy (Some files) form accepted → CallFor files form status.Done × MayStop form status.Done
-run-called files (Run output paths) accepted judges = (ap status_of (judges-judge files paths (Accepts accepted) judges), refl)
+run-called files (Run output paths) accepted judges = (ap status_of (judges-judge files paths (Ok accepted) judges), refl)
 run-called files (Check paths journal) accepted by = absurd by
 run-called files (Make rack count seed) accepted by = absurd by
-run-called files (Load rack count seed) accepted judges = (ap status_of (judges-made files rack count seed (Accepts accepted) judges), refl)
+run-called files (Load rack count seed) accepted judges = (ap status_of (judges-made files rack count seed (Ok accepted) judges), refl)
 
 called-as : (files : Files) (words : List (List ℕ)) (found form : Form) (s : Status) → IsForm words found → IsForm words form → CallFor files found s → CallFor files form s
 called-as files words found form s also is called = let Q : Form → Type 0 = λ f. CallFor files f s in subst Q (same-form words found form also is) called

@@ -6,12 +6,12 @@ use Rattle.mind_base.specs.Store.{Files}
 use Rattle.mind_inputs.specs.Words.{Paths}
 use Rattle.mind_base.specs.declared.plans.RackPlan.{RackPlan}
 use Rattle.rack_gen.specs.Generator.{generated_text}
-use Rattle.mind_inputs.specs.Inputs.{Ending, Refused, Judged, Accepts, Judges, JudgesMade, rack_judged, seen_of}
+use Rattle.mind_inputs.specs.Inputs.{Ending, Refused, Judged, Judges, JudgesMade, rack_seen_judged, seen_of}
 use Rattle.mind_inputs.specs.Journals.{Checkable, JudgesCheck}
 use Rattle.mind_inputs.proofs.Checkables.{one-check}
 use Rattle.mind_inputs.proofs.Made.{judged-made}
-use Rattle.mind_top.specs.Words.{Form, Run, Check, Make, Load, IsCheck}
-use Rattle.mind_top.specs.Due.{DoneBy, EndsBy, Due, status_of_check, CallFor, said_of_replay, said_of_check}
+use Rattle.mind_top.specs.Words.{Form, Run, Check, Make, Load, IsCheckForm}
+use Rattle.mind_top.specs.Due.{DoneBy, IsEndedBy, Due, status_of_check, CallFor, said_of_replay, said_of_check}
 use Rattle.mind_top.specs.Left.{Left}
 use Rattle.mind_top.specs.declared.words.Output.TheVariants.{Report}
 use Rattle.mind_top.specs.declared.statuses.Status.{Status}
@@ -36,7 +36,7 @@ says-as : (files : Files) (paths : Paths) (journal : List ℕ) (answer found : R
 says-as files paths journal answer found pair judges also is = is ∙ ap said_of_check (one-check files paths journal found answer also judges)
 
 pub check-says : (files : Files) (words : List (List ℕ)) (paths : Paths) (journal : List ℕ) (answer : Result Checkable Ending) (left : Left) (due : Status) (text : List ℕ)
-    → IsCheck words paths journal → JudgesCheck (Some files) paths journal answer → Due (Some files) words left due text
+    → IsCheckForm words paths journal → JudgesCheck (Some files) paths journal answer → Due (Some files) words left due text
     → (let pair : Status × List ℕ = (due, text) in pair) ≡ said_of_check answer
 check-says files words paths journal answer left status.Done text is judges (found, also, by) =
     let P : Form → Type 0 = λ f. DoneBy (Some files) f left text in
@@ -45,7 +45,7 @@ check-says files words paths journal answer left status.Done text is judges (fou
     (ap (λ (t : List ℕ). let pair : Status × List ℕ = (status.Done, t) in pair) report ∙ ap (said_of_replay inputs) (sym whole))
 check-says files words paths journal answer left status.Usage text is judges (none, empty, line) = absurd (no-form words (Check paths journal) none is)
 check-says files words paths journal answer left status.Malformed text is judges (found, also, refusal, by, empty, line) =
-    let P : Form → Type 0 = λ f. EndsBy (Some files) f (Refused refusal) in
+    let P : Form → Type 0 = λ f. IsEndedBy (Some files) f (Refused refusal) in
     says-as files paths journal answer (Err (Refused refusal)) (status.Malformed, text) judges (subst P (same-form words found (Check paths journal) also is) by)
     (ap (λ (t : List ℕ). let pair : Status × List ℕ = (status.Malformed, t) in pair) line)
 check-says files words paths journal answer left status.NotARun text is judges (others, other, also, inputs, read, label, (state, stuck), empty, line) =
@@ -61,14 +61,14 @@ check-says files words paths journal answer left status.Spent text is judges due
 
 run-of : (holds : Option Files) (rack : List ℕ) (count seed : ℕ) (paths : Paths) (left : Left) (text : List ℕ) → ((judged : Judged) → JudgesMade holds rack count seed judged → Judges holds paths judged)
     → DoneBy holds (Load rack count seed) left text → DoneBy holds (Run Report paths) left text
-run-of holds rack count seed paths left text same (accepted, judges, writes) = (accepted, same (Accepts accepted) judges, writes)
+run-of holds rack count seed paths left text same (accepted, judges, writes) = (accepted, same (Ok accepted) judges, writes)
 
 load-of : (holds : Option Files) (rack : List ℕ) (count seed : ℕ) (paths : Paths) (left : Left) (text : List ℕ) → ((judged : Judged) → Judges holds paths judged → JudgesMade holds rack count seed judged)
     → DoneBy holds (Run Report paths) left text → DoneBy holds (Load rack count seed) left text
-load-of holds rack count seed paths left text same (accepted, judges, writes) = (accepted, same (Accepts accepted) judges, writes)
+load-of holds rack count seed paths left text same (accepted, judges, writes) = (accepted, same (Ok accepted) judges, writes)
 
 pub made-runs : (files : Files) (rack schedule : List ℕ) (plan : RackPlan) (count seed : ℕ) → IsFit plan → count ≤ 200000
-    → rack_judged (seen_of (finite.get files rack) 65536) ≡ Ok plan → finite.get files schedule ≡ Some (generated_text plan count seed)
+    → rack_seen_judged (seen_of (finite.get files rack) 65536) ≡ Ok plan → finite.get files schedule ≡ Some (generated_text plan count seed)
     → (left : Left) (text : List ℕ) → DoneBy (Some files) (Load rack count seed) left text ↔ DoneBy (Some files) (Run Report (record { rack = rack; schedule = schedule })) left text
 made-runs files rack schedule plan count seed fit few read held left text =
     let paths : Paths = record { rack = rack; schedule = schedule } in

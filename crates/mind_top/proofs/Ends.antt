@@ -1,5 +1,5 @@
 -- From the parts of a call to how it ends.
-use Rattle.std.proofs.Common.{◌≡◌, ℕ, inl, inr, List, sym, refl, subst, Option, Some, None, Ok, Err, []}
+use Rattle.std.proofs.Common.{◌≡◌, ℕ, inl, inr, List, sym, refl, subst, Option, Some, None, Result, Ok, Err, []}
 use Rattle.mind_base.specs.Store.{Files}
 use Rattle.mind_base.specs.Sink.{Appends}
 use Rattle.mind_base.specs.declared.notes.Note.{Note}
@@ -7,18 +7,18 @@ use Rattle.mind_base.specs.declared.plans.RackPlan.{RackPlan}
 use Rattle.rack_gen.specs.Generator.{generated_text}
 use Rattle.mind_inputs.specs.Words.{Paths}
 use Rattle.mind_inputs.specs.Refusal.{line_of}
-use Rattle.mind_inputs.specs.Inputs.{Missing, Judged, Ends, Accepts, Accepted, JudgesOne, Judges, JudgesMade, rack_judged}
+use Rattle.mind_inputs.specs.Inputs.{Accepted, Judged, JudgesOne, Judges, JudgesMade, rack_seen_judged}
 use Rattle.mind_inputs.specs.Journals.{Checkable, JudgesCheck}
-use Rattle.mind_inputs.specs.Loading.{FaultTold, MissTold, Loads, StopsBy}
+use Rattle.mind_inputs.specs.Loading.{StopsBy, Brings}
 use Rattle.mind_inputs.specs.declared.stopped.Stopped.{Stopped}
 use Rattle.mind_inputs.specs.declared.stopped.Stopped.TheVariants as stopped
 use Rattle.rack_core.specs.Rack.{RackView}
 use Rattle.mind_top.specs.Words.{Form, Run, Check, Make, Load, IsForm}
-use Rattle.mind_top.specs.Due.{DoneBy, EndsBy, IsRunBy, Due, not_a_run_line}
+use Rattle.mind_top.specs.Due.{DoneBy, IsEndedBy, IsRunBy, Due, not_a_run_line}
 use Rattle.mind_top.specs.Ending.{Counts, EndsWith}
 use Rattle.mind_top.specs.Headline.{RunWrites}
 use Rattle.mind_top.specs.Left.{Left, LeavesNothing}
-use Rattle.mind_top.specs.Parts.{Says, SaysLine, Stops, RunEnds, CheckEnds}
+use Rattle.mind_top.specs.Parts.{SaysText, SaysLine, Stops, RunEnds, LoadedEnds, CheckEnds}
 use Rattle.mind_top.specs.declared.words.Output.{Output}
 use Rattle.mind_top.specs.declared.words.Output.TheVariants.{Report}
 use Rattle.mind_top.specs.declared.statuses.Status.{Status}
@@ -38,7 +38,7 @@ due-written holds words left before now old new text status.NoMemory due appends
 due-written holds words left before now old new text status.Spent due appends = absurd due
 
 pub said : (holds : Option Files) (words : List (List ℕ)) (left : Left) (before now : Counts) (old new : Option (List ℕ)) (text : List ℕ) (due result : Status)
-    → Due holds words left due text → Says old new before.failed now.failed text due result → EndsWith holds words left before now old new result
+    → Due holds words left due text → SaysText old new before.failed now.failed text due result → EndsWith holds words left before now old new result
 said holds words left before now old new text due result is_due (inl (same, appends)) =
     let P : Status → Type 0 = λ s. EndsWith holds words left before now old new s in
     subst P (sym same) (due-written holds words left before now old new text due is_due appends)
@@ -56,7 +56,7 @@ said-line holds words form left before now old new text due result empty is is_d
 -- ---- an input was not brought
 
 pub stopped-call : (holds : Option Files) (words : List (List ℕ)) (form : Form) (left : Left) (before now : Counts) (old new : Option (List ℕ)) (why : Stopped) (result : Status)
-    → LeavesNothing left → IsForm words form → StopsBy holds (λ ending. EndsBy holds form ending) before.faults now.faults before.missed now.missed why
+    → LeavesNothing left → IsForm words form → StopsBy holds (λ ending. IsEndedBy holds form ending) before.faults now.faults before.missed now.missed why
     → Stops old new before.failed now.failed why result → EndsWith holds words left before now old new result
 stopped-call holds words form left before now old new (stopped.Refused refusal) result empty is stops says =
     said-line holds words form left before now old new (line_of refusal) status.Malformed result empty is (form, is, refusal, stops, empty, refl) says
@@ -65,31 +65,7 @@ stopped-call holds words form left before now old new stopped.ReadFault result e
 stopped-call holds words form left before now old new stopped.NoMemory result empty is stops (same, kept) =
     let P : Status → Type 0 = λ s. EndsWith holds words left before now old new s in subst P (sym same) ((form, is), (empty.1, inl empty.0), kept)
 
-miss-told : (holds : Option Files) (judges : Judged → Type 0) (f f' : ℕ) → FaultTold holds judges f f' → MissTold holds (judges (Ends Missing)) f f'
-miss-told None judges f f' told = tt
-miss-told (Some files) judges f f' told = told
-
-loads-stops : (holds : Option Files) (judges : Judged → Type 0) (f f' m m' : ℕ) (why : Stopped) → Loads holds judges f f' m m' (Err why)
-    → StopsBy holds (λ ending. judges (Ends ending)) f f' m m' why
-loads-stops holds judges f f' m m' (stopped.Refused refusal) loads = loads
-loads-stops holds judges f f' m m' stopped.ReadFault (rises, told) = (rises, miss-told holds judges f f' told)
-loads-stops holds judges f f' m m' stopped.NoMemory loads = tt
-
 -- ---- a run
-
-pub run-stopped : (holds : Option Files) (words : List (List ℕ)) (output : Output) (paths : Paths) (left : Left) (before now : Counts) (old new : Option (List ℕ)) (why : Stopped) (result : Status)
-    → LeavesNothing left → IsForm words (Run output paths) → Loads holds (Judges holds paths) before.faults now.faults before.missed now.missed (Err why)
-    → Stops old new before.failed now.failed why result → EndsWith holds words left before now old new result
-run-stopped holds words output paths left before now old new why result empty is loads says =
-    stopped-call holds words (Run output paths) left before now old new why result empty is
-    (loads-stops holds (Judges holds paths) before.faults now.faults before.missed now.missed why loads) says
-
-pub load-stopped : (holds : Option Files) (words : List (List ℕ)) (rack : List ℕ) (count seed : ℕ) (left : Left) (before now : Counts) (old new : Option (List ℕ)) (why : Stopped) (result : Status)
-    → LeavesNothing left → IsForm words (Load rack count seed) → Loads holds (JudgesMade holds rack count seed) before.faults now.faults before.missed now.missed (Err why)
-    → Stops old new before.failed now.failed why result → EndsWith holds words left before now old new result
-load-stopped holds words rack count seed left before now old new why result empty is loads says =
-    stopped-call holds words (Load rack count seed) left before now old new why result empty is
-    (loads-stops holds (JudgesMade holds rack count seed) before.faults now.faults before.missed now.missed why loads) says
 
 -- the inputs of this form were run, and what a run writes is what is due
 ran-ended : (holds : Option Files) (words : List (List ℕ)) (form : Form) (output : Output) (accepted : Accepted) (left : Left) (before now : Counts) (old new : Option (List ℕ)) (result : Status)
@@ -104,22 +80,38 @@ ran-ended holds words form output accepted left before now old new result is by 
 ran-ended holds words form output accepted left before now old new result is by done (inr (inr (text, writes, says))) =
     said holds words left before now old new text status.Done result (form, is, done text writes) says
 
-pub run-ended : (holds : Option Files) (words : List (List ℕ)) (output : Output) (paths : Paths) (accepted : Accepted) (left : Left) (before now : Counts) (old new : Option (List ℕ)) (result : Status)
-    → IsForm words (Run output paths) → Judges holds paths (Accepts accepted) → RunEnds output accepted left old new before.failed now.failed result
+-- the inputs of a form were brought to be run, or were not
+answered : (holds : Option Files) (words : List (List ℕ)) (form : Form) (output : Output) (judges : Judged → Type 0) (loaded : Result Accepted Stopped) (left : Left) (before now : Counts)
+    (old new : Option (List ℕ)) (result : Status) → IsForm words form
+    → ((accepted : Accepted) → judges (Ok accepted) → IsRunBy holds form accepted × ((text : List ℕ) → RunWrites output accepted left text → DoneBy holds form left text))
+    → ((why : Stopped) → StopsBy holds (λ ending. judges (Err ending)) before.faults now.faults before.missed now.missed why
+    → StopsBy holds (λ ending. IsEndedBy holds form ending) before.faults now.faults before.missed now.missed why)
+    → Brings holds judges before.faults now.faults before.missed now.missed loaded → LoadedEnds output left old new before.failed now.failed result loaded
     → EndsWith holds words left before now old new result
-run-ended holds words output paths accepted left before now old new result is judges ends =
-    ran-ended holds words (Run output paths) output accepted left before now old new result is judges (λ text writes. (accepted, judges, writes)) ends
+answered holds words form output judges (Ok accepted) left before now old new result is runs stops loads ends =
+    let its = runs accepted loads in
+    ran-ended holds words form output accepted left before now old new result is its.0 its.1 ends
+answered holds words form output judges (Err why) left before now old new result is runs stops loads ends =
+    stopped-call holds words form left before now old new why result ends.0 is (stops why loads) ends.1
 
-pub load-ended : (holds : Option Files) (words : List (List ℕ)) (rack : List ℕ) (count seed : ℕ) (accepted : Accepted) (left : Left) (before now : Counts) (old new : Option (List ℕ)) (result : Status)
-    → IsForm words (Load rack count seed) → JudgesMade holds rack count seed (Accepts accepted) → RunEnds Report accepted left old new before.failed now.failed result
-    → EndsWith holds words left before now old new result
-load-ended holds words rack count seed accepted left before now old new result is judges ends =
-    ran-ended holds words (Load rack count seed) Report accepted left before now old new result is judges (λ text writes. (accepted, judges, writes)) ends
+pub run-answered : (holds : Option Files) (words : List (List ℕ)) (output : Output) (paths : Paths) (loaded : Result Accepted Stopped) (left : Left) (before now : Counts) (old new : Option (List ℕ)) (result : Status)
+    → IsForm words (Run output paths) → Brings holds (Judges holds paths) before.faults now.faults before.missed now.missed loaded
+    → LoadedEnds output left old new before.failed now.failed result loaded → EndsWith holds words left before now old new result
+run-answered holds words output paths loaded left before now old new result is =
+    answered holds words (Run output paths) output (Judges holds paths) loaded left before now old new result is
+    (λ accepted judges. (judges, λ text writes. (accepted, judges, writes))) (λ why stops. stops)
+
+pub load-answered : (holds : Option Files) (words : List (List ℕ)) (rack : List ℕ) (count seed : ℕ) (loaded : Result Accepted Stopped) (left : Left) (before now : Counts) (old new : Option (List ℕ)) (result : Status)
+    → IsForm words (Load rack count seed) → Brings holds (JudgesMade holds rack count seed) before.faults now.faults before.missed now.missed loaded
+    → LoadedEnds Report left old new before.failed now.failed result loaded → EndsWith holds words left before now old new result
+load-answered holds words rack count seed loaded left before now old new result is =
+    answered holds words (Load rack count seed) Report (JudgesMade holds rack count seed) loaded left before now old new result is
+    (λ accepted judges. (judges, λ text writes. (accepted, judges, writes))) (λ why stops. stops)
 
 pub run-said : (output : Output) (accepted : Accepted) (left : Left) (old new : Option (List ℕ)) (failed failed' : ℕ) (said text : List ℕ) (result : Status) → RunWrites output accepted left text
-    → said ≡ text → Says old new failed failed' said status.Done result → RunEnds output accepted left old new failed failed' result
+    → said ≡ text → SaysText old new failed failed' said status.Done result → RunEnds output accepted left old new failed failed' result
 run-said output accepted left old new failed failed' said text result writes same says =
-    let P : List ℕ → Type 0 = λ t. Says old new failed failed' t status.Done result in inr (inr (text, writes, subst P same says))
+    let P : List ℕ → Type 0 = λ t. SaysText old new failed failed' t status.Done result in inr (inr (text, writes, subst P same says))
 
 -- ---- a check
 
@@ -141,7 +133,7 @@ check-ended holds words paths journal inputs before now old new result is judges
 -- ---- a schedule that is made
 
 pub make-ended : (holds : Option Files) (words : List (List ℕ)) (rack : List ℕ) (count seed : ℕ) (plan : RackPlan) (before now : Counts) (old new : Option (List ℕ)) (result : Status)
-    → IsForm words (Make rack count seed) → JudgesOne holds rack 65536 rack_judged (Ok plan)
+    → IsForm words (Make rack count seed) → JudgesOne holds rack 65536 rack_seen_judged (Ok plan)
     → SaysLine old new before.failed now.failed (generated_text plan count seed) status.Done result → EndsWith holds words nothing before now old new result
 make-ended holds words rack count seed plan before now old new result is judges says =
     said-line holds words (Make rack count seed) nothing before now old new (generated_text plan count seed) status.Done result (refl, refl) is
@@ -156,7 +148,7 @@ with-nothing holds words log end before now old new result empty none ends =
     subst Q (sym none) (subst P (sym empty) ends)
 
 -- a line that was said in another spelling
-pub line-said : (old new : Option (List ℕ)) (failed failed' : ℕ) (said text : List ℕ) (due result : Status) → said ≡ text → Says old new failed failed' said due result
+pub line-said : (old new : Option (List ℕ)) (failed failed' : ℕ) (said text : List ℕ) (due result : Status) → said ≡ text → SaysText old new failed failed' said due result
     → SaysLine old new failed failed' text due result
 line-said old new failed failed' said text due result same says =
-    let P : List ℕ → Type 0 = λ t. Says old new failed failed' t due result in inr (subst P same says)
+    let P : List ℕ → Type 0 = λ t. SaysText old new failed failed' t due result in inr (subst P same says)

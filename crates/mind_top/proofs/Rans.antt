@@ -1,6 +1,7 @@
 -- A rack that ran through events: its log is a run of the machine, with all events in order.
 use Rattle.std.proofs.Common.{◌≡◌, ◌<◌, ℕ, suc, ◌+◌, ◌⊎◌, inl, inr, ◌∙◌, true, false, List, [], ◌∷◌, ◌++◌, length, ap, sym, refl, subst, None, arith}
 use Rattle.std.proofs.lemmas.List.{append_assoc, append-nil}
+use Rattle.std.specs.Prelude.{Result, Ok, Err, IfOk}
 use Rattle.std.specs.List.{AllByRecursion, cons_option}
 use Rattle.std.proofs.lemmas.List.Elements.{filter_map-append}
 use Rattle.mind_base.specs.declared.events.Event.{Event}
@@ -14,8 +15,9 @@ use Rattle.mind_base.specs.declared.plans.RackPlan.{RackPlan}
 use Rattle.schedule_text.specs.Event.{IsEventOf}
 use Rattle.schedule_text.specs.Link.{ends_of}
 use Rattle.schedule_text.specs.Size.{sizes_of}
-use Rattle.mind_inputs.specs.Inputs.{IsBuilt}
-use Rattle.mind_steps.specs.Run.{setup_of, event_of, events, below, IsWholeRun, Stands}
+use Rattle.mind_inputs.specs.Inputs.{IsBuilt, Accepted}
+use Rattle.mind_inputs.specs.declared.stopped.Stopped.{Stopped}
+use Rattle.mind_steps.specs.Run.{setup_of, event_number, events, below, IsWholeRun, Stands}
 use Rattle.mind_steps.proofs.Fronts.{stands-whole, stands-event}
 use Rattle.rack_core.specs.Noted.{StandsIn, AreInPlace}
 use Rattle.rack_core.specs.Calls.{HasLink}
@@ -26,7 +28,7 @@ use Rattle.rack_settle.specs.Ran.{IsRunFor, Ran, HasStopped}
 -- ---- the events of the log
 
 -- what stands in an event has no number of an event
-no-number : (plan : RackPlan) (e : Event) (n : Note) → StandsIn plan e n → event_of n ≡ None
+no-number : (plan : RackPlan) (e : Event) (n : Note) → StandsIn plan e n → event_number n ≡ None
 no-number plan e (note.Event index) is = absurd is
 no-number plan e (note.Exec hart) is = refl
 no-number plan e (note.Drain hart) is = refl
@@ -51,7 +53,7 @@ events-from images from (e ∷ es) first last log (mid, added, later, leads, sta
     ap below (let more : from + suc (length es) ≡ suc from + length es = omega arith in more)
     ∙ events-from images (suc from) es mid last later rest
     ∙ append_assoc (below from) (from ∷ []) (events later)
-    ∙ ap (λ ns. below from ++ from ∷ ns) (sym (filter_map-append event_of added later ∙ ap (λ ns. ns ++ events later) (no-events first.plan e added stand)))
+    ∙ ap (λ ns. below from ++ from ∷ ns) (sym (filter_map-append event_number added later ∙ ap (λ ns. ns ++ events later) (no-events first.plan e added stand)))
     ∙ ap (λ ns. below from ++ events ns) (sym is)
 
 -- they are all events, in order from 0
@@ -99,6 +101,12 @@ event-fits plan event.Settle built is = inl refl
 pub events-fit : (plan : RackPlan) (es : List Event) → AllByRecursion IsBuilt es → AllByRecursion (IsEventOf plan) es → AllByRecursion (IsRunFor plan) es
 events-fit plan [] built are = tt
 events-fit plan (e ∷ es) built are = (event-fits plan e built.0 are.0, events-fit plan es built.1 are.1)
+
+-- those that were brought
+pub brought_fit : (loaded : Result Accepted Stopped) → IfOk loaded (λ inputs. AllByRecursion IsBuilt inputs.events) → IfOk loaded (λ inputs. AllByRecursion (IsEventOf inputs.plan) inputs.events)
+    → IfOk loaded (λ inputs. AllByRecursion (IsRunFor inputs.plan) inputs.events)
+brought_fit (Ok inputs) built are = events-fit inputs.plan inputs.events built are
+brought_fit (Err why) built are = tt
 
 -- all of them, of a rack of the same plan
 pub fit-by : (plan other : RackPlan) (es xs : List Event) → other ≡ plan → xs ≡ es → AllByRecursion (IsRunFor plan) es → AllByRecursion (IsRunFor other) xs

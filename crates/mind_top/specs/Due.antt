@@ -7,7 +7,7 @@ use Rattle.mind_base.specs.declared.plans.RackPlan.{RackPlan}
 use Rattle.rack_gen.specs.Generator.{generated_text}
 use Rattle.mind_inputs.specs.Words.{Paths}
 use Rattle.mind_inputs.specs.Refusal.{line_of}
-use Rattle.mind_inputs.specs.Inputs.{Ending, Missing, Refused, Judged, Ends, Accepts, Accepted, JudgesOne, Judges, JudgesMade, rack_judged, seen_of, judge, judge_made}
+use Rattle.mind_inputs.specs.Inputs.{Ending, Missing, Refused, Accepted, JudgesOne, Judges, JudgesMade, rack_seen_judged, seen_of, judge, judge_made}
 use Rattle.mind_inputs.specs.Journals.{Checkable, JudgesCheck, IsOnlyJudgement}
 use Rattle.mind_inputs.specs.declared.refusals.Refusal.{Refusal}
 use Rattle.tso_machine.specs.State.{start_state}
@@ -16,7 +16,7 @@ use Rattle.report_text.specs.Report.{report_text}
 use Rattle.mind_steps.specs.Run.{IsReportOf, IsStuckAt, Stands}
 use Rattle.mind_top.specs.Headline.{setup_by, RunWrites, IsStopped}
 use Rattle.mind_top.specs.Left.{Left, LeavesNothing}
-use Rattle.mind_top.specs.Words.{Form, Run, Check, Make, Load, IsForm, IsCheck, IsNoForm, usage_line}
+use Rattle.mind_top.specs.Words.{Form, Run, Check, Make, Load, IsForm, IsCheckForm, IsNoForm, usage_line}
 use Rattle.mind_top.specs.declared.words.Output.TheVariants.{Report}
 use Rattle.mind_top.specs.declared.statuses.Status.{Status}
 use Rattle.mind_top.specs.declared.statuses.Status.TheVariants as status
@@ -38,34 +38,34 @@ not_a_run_line label = codes "not a run: label " ++ digits 10 false label ++ 10 
 
 -- the inputs of a form are accepted, and this is due to be left and written; only what runs leaves something
 abbrev pub DoneBy : Option Files → Form → Left → List ℕ → Type 0
-DoneBy holds (Run output paths) left text = (accepted : Accepted) × Judges holds paths (Accepts accepted) × RunWrites output accepted left text
+DoneBy holds (Run output paths) left text = (accepted : Accepted) × Judges holds paths (Ok accepted) × RunWrites output accepted left text
 DoneBy holds (Check paths journal) left text = (inputs : Checkable) × JudgesCheck holds paths journal (Ok inputs) × IsWhole inputs text × LeavesNothing left
 DoneBy holds (Make rack count seed) left text =
-    (plan : RackPlan) × JudgesOne holds rack 65536 rack_judged (Ok plan) × (text ≡ generated_text plan count seed) × LeavesNothing left
-DoneBy holds (Load rack count seed) left text = (accepted : Accepted) × JudgesMade holds rack count seed (Accepts accepted) × RunWrites Report accepted left text
+    (plan : RackPlan) × JudgesOne holds rack 65536 rack_seen_judged (Ok plan) × (text ≡ generated_text plan count seed) × LeavesNothing left
+DoneBy holds (Load rack count seed) left text = (accepted : Accepted) × JudgesMade holds rack count seed (Ok accepted) × RunWrites Report accepted left text
 
 -- an input of a form ends the call
-abbrev pub EndsBy : Option Files → Form → Ending → Type 0
-EndsBy holds (Run output paths) ending = Judges holds paths (Ends ending)
-EndsBy holds (Check paths journal) ending = JudgesCheck holds paths journal (Err ending)
-EndsBy holds (Make rack count seed) ending = JudgesOne holds rack 65536 rack_judged (Err ending)
-EndsBy holds (Load rack count seed) ending = JudgesMade holds rack count seed (Ends ending)
+abbrev pub IsEndedBy : Option Files → Form → Ending → Type 0
+IsEndedBy holds (Run output paths) ending = Judges holds paths (Err ending)
+IsEndedBy holds (Check paths journal) ending = JudgesCheck holds paths journal (Err ending)
+IsEndedBy holds (Make rack count seed) ending = JudgesOne holds rack 65536 rack_seen_judged (Err ending)
+IsEndedBy holds (Load rack count seed) ending = JudgesMade holds rack count seed (Err ending)
 
 -- these accepted inputs of a form are run
 abbrev pub IsRunBy : Option Files → Form → Accepted → Type 0
-IsRunBy holds (Run output paths) accepted = Judges holds paths (Accepts accepted)
+IsRunBy holds (Run output paths) accepted = Judges holds paths (Ok accepted)
 IsRunBy holds (Check paths journal) accepted = ⊥
 IsRunBy holds (Make rack count seed) accepted = ⊥
-IsRunBy holds (Load rack count seed) accepted = JudgesMade holds rack count seed (Accepts accepted)
+IsRunBy holds (Load rack count seed) accepted = JudgesMade holds rack count seed (Ok accepted)
 
 -- The status and the text that are due where the one write does not fail, and what is left then.
 abbrev pub Due : Option Files → List (List ℕ) → Left → Status → List ℕ → Type 0
 Due holds words left status.Done text = (form : Form) × IsForm words form × DoneBy holds form left text
 Due holds words left status.Usage text = IsNoForm words × LeavesNothing left × (text ≡ usage_line)
 Due holds words left status.Malformed text =
-    (form : Form) × IsForm words form × (refusal : Refusal) × EndsBy holds form (Refused refusal) × LeavesNothing left × (text ≡ line_of refusal)
+    (form : Form) × IsForm words form × (refusal : Refusal) × IsEndedBy holds form (Refused refusal) × LeavesNothing left × (text ≡ line_of refusal)
 Due holds words left status.NotARun text =
-    (paths : Paths) × (journal : List ℕ) × IsCheck words paths journal × (inputs : Checkable) × JudgesCheck holds paths journal (Ok inputs)
+    (paths : Paths) × (journal : List ℕ) × IsCheckForm words paths journal × (inputs : Checkable) × JudgesCheck holds paths journal (Ok inputs)
     × (label : ℕ) × IsStuck inputs label × LeavesNothing left × (text ≡ not_a_run_line label)
 Due holds words left status.ReadFault text = ⊥
 Due holds words left status.WriteFault text = ⊥
@@ -88,14 +88,10 @@ abbrev pub status_of_ending : Ending → Status
 status_of_ending Missing = status.ReadFault
 status_of_ending (Refused refusal) = status.Malformed
 
-abbrev pub status_of : Judged → Status
-status_of (Ends ending) = status_of_ending ending
-status_of (Accepts accepted) = status.Done
-
--- where one input is all that is read
-abbrev pub status_of_one : {X : Type 0} → Result X Ending → Status
-status_of_one (Ok x) = status.Done
-status_of_one (Err ending) = status_of_ending ending
+-- of a run, or of the one input that is all that is read
+abbrev pub status_of : {X : Type 0} → Result X Ending → Status
+status_of (Ok x) = status.Done
+status_of (Err ending) = status_of_ending ending
 
 abbrev pub status_of_replay : Replayed → Status
 status_of_replay (Whole state) = status.Done
@@ -109,7 +105,7 @@ status_of_check (Ok inputs) = status_of_replay (replay (setup_by inputs.accepted
 abbrev pub CallFor : Files → Form → Status → Type 0
 CallFor files (Run output paths) due = due ≡ status_of (judge files paths)
 CallFor files (Check paths journal) due = (answer : Result Checkable Ending) × IsOnlyJudgement files paths journal answer × (due ≡ status_of_check answer)
-CallFor files (Make rack count seed) due = due ≡ status_of_one (rack_judged (seen_of (finite.get files rack) 65536))
+CallFor files (Make rack count seed) due = due ≡ status_of (rack_seen_judged (seen_of (finite.get files rack) 65536))
 CallFor files (Load rack count seed) due = due ≡ status_of (judge_made files rack count seed)
 
 -- something is written with this status

@@ -1,11 +1,11 @@
 -- How a call of the program ends: its status, what it wrote, and what it leaves.
-use Rattle.std.specs.Prelude.{◌≡◌, ◌⊎◌, ℕ, List, Option}
+use Rattle.std.specs.Prelude.{◌≡◌, ◌⊎◌, ◌≤◌, ℕ, List, Option}
 use Rattle.mind_base.specs.Store.{Files, Rises}
 use Rattle.mind_base.specs.Sink.{Appends, AppendsFront}
 use Rattle.mind_inputs.specs.Inputs.{Missing}
 use Rattle.mind_inputs.specs.Loading.{MissTold}
 use Rattle.mind_top.specs.Words.{Form, IsForm}
-use Rattle.mind_top.specs.Due.{EndsBy, Due, LogStands, StopsRun}
+use Rattle.mind_top.specs.Due.{IsEndedBy, Due, LogStands, StopsRun}
 use Rattle.mind_top.specs.Left.{Left, LeavesNothing}
 use Rattle.mind_top.specs.declared.statuses.Status.{Status}
 use Rattle.mind_top.specs.declared.statuses.Status.TheVariants as status
@@ -16,6 +16,14 @@ pub record Counts : Type 0 where
   pub missed : ℕ
   pub failed : ℕ
 
+-- the counts of a store and a sink
+abbrev pub counts : ℕ → ℕ → ℕ → Counts
+counts faults missed failed = record { faults = faults; missed = missed; failed = failed }
+
+-- what the store holds stays as it was, and no count falls
+abbrev pub KeepsOutside : Option Files → Option Files → Counts → Counts → Type 0
+KeepsOutside held held' before now = (held' ≡ held) × (before.faults ≤ now.faults) × (before.missed ≤ now.missed) × (before.failed ≤ now.failed)
+
 -- A call ends with its status: what is due was written; or the write failed, and a front of it stands
 -- there; or a read failed, memory ran out, or a run stopped, and nothing was written. The last three come only with
 -- words of a form.
@@ -25,7 +33,7 @@ EndsWith holds words left before now old new status.Usage = (text : List ℕ) ×
 EndsWith holds words left before now old new status.Malformed = (text : List ℕ) × Due holds words left status.Malformed text × Appends old new text
 EndsWith holds words left before now old new status.NotARun = (text : List ℕ) × Due holds words left status.NotARun text × Appends old new text
 EndsWith holds words left before now old new status.ReadFault = (form : Form) × IsForm words form
-    × (Rises before.faults now.faults ⊎ Rises before.missed now.missed) × MissTold holds (EndsBy holds form Missing) before.faults now.faults
+    × (Rises before.faults now.faults ⊎ Rises before.missed now.missed) × MissTold holds (IsEndedBy holds form Missing) before.faults now.faults
     × LeavesNothing left × (new ≡ old)
 EndsWith holds words left before now old new status.WriteFault = Rises before.failed now.failed
     × (s : Status) × (text : List ℕ) × Due holds words left s text × AppendsFront old new text

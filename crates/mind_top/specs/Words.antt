@@ -38,31 +38,31 @@ IsForm words (Make rack count seed) = IsDrawn (codes "make") words rack count se
 IsForm words (Load rack count seed) = IsDrawn (codes "load") words rack count seed
 
 -- the words are `run RACK SCHEDULE`
-abbrev pub IsRun : List (List ℕ) → Paths → Type 0
-IsRun words paths = IsForm words (Run Report paths)
+abbrev pub IsRunForm : List (List ℕ) → Paths → Type 0
+IsRunForm words paths = IsForm words (Run Report paths)
 
 -- the words are `journal RACK SCHEDULE`
-abbrev pub IsJournal : List (List ℕ) → Paths → Type 0
-IsJournal words paths = IsForm words (Run Journal paths)
+abbrev pub IsJournalForm : List (List ℕ) → Paths → Type 0
+IsJournalForm words paths = IsForm words (Run Journal paths)
 
 -- the words are `check RACK SCHEDULE JOURNAL`
-abbrev pub IsCheck : List (List ℕ) → Paths → List ℕ → Type 0
-IsCheck words paths journal = IsForm words (Check paths journal)
+abbrev pub IsCheckForm : List (List ℕ) → Paths → List ℕ → Type 0
+IsCheckForm words paths journal = IsForm words (Check paths journal)
 
 -- the words are `make RACK COUNT SEED`
-abbrev pub IsMake : List (List ℕ) → List ℕ → ℕ → ℕ → Type 0
-IsMake words rack count seed = IsForm words (Make rack count seed)
+abbrev pub IsMakeForm : List (List ℕ) → List ℕ → ℕ → ℕ → Type 0
+IsMakeForm words rack count seed = IsForm words (Make rack count seed)
 
 -- the words are `load RACK COUNT SEED`
-abbrev pub IsLoad : List (List ℕ) → List ℕ → ℕ → ℕ → Type 0
-IsLoad words rack count seed = IsForm words (Load rack count seed)
+abbrev pub IsLoadForm : List (List ℕ) → List ℕ → ℕ → ℕ → Type 0
+IsLoadForm words rack count seed = IsForm words (Load rack count seed)
 
 -- the words are of no form
 abbrev pub IsNoForm : List (List ℕ) → Type 0
-IsNoForm words = ((paths : Paths) → ¬ (IsRun words paths)) × ((paths : Paths) → ¬ (IsJournal words paths))
-    × ((paths : Paths) (journal : List ℕ) → ¬ (IsCheck words paths journal))
-    × ((rack : List ℕ) (count seed : ℕ) → ¬ (IsMake words rack count seed))
-    × ((rack : List ℕ) (count seed : ℕ) → ¬ (IsLoad words rack count seed))
+IsNoForm words = ((paths : Paths) → ¬ (IsRunForm words paths)) × ((paths : Paths) → ¬ (IsJournalForm words paths))
+    × ((paths : Paths) (journal : List ℕ) → ¬ (IsCheckForm words paths journal))
+    × ((rack : List ℕ) (count seed : ℕ) → ¬ (IsMakeForm words rack count seed))
+    × ((rack : List ℕ) (count seed : ℕ) → ¬ (IsLoadForm words rack count seed))
 
 abbrev pub usage_line : List ℕ
 usage_line =

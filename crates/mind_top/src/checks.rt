@@ -1,10 +1,12 @@
+//! The form `check`: a journal is replayed, and its report is written.
+
 ghost use Rattle.std.specs.Prelude.{◌≡◌, ◌≤◌, ℕ, List, [], None};
 ghost use Rattle.mind_base.specs.Fit.{IsFit, FitImages};
 ghost use Rattle.mind_base.specs.declared.notes.Note.{Note};
 ghost use Rattle.mind_inputs.specs.Words.{Paths};
 ghost use Rattle.mind_inputs.specs.Journals.{Checkable};
 ghost use Rattle.mind_top.specs.Words.{Check};
-ghost use Rattle.mind_top.specs.Ending.{Counts};
+ghost use Rattle.mind_top.specs.Ending.{KeepsOutside, counts};
 ghost use Rattle.mind_top.specs.Left.{Left};
 ghost use Rattle.mind_top.specs.Parts.{CheckEnds, Answers};
 
@@ -38,13 +40,10 @@ pub fn answer_check<S: Store, K: Sink>(
     store: &mut S,
     sink: &mut K,
 ) -> Status
-    ensures keeps { S.holds store.new ≡ S.holds store.old }
-    ensures faults { S.faults store.old ≤ S.faults store.new }
-    ensures missed { S.missed store.old ≤ S.missed store.new }
-    ensures failed { K.faults sink.old ≤ K.faults sink.new }
+    ensures outside { KeepsOutside (S.holds store.old) (S.holds store.new)
+        (counts (S.faults store.old) (S.missed store.old) (K.faults sink.old)) (counts (S.faults store.new) (S.missed store.new) (K.faults sink.new)) }
     ensures answers { Answers (S.holds store.old) (Check (record { rack = rack.now; schedule = schedule.now }) journal.now) (record { log = []; end = None })
-        (record { faults = S.faults store.old; missed = S.missed store.old; failed = K.faults sink.old })
-        (record { faults = S.faults store.new; missed = S.missed store.new; failed = K.faults sink.new })
+        (counts (S.faults store.old) (S.missed store.old) (K.faults sink.old)) (counts (S.faults store.new) (S.missed store.new) (K.faults sink.new))
         (K.written sink.old) (K.written sink.new) result }
 {
     match load_for_check(alloc, store, rack, schedule, journal) {

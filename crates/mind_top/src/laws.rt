@@ -1,3 +1,5 @@
+//! Laws of the program: functions that do nothing, with the laws as clauses.
+
 ghost use Rattle.std.specs.Prelude.{◌≡◌, ◌↔◌, ◌≤◌, ◌++◌, ℕ, List, Some, Result, Ok};
 ghost use Rattle.std.specs.FinMap.{get};
 ghost use Rattle.mind_base.specs.Fit.{IsFit};
@@ -7,10 +9,10 @@ ghost use Rattle.rack_gen.specs.Generator.{generated_text};
 ghost use Rattle.mind_base.specs.declared.events.Event.{Event as event};
 ghost use Rattle.report_text.specs.Counts.{counts_line};
 ghost use Rattle.rack_settle.specs.Stretches.{AreSettledEach};
-ghost use Rattle.mind_inputs.specs.Inputs.{Accepted, Ending, rack_judged, seen_of};
+ghost use Rattle.mind_inputs.specs.Inputs.{Accepted, Ending, rack_seen_judged, seen_of};
 ghost use Rattle.mind_inputs.specs.Journals.{Checkable, JudgesCheck};
 ghost use Rattle.mind_inputs.specs.Words.{Paths};
-ghost use Rattle.mind_top.specs.Words.{Form, Run, Load, IsCheck};
+ghost use Rattle.mind_top.specs.Words.{Form, Run, Load, IsCheckForm};
 ghost use Rattle.mind_top.specs.declared.words.Output.TheVariants.{Report as report};
 ghost use Rattle.mind_top.specs.Due.{DoneBy, Due, CallFor, said_of_check};
 ghost use Rattle.mind_top.specs.Headline.{Headline};
@@ -21,14 +23,14 @@ ghost use Rattle.mind_top.specs.declared.statuses.Status.{Status as status};
 pub fn the_files_decide()
     ensures form { (files : Files) (form : Form) (a b : status) → CallFor files form a → CallFor files form b → a ≡ b }
     ensures check { (files : Files) (words : List (List ℕ)) (paths : Paths) (journal : List ℕ) (answer : Result Checkable Ending)
-        (left : Left) (due : status) (text : List ℕ) → IsCheck words paths journal → JudgesCheck (Some files) paths journal answer
+        (left : Left) (due : status) (text : List ℕ) → IsCheckForm words paths journal → JudgesCheck (Some files) paths journal answer
         → Due (Some files) words left due text → (let said : status × List ℕ = (due, text) in said) ≡ said_of_check answer }
 {}
 
 /// Where the schedule that `make` writes for a rack is held, `load` leaves and writes what `run` of that file does.
 pub fn what_is_made_runs_as_it_is_loaded()
     ensures { (files : Files) (rack schedule : List ℕ) (plan : rack_plan) (count seed : ℕ) → IsFit plan → count ≤ 200000
-        → rack_judged (seen_of (get files rack) 65536) ≡ Ok plan → get files schedule ≡ Some (generated_text plan count seed)
+        → rack_seen_judged (seen_of (get files rack) 65536) ≡ Ok plan → get files schedule ≡ Some (generated_text plan count seed)
         → (left : Left) (text : List ℕ) → DoneBy (Some files) (Load rack count seed) left text
         ↔ DoneBy (Some files) (Run report (record { rack = rack; schedule = schedule })) left text }
 {}

@@ -3,7 +3,6 @@
 
 mod checks;
 mod laws;
-mod loads;
 mod makes;
 mod runs;
 mod statuses;

@@ -1,9 +1,11 @@
+//! The form `make`: a schedule is made for a rack.
+
 ghost use Rattle.std.specs.Prelude.{◌≡◌, ◌≤◌, ℕ, List, [], None};
 ghost use Rattle.mind_base.specs.Fit.{IsFit};
 ghost use Rattle.mind_base.specs.declared.notes.Note.{Note};
 ghost use Rattle.rack_gen.specs.Generator.{generated_text};
 ghost use Rattle.mind_top.specs.Words.{Make};
-ghost use Rattle.mind_top.specs.Ending.{Counts};
+ghost use Rattle.mind_top.specs.Ending.{KeepsOutside, counts};
 ghost use Rattle.mind_top.specs.Left.{Left};
 ghost use Rattle.mind_top.specs.Parts.{SaysLine, Answers};
 
@@ -43,13 +45,10 @@ pub fn answer_make<S: Store, K: Sink>(
     sink: &mut K,
 ) -> Status
     requires few { count ≤ 200000 }
-    ensures keeps { S.holds store.new ≡ S.holds store.old }
-    ensures faults { S.faults store.old ≤ S.faults store.new }
-    ensures missed { S.missed store.old ≤ S.missed store.new }
-    ensures failed { K.faults sink.old ≤ K.faults sink.new }
+    ensures outside { KeepsOutside (S.holds store.old) (S.holds store.new)
+        (counts (S.faults store.old) (S.missed store.old) (K.faults sink.old)) (counts (S.faults store.new) (S.missed store.new) (K.faults sink.new)) }
     ensures answers { Answers (S.holds store.old) (Make rack.now count seed) (record { log = []; end = None })
-        (record { faults = S.faults store.old; missed = S.missed store.old; failed = K.faults sink.old })
-        (record { faults = S.faults store.new; missed = S.missed store.new; failed = K.faults sink.new })
+        (counts (S.faults store.old) (S.missed store.old) (K.faults sink.old)) (counts (S.faults store.new) (S.missed store.new) (K.faults sink.new))
         (K.written sink.old) (K.written sink.new) result }
 {
     match load_rack(alloc, store, rack) {

@@ -1,22 +1,21 @@
+//! The forms that run a schedule on a rack: `run`, `journal` and `load`.
+
 ghost use Rattle.std.specs.Prelude.{◌≡◌, ◌≤◌, [], length, None, IfOk};
 ghost use Rattle.std.specs.List.{AllByRecursion};
 ghost use Rattle.mind_base.specs.Fit.{IsFit, FitImages};
-ghost use Rattle.mind_inputs.specs.Words.{Paths};
 ghost use Rattle.mind_steps.specs.Run.{events, below, IsWholeRun};
 ghost use Rattle.rack_settle.specs.Ran.{IsRunFor};
-ghost use Rattle.mind_top.specs.Words.{Run};
-ghost use Rattle.mind_top.specs.Ending.{Counts};
 ghost use Rattle.mind_top.specs.Headline.{setup_by, IsTextOf};
 ghost use Rattle.mind_top.specs.Left.{Left};
-ghost use Rattle.mind_top.specs.Parts.{RunEnds, Answers};
+ghost use Rattle.mind_top.specs.Parts.{RunEnds, LoadedEnds};
 ghost use Rattle.mind_top.specs.Ran.{RanThrough};
 
 use crate::Status;
 use crate::texts::{say, stop};
 use crate::words::Output;
 use journal_text::journal;
-use mind_base::{Log, NoMemory, Sink, Stop, Store};
-use mind_inputs::{Loaded, load};
+use mind_base::{Log, NoMemory, Sink, Stop};
+use mind_inputs::{Loaded, Stopped};
 use mind_steps::report_of;
 use rack_core::Rack;
 use rack_settle::run_all;
@@ -95,31 +94,26 @@ pub fn run<K: Sink>(
     }
 }
 
-/// Reads, judges and runs the files of these names, and writes what is asked for.
-pub fn answer_run<S: Store, K: Sink>(
+/// Runs what was brought and writes what is asked for; else writes why it was not brought, and nothing is left.
+pub fn run_loaded<K: Sink>(
     alloc: Global,
     output: Output,
-    rack: &str,
-    schedule: &str,
-    store: &mut S,
+    loaded: Result<Loaded, Stopped>,
     sink: &mut K,
     log: &mut Log,
     end: &mut Option<Rack>,
 ) -> Status
+    requires fit { IfOk loaded (λ inputs. IsFit inputs.plan) }
+    requires images { IfOk loaded (λ inputs. FitImages inputs.plan.images inputs.images) }
+    requires events { IfOk loaded (λ inputs. AllByRecursion (IsRunFor inputs.plan) inputs.events) }
+    requires few { IfOk loaded (λ inputs. length inputs.events ≤ 1000000) }
     requires empty { log.old.notes ≡ [] }
     requires none { end.old ≡ None }
-    ensures keeps { S.holds store.new ≡ S.holds store.old }
-    ensures faults { S.faults store.old ≤ S.faults store.new }
-    ensures missed { S.missed store.old ≤ S.missed store.new }
+    ensures ends { LoadedEnds output (record { log = log.new.notes; end = end.new }) (K.written sink.old) (K.written sink.new) (K.faults sink.old) (K.faults sink.new) result loaded }
     ensures failed { K.faults sink.old ≤ K.faults sink.new }
-    ensures answers { Answers (S.holds store.old) (Run output (record { rack = rack.now; schedule = schedule.now }))
-        (record { log = log.new.notes; end = end.new })
-        (record { faults = S.faults store.old; missed = S.missed store.old; failed = K.faults sink.old })
-        (record { faults = S.faults store.new; missed = S.missed store.new; failed = K.faults sink.new })
-        (K.written sink.old) (K.written sink.new) result }
 {
-    match load(alloc, store, rack, schedule) {
-        Ok(loaded) => run(alloc, output, &loaded, sink, log, end),
-        Err(stopped) => stop(alloc, &stopped, sink),
+    match &loaded {
+        Ok(loaded) => run(alloc, output, loaded, sink, log, end),
+        Err(stopped) => stop(alloc, stopped, sink),
     }
 }

@@ -1,3 +1,5 @@
+//! The statuses of the program, and their numbers.
+
 ghost use Rattle.std.specs.Prelude.{◌≡◌};
 ghost use Rattle.mind_top.specs.Code.{code_of};
 

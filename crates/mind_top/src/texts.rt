@@ -1,7 +1,9 @@
+//! The one write of a call, and the lines for what was refused.
+
 ghost use Rattle.std.specs.Prelude.{◌≡◌, ◌≤◌, IfOk};
 ghost use Rattle.mind_inputs.specs.Refusal.{line_of};
 ghost use Rattle.mind_top.specs.Due.{not_a_run_line};
-ghost use Rattle.mind_top.specs.Parts.{Says, SaysLine, Stops};
+ghost use Rattle.mind_top.specs.Parts.{SaysText, SaysLine, Stops};
 
 use crate::Status;
 use mind_base::{NoMemory, Sink};
@@ -10,7 +12,7 @@ use std::alloc::Global;
 
 /// Writes a text, and answers the status that is due, or that the write failed.
 pub fn say<K: Sink>(sink: &mut K, text: &[u8], due: Status) -> Status
-    ensures says { Says (K.written sink.old) (K.written sink.new) (K.faults sink.old) (K.faults sink.new) text.now due result }
+    ensures says { SaysText (K.written sink.old) (K.written sink.new) (K.faults sink.old) (K.faults sink.new) text.now due result }
     ensures failed { K.faults sink.old ≤ K.faults sink.new }
 {
     match sink.write_all(text) {

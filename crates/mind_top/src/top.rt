@@ -1,32 +1,35 @@
+//! The program over any store and sink.
+
 ghost use Rattle.std.specs.Prelude.{◌≡◌, ◌≤◌, ◌⊎◌, ℕ, List, [], Ok, None, map, string_bytes, IfSome};
 ghost use Rattle.mind_base.specs.Store.{Rises};
 ghost use Rattle.mind_base.specs.Sink.{Appends};
 ghost use Rattle.mind_base.specs.declared.plans.RackPlan.{RackPlan as rack_plan};
 ghost use Rattle.rack_gen.specs.Generator.{generated_text};
 ghost use Rattle.mind_inputs.specs.Words.{Paths};
-ghost use Rattle.mind_inputs.specs.Inputs.{Accepted, JudgesOne, Judges, JudgesMade, Accepts, rack_judged};
+ghost use Rattle.mind_inputs.specs.Inputs.{Accepted, JudgesOne, Judges, JudgesMade, rack_seen_judged};
 ghost use Rattle.mind_inputs.specs.Journals.{Checkable, JudgesCheck};
 ghost use Rattle.mind_top.specs.declared.statuses.Status.{Status as status};
-ghost use Rattle.mind_top.specs.Words.{Form, IsForm, IsRun, IsJournal, IsCheck, IsMake, IsLoad, IsNoForm};
+ghost use Rattle.mind_top.specs.Words.{Form, IsForm, IsRunForm, IsJournalForm, IsCheckForm, IsMakeForm, IsLoadForm, IsNoForm};
 ghost use Rattle.mind_top.specs.Due.{IsWhole, IsStuck, not_a_run_line, StopsRun, IsAnswered, Decides};
-ghost use Rattle.mind_top.specs.Ending.{Counts, EndsWith};
+ghost use Rattle.mind_top.specs.Ending.{EndsWith, KeepsOutside, counts};
 ghost use Rattle.mind_top.specs.Headline.{Headline, JournalHeadline};
 ghost use Rattle.mind_top.specs.Left.{Left, LeavesNothing};
 
 use crate::Status;
 use crate::checks::answer_check;
-use crate::loads::answer_load;
 use crate::makes::answer_make;
-use crate::runs::answer_run;
+use crate::runs::run_loaded;
 use crate::texts::say;
-use crate::words::{Asked, asked_of};
+use crate::words::{Asked, Output, asked_of};
 use mind_base::{Log, Sink, Store};
+use mind_inputs::{load, load_made};
 use rack_core::Rack;
 use std::alloc::Global;
 
 const USAGE_LINE: &[u8; 130] =
     b"usage: mind run RACK SCHEDULE | journal RACK SCHEDULE | check RACK SCHEDULE JOURNAL | make RACK COUNT SEED | load RACK COUNT SEED\n";
 
+#[tactic(auto, using(crate::proofs::Rans::brought_fit))]
 fn top<S: Store, K: Sink>(
     alloc: Global,
     words: &[String],
@@ -37,13 +40,10 @@ fn top<S: Store, K: Sink>(
 ) -> Status
     requires empty { log.old.notes ≡ [] }
     requires none { end.old ≡ None }
-    ensures keeps { S.holds store.new ≡ S.holds store.old }
-    ensures faults { S.faults store.old ≤ S.faults store.new }
-    ensures missed { S.missed store.old ≤ S.missed store.new }
-    ensures failed { K.faults sink.old ≤ K.faults sink.new }
+    ensures outside { KeepsOutside (S.holds store.old) (S.holds store.new)
+        (counts (S.faults store.old) (S.missed store.old) (K.faults sink.old)) (counts (S.faults store.new) (S.missed store.new) (K.faults sink.new)) }
     ensures ends { EndsWith (S.holds store.old) (map string_bytes words.now) (record { log = log.new.notes; end = end.new })
-        (record { faults = S.faults store.old; missed = S.missed store.old; failed = K.faults sink.old })
-        (record { faults = S.faults store.new; missed = S.missed store.new; failed = K.faults sink.new })
+        (counts (S.faults store.old) (S.missed store.old) (K.faults sink.old)) (counts (S.faults store.new) (S.missed store.new) (K.faults sink.new))
         (K.written sink.old) (K.written sink.new) result }
 {
     match asked_of(words) {
@@ -54,7 +54,10 @@ fn top<S: Store, K: Sink>(
                 rack,
                 schedule,
             },
-        ) => answer_run(alloc, output, rack, schedule, store, sink, log, end),
+        ) => {
+            let loaded = load(alloc, store, rack, schedule);
+            run_loaded(alloc, output, loaded, sink, log, end)
+        }
         Some(
             Asked::Check {
                 rack,
@@ -66,7 +69,8 @@ fn top<S: Store, K: Sink>(
             answer_make(alloc, rack, count, seed, store, sink)
         }
         Some(Asked::Load { rack, count, seed }) => {
-            answer_load(alloc, rack, count, seed, store, sink, log, end)
+            let loaded = load_made(alloc, store, rack, count, seed);
+            run_loaded(alloc, Output::Report, loaded, sink, log, end)
         }
     }
 }
@@ -94,45 +98,44 @@ pub fn mind<S: Store, K: Sink>(
 
     // Every status, with its cause, what was written, and the log and the rack that are left.
     ensures ends { EndsWith (S.holds store.old) (map string_bytes words.now) (record { log = log.new.notes; end = end.new })
-        (record { faults = S.faults store.old; missed = S.missed store.old; failed = K.faults sink.old })
-        (record { faults = S.faults store.new; missed = S.missed store.new; failed = K.faults sink.new })
+        (counts (S.faults store.old) (S.missed store.old) (K.faults sink.old)) (counts (S.faults store.new) (S.missed store.new) (K.faults sink.new))
         (K.written sink.old) (K.written sink.new) result }
 
     // The report is that of a run of the machine, the run being the labels of the log. The rack at the end stands
     // for the log, and is reached from the start by the events of the schedule with its notes.
-    ensures headline { (paths : Paths) → IsRun (map string_bytes words.now) paths → result ≡ Status.Done
-        → (accepted : Accepted) × Judges (S.holds store.old) paths (Accepts accepted) × (text : List ℕ)
+    ensures headline { (paths : Paths) → IsRunForm (map string_bytes words.now) paths → result ≡ Status.Done
+        → (accepted : Accepted) × Judges (S.holds store.old) paths (Ok accepted) × (text : List ℕ)
         × Headline accepted (record { log = log.new.notes; end = end.new }) text × Appends (K.written sink.old) (K.written sink.new) text }
 
     // The journal is the text of the log of such a run.
-    ensures journal { (paths : Paths) → IsJournal (map string_bytes words.now) paths → result ≡ Status.Done
-        → (accepted : Accepted) × Judges (S.holds store.old) paths (Accepts accepted) × (text : List ℕ)
+    ensures journal { (paths : Paths) → IsJournalForm (map string_bytes words.now) paths → result ≡ Status.Done
+        → (accepted : Accepted) × Judges (S.holds store.old) paths (Ok accepted) × (text : List ℕ)
         × JournalHeadline accepted (record { log = log.new.notes; end = end.new }) text × Appends (K.written sink.old) (K.written sink.new) text }
 
     // A journal is found to be that of a run where its labels replay whole, and the report is that of its notes.
-    ensures check { (paths : Paths) (journal : List ℕ) → IsCheck (map string_bytes words.now) paths journal → result ≡ Status.Done
+    ensures check { (paths : Paths) (journal : List ℕ) → IsCheckForm (map string_bytes words.now) paths journal → result ≡ Status.Done
         → (inputs : Checkable) × JudgesCheck (S.holds store.old) paths journal (Ok inputs) × (text : List ℕ)
         × IsWhole inputs text × Appends (K.written sink.old) (K.written sink.new) text }
 
     // A schedule is made for an accepted rack.
-    ensures make { (rack : List ℕ) (count seed : ℕ) → IsMake (map string_bytes words.now) rack count seed → result ≡ Status.Done
-        → (plan : rack_plan) × JudgesOne (S.holds store.old) rack 65536 rack_judged (Ok plan)
+    ensures make { (rack : List ℕ) (count seed : ℕ) → IsMakeForm (map string_bytes words.now) rack count seed → result ≡ Status.Done
+        → (plan : rack_plan) × JudgesOne (S.holds store.old) rack 65536 rack_seen_judged (Ok plan)
         × Appends (K.written sink.old) (K.written sink.new) (generated_text plan count seed) }
 
     // Such a schedule is run as one that is read is.
-    ensures load { (rack : List ℕ) (count seed : ℕ) → IsLoad (map string_bytes words.now) rack count seed → result ≡ Status.Done
-        → (accepted : Accepted) × JudgesMade (S.holds store.old) rack count seed (Accepts accepted) × (text : List ℕ)
+    ensures load { (rack : List ℕ) (count seed : ℕ) → IsLoadForm (map string_bytes words.now) rack count seed → result ≡ Status.Done
+        → (accepted : Accepted) × JudgesMade (S.holds store.old) rack count seed (Ok accepted) × (text : List ℕ)
         × Headline accepted (record { log = log.new.notes; end = end.new }) text × Appends (K.written sink.old) (K.written sink.new) text }
 
     // Only a check finds a journal that is none, by its first label that is not enabled.
-    ensures not_a_run { result ≡ Status.NotARun → (paths : Paths) × (journal : List ℕ) × IsCheck (map string_bytes words.now) paths journal
+    ensures not_a_run { result ≡ Status.NotARun → (paths : Paths) × (journal : List ℕ) × IsCheckForm (map string_bytes words.now) paths journal
         × (inputs : Checkable) × JudgesCheck (S.holds store.old) paths journal (Ok inputs) × (label : ℕ) × IsStuck inputs label
         × Appends (K.written sink.old) (K.written sink.new) (not_a_run_line label) }
 
     // A check leaves no log and no rack, and neither does the making of a schedule.
-    ensures check_leaves { (paths : Paths) (journal : List ℕ) → IsCheck (map string_bytes words.now) paths journal
+    ensures check_leaves { (paths : Paths) (journal : List ℕ) → IsCheckForm (map string_bytes words.now) paths journal
         → LeavesNothing (record { log = log.new.notes; end = end.new }) }
-    ensures make_leaves { (rack : List ℕ) (count seed : ℕ) → IsMake (map string_bytes words.now) rack count seed
+    ensures make_leaves { (rack : List ℕ) (count seed : ℕ) → IsMakeForm (map string_bytes words.now) rack count seed
         → LeavesNothing (record { log = log.new.notes; end = end.new }) }
 
     // A run stops only where a number of its rack, which is left, has its last value. Nothing is written then.

@@ -1,3 +1,5 @@
+//! The words that the program is started with.
+
 ghost use Rattle.std.specs.Prelude.{◌≡◌, ◌↔◌, ◌≤◌, ℕ, map, string_bytes, IsTrue, IfSome, MatchOption};
 ghost use Rattle.mind_top.specs.Words.{IsNumber, IsForm, IsNoForm};
 ghost use Rattle.mind_top.specs.Asked.{form_asked, IsFew};

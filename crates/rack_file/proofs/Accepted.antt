@@ -4,7 +4,7 @@ use Rattle.std.specs.List.{AllByRecursion}
 use Rattle.std.proofs.lemmas.Grind.{common_steps}
 use Rattle.mind_base.specs.Fit.{Within}
 use Rattle.toml.specs.Data.{Data, Items, no_items, item, Members, as_integer, as_array}
-use Rattle.rack_file.specs.Keys.{Refused, and_then, demand, Key, Number, within, passes, natural_of, kind_judged, value_judged, key_judged, keys_judged, number_at, count, numbered, items_judged, array_judged}
+use Rattle.rack_file.specs.Keys.{Refused, and_then, demand, Key, Number, within, some_passes, natural_of, kind_judged, value_judged, key_judged, keys_judged, integer_at, count, member_path, items_judged, array_judged}
 use Rattle.rack_file.specs.declared.refusals.RackFault.{RackFault}
 
 -- two things that were accepted one after the other
@@ -21,14 +21,14 @@ within-parts low high n e = (grind (arith, common_steps, e), grind (arith, commo
 
 -- ---- keys
 
-passes-value : (test : ℕ → Bool) (n : Option ℕ) → passes test n ≡ true → test (unwrap_or n 0) ≡ true
+passes-value : (test : ℕ → Bool) (n : Option ℕ) → some_passes test n ≡ true → test (unwrap_or n 0) ≡ true
 passes-value test None e = absurd (cc)
 passes-value test (Some n) e = e
 
 integer-ok : (test : ℕ → Bool) (fault : RackFault) (path : List ℕ) (z : Option ℤ) (u : Unit {0})
-    → and_then (and_then (kind_judged path z) (λ n. Ok (natural_of n))) (λ n. demand (passes test n) fault path) ≡ Ok u → test (unwrap_or (option_and_then natural_of z) 0) ≡ true
+    → and_then (and_then (kind_judged path z) (λ n. Ok (natural_of n))) (λ n. demand (some_passes test n) fault path) ≡ Ok u → test (unwrap_or (option_and_then natural_of z) 0) ≡ true
 integer-ok test fault path None u e = absurd (cc)
-integer-ok test fault path (Some z) u e = passes-value test (natural_of z) (demand-ok (passes test (natural_of z)) fault path u e)
+integer-ok test fault path (Some z) u e = passes-value test (natural_of z) (demand-ok (some_passes test (natural_of z)) fault path u e)
 
 pub number-ok : (test : ℕ → Bool) (path : List ℕ) (value : Option Data) (u : Unit {0}) → value_judged (Number test) path value ≡ Ok u
     → test (unwrap_or (option_and_then natural_of (option_and_then as_integer value)) 0) ≡ true
@@ -41,7 +41,7 @@ first-ok path table key keys u e = let (x, here, more) = both-ok (key_judged pat
 
 -- a key with an integer that passes a test
 pub number-first : (path : List ℕ) (table : Members) (name : List ℕ) (test : Members → ℕ → Bool) (keys : List Key) (u : Unit {0})
-    → keys_judged path table (record { name = name; rule = λ t. Number (test t) } ∷ keys) ≡ Ok u → (test table (number_at name table) ≡ true) × (keys_judged path table keys ≡ Ok u)
+    → keys_judged path table (record { name = name; rule = λ t. Number (test t) } ∷ keys) ≡ Ok u → (test table (integer_at name table) ≡ true) × (keys_judged path table keys ≡ Ok u)
 number-first path table name test keys u e =
     let (here, more) = first-ok path table (record { name = name; rule = λ t. Number (test t) }) keys u e in
     (number-ok (test table) _ _ tt here, more)
@@ -58,7 +58,7 @@ pub items-keep : {X : Type 0} (judge : List X → List ℕ → Data → Result X
     → (items : Items) (done xs : List X) → Q done → items_judged judge path done items ≡ Ok xs → Q xs
 items-keep {X} judge path Q step no_items done xs so_far e = subst Q (cc) so_far
 items-keep {X} judge path Q step (item d ds) done xs so_far e =
-    let (x, here, more) = both-ok (judge done (numbered path (length done)) d) (λ x. items_judged judge path (done ++ x ∷ []) ds) xs e in
+    let (x, here, more) = both-ok (judge done (member_path path (length done)) d) (λ x. items_judged judge path (done ++ x ∷ []) ds) xs e in
     items-keep judge path Q step ds (done ++ x ∷ []) xs (step done _ d x so_far here) more
 
 length-push : {X : Type 0} (xs : List X) (x : X) → length (xs ++ x ∷ []) ≡ length xs + 1
@@ -69,7 +69,7 @@ pub items-count : {X : Type 0} (judge : List X → List ℕ → Data → Result 
     → items_judged judge path done items ≡ Ok xs → length xs ≡ length done + count items
 items-count {X} judge path no_items done xs e = let same : done ≡ xs = cc in omega (arith, ap length same)
 items-count {X} judge path (item d ds) done xs e =
-    let (x, here, more) = both-ok (judge done (numbered path (length done)) d) (λ x. items_judged judge path (done ++ x ∷ []) ds) xs e in
+    let (x, here, more) = both-ok (judge done (member_path path (length done)) d) (λ x. items_judged judge path (done ++ x ∷ []) ds) xs e in
     omega (arith, items-count judge path ds (done ++ x ∷ []) xs more, length-push done x)
 
 array-in : (path : List ℕ) (low high : ℕ) (array : Option Items) (items : Items) (fault : RackFault)

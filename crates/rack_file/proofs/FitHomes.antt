@@ -6,8 +6,8 @@ use Rattle.mind_base.specs.Span.{SpanView}
 use Rattle.mind_base.specs.Fit.{Within, AreApart, IsFitMemory, all_homes}
 use Rattle.mind_base.specs.declared.plans.MemoryPlan.{MemoryPlan}
 use Rattle.toml.specs.Data.{Data, Members, get_member, as_table}
-use Rattle.rack_file.specs.Keys.{and_then, demand, within, kind_judged, keys_judged, known_judged, key_judged, number_at, array_judged, items_judged, under}
-use Rattle.rack_file.specs.Tables.{span_keys, memory_keys, pages_key, names_in, table_judged, span_at, is_apart, home_judged, homes_judged, memory_judged, memories_judged, home_pages}
+use Rattle.rack_file.specs.Keys.{and_then, demand, within, kind_judged, keys_judged, known_judged, key_judged, integer_at, array_judged, items_judged, under}
+use Rattle.rack_file.specs.Tables.{span_keys, memory_keys, pages_key, names_in, table_judged, span_at, is_apart, home_judged, homes_judged, memory_judged, memories_judged, all_home_pages}
 use Rattle.rack_file.specs.declared.refusals.RackFault.TheVariants.{Overlap, Limit}
 use Rattle.rack_file.specs.declared.sections.Section.TheVariants as section
 use Rattle.rack_file.proofs.Accepted.{both-ok, demand-ok, number-ok, all-push, items-keep, items-count, array-ok}
@@ -17,8 +17,8 @@ most-pages : (base n : ℕ) → (within 1 4096 n && nat_le (base + n) 1048576) �
 most-pages base n e = grind (arith, common_steps, e)
 
 pub pages-most : (path : List ℕ) (table : Members) → key_judged path table pages_key ≡ Ok tt → (span_at table).pages ≤ 4096
-pages-most path table e = most-pages (number_at (codes "page") table) _
-    (number-ok (λ n. within 1 4096 n && nat_le (number_at (codes "page") table + n) 1048576) (under path (codes "pages")) (get_member (codes "pages") table) tt e)
+pages-most path table e = most-pages (integer_at (codes "page") table) _
+    (number-ok (λ n. within 1 4096 n && nat_le (integer_at (codes "page") table + n) 1048576) (under path (codes "pages")) (get_member (codes "pages") table) tt e)
 
 home-fit : (earlier : List SpanView) (path : List ℕ) (d : Data) (span : SpanView) → home_judged (is_apart earlier) path d ≡ Ok span → (span.pages ≤ 4096) × (is_apart earlier span ≡ true)
 home-fit earlier path d span e =
@@ -55,14 +55,14 @@ memory-fit : (done : List MemoryPlan) (path : List ℕ) (d : Data) (m : MemoryPl
 memory-fit done path d m apart e =
     let (table, is, rest) = both-ok (kind_judged path (as_table d)) (λ table. and_then (keys_judged path table memory_keys) (λ checked.
     and_then (homes_judged (all_homes done) path table) (λ homes. and_then (known_judged path table (names_in section.Memory)) (λ known.
-    Ok (record { homes = homes; spare = number_at (codes "spare") table }))))) m e in
+    Ok (record { homes = homes; spare = integer_at (codes "spare") table }))))) m e in
     let (u, ks, rest2) = both-ok (keys_judged path table memory_keys) (λ checked.
     and_then (homes_judged (all_homes done) path table) (λ homes. and_then (known_judged path table (names_in section.Memory)) (λ known.
-    Ok (record { homes = homes; spare = number_at (codes "spare") table })))) m rest in
+    Ok (record { homes = homes; spare = integer_at (codes "spare") table })))) m rest in
     let (homes, hs, rest3) = both-ok (homes_judged (all_homes done) path table) (λ homes. and_then (known_judged path table (names_in section.Memory)) (λ known.
-    Ok (record { homes = homes; spare = number_at (codes "spare") table }))) m rest2 in
-    let (v, known, last) = both-ok (known_judged path table (names_in section.Memory)) (λ known. Ok (record { homes = homes; spare = number_at (codes "spare") table })) m rest3 in
-    let plan : MemoryPlan = record { homes = homes; spare = number_at (codes "spare") table } in
+    Ok (record { homes = homes; spare = integer_at (codes "spare") table }))) m rest2 in
+    let (v, known, last) = both-ok (known_judged path table (names_in section.Memory)) (λ known. Ok (record { homes = homes; spare = integer_at (codes "spare") table })) m rest3 in
+    let plan : MemoryPlan = record { homes = homes; spare = integer_at (codes "spare") table } in
     let same : plan ≡ m = cc in
     let all = all-keys path table memory_keys u ks in
     let spare = number-in path table (codes "spare") 0 4096 all.0 in
@@ -85,7 +85,7 @@ memory-step done path d m kept e =
 pub record FitMemories (ms : List MemoryPlan) : Type 0 where
   pub count : Within 1 8 (length ms)
   pub kept : KeepsMemories ms
-  pub pages : home_pages ms ≤ 16384
+  pub pages : all_home_pages ms ≤ 16384
 
 room : (n : ℕ) → nat_le n 16384 ≡ true → n ≤ 16384
 room n e = grind (arith, common_steps, e)
@@ -93,9 +93,9 @@ room n e = grind (arith, common_steps, e)
 pub memories-fit : (top : Members) (ms : List MemoryPlan) → memories_judged top ≡ Ok ms → FitMemories ms
 memories-fit top ms e =
     let (items, is, rest) = both-ok (array_judged (codes "memory") 1 8 (get_member (codes "memory") top)) (λ items.
-    and_then (items_judged memory_judged (codes "memory") [] items) (λ memories. and_then (demand (nat_le (home_pages memories) 16384) Limit (codes "memory")) (λ fits. Ok memories))) ms e in
-    let (xs, walk, rest2) = both-ok (items_judged memory_judged (codes "memory") [] items) (λ memories. and_then (demand (nat_le (home_pages memories) 16384) Limit (codes "memory")) (λ fits. Ok memories)) ms rest in
-    let (u, some, last) = both-ok (demand (nat_le (home_pages xs) 16384) Limit (codes "memory")) (λ fits. Ok xs) ms rest2 in
+    and_then (items_judged memory_judged (codes "memory") [] items) (λ memories. and_then (demand (nat_le (all_home_pages memories) 16384) Limit (codes "memory")) (λ fits. Ok memories))) ms e in
+    let (xs, walk, rest2) = both-ok (items_judged memory_judged (codes "memory") [] items) (λ memories. and_then (demand (nat_le (all_home_pages memories) 16384) Limit (codes "memory")) (λ fits. Ok memories)) ms rest in
+    let (u, some, last) = both-ok (demand (nat_le (all_home_pages xs) 16384) Limit (codes "memory")) (λ fits. Ok xs) ms rest2 in
     let same : xs ≡ ms = cc in
     let fits = array-ok (codes "memory") 1 8 (get_member (codes "memory") top) items is in
     let n = items-count memory_judged (codes "memory") items [] xs walk in

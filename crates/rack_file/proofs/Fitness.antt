@@ -9,7 +9,7 @@ use Rattle.mind_base.specs.declared.plans.ImagePlan.{ImagePlan}
 use Rattle.mind_base.specs.declared.plans.ThreadPlan.{ThreadPlan}
 use Rattle.control_plane.proofs.Runs.{all_in-holds}
 use Rattle.toml.specs.Data.{Data, Members, get_member, as_table}
-use Rattle.rack_file.specs.Keys.{and_then, Key, within, number_key, kind_judged, key_judged, keys_judged, known_judged, number_at, text_at, array_judged, items_judged, under}
+use Rattle.rack_file.specs.Keys.{and_then, Key, within, number_key, kind_judged, key_judged, keys_judged, known_judged, integer_at, text_at, array_judged, items_judged, under}
 use Rattle.rack_file.specs.Tables.{top_keys, blade_keys, image_keys, thread_keys, names_in, table_judged, blade_judged, blades_judged, image_judged, images_judged, thread_judged, threads_judged, thread_at, is_apart}
 use Rattle.rack_file.specs.Settings.{settings_at, settings_judged}
 use Rattle.rack_file.specs.declared.sections.Section.{Section}
@@ -25,7 +25,7 @@ pub all-keys : (path : List ℕ) (table : Members) (keys : List Key) (u : Unit {
 all-keys path table [] u e = tt
 all-keys path table (key ∷ keys) u e = let (here, more) = first-ok path table key keys u e in (here, all-keys path table keys u more)
 
-pub number-in : (path : List ℕ) (table : Members) (name : List ℕ) (low high : ℕ) → key_judged path table (number_key name low high) ≡ Ok tt → Within low high (number_at name table)
+pub number-in : (path : List ℕ) (table : Members) (name : List ℕ) (low high : ℕ) → key_judged path table (number_key name low high) ≡ Ok tt → Within low high (integer_at name table)
 number-in path table name low high e = within-parts low high _ (number-ok (within low high) (under path name) (get_member name table) tt e)
 
 -- the keys of an accepted table
@@ -57,7 +57,7 @@ settings-fit top s e =
     let protect = number-in (codes "") top (codes "protect") 1 4096 all.1.1.0 in
     let outliers = number-in (codes "") top (codes "outliers") 0 1024 all.1.1.1.0 in
     let region = number-in (codes "") top (codes "region") 0 9 all.1.1.1.1.0 in
-    let most = number-ok (within (number_at (codes "region") top) 9) (codes "most") (get_member (codes "most") top) tt all.1.1.1.1.1.0 in
+    let most = number-ok (within (integer_at (codes "region") top) 9) (codes "most") (get_member (codes "most") top) tt all.1.1.1.1.1.0 in
     let threshold = number-in (codes "") top (codes "threshold") 0 1000000 all.1.1.1.1.1.1.0 in
     let found : FitSettings (settings_at top) = record {
       slots = slots;
@@ -73,8 +73,8 @@ settings-fit top s e =
 
 blade-fit : (path : List ℕ) (d : Data) (n : ℕ) → blade_judged path d ≡ Ok n → Within 1 1024 n
 blade-fit path d n e =
-    let (table, is, last) = both-ok (table_judged section.Blade blade_keys path d) (λ table. Ok (number_at (codes "frames") table)) n e in
-    let same : number_at (codes "frames") table ≡ n = cc in
+    let (table, is, last) = both-ok (table_judged section.Blade blade_keys path d) (λ table. Ok (integer_at (codes "frames") table)) n e in
+    let same : integer_at (codes "frames") table ≡ n = cc in
     let all = table-keys section.Blade blade_keys path d table is in
     let P : ℕ → Type 0 = λ m. Within 1 1024 m in subst P same (number-in path table (codes "frames") 1 1024 all.0)
 
@@ -94,8 +94,8 @@ place-parts n e = (grind (arith, common_steps, e), grind (arith, common_steps, e
 
 image-fit : (path : List ℕ) (d : Data) (plan : ImagePlan) → image_judged path d ≡ Ok plan → IsFitImage plan
 image-fit path d plan e =
-    let (table, is, last) = both-ok (table_judged section.Image image_keys path d) (λ table. Ok (record { name = text_at (codes "name") table; at = number_at (codes "at") table })) plan e in
-    let same : number_at (codes "at") table ≡ plan.at = cc in
+    let (table, is, last) = both-ok (table_judged section.Image image_keys path d) (λ table. Ok (record { name = text_at (codes "name") table; at = integer_at (codes "at") table })) plan e in
+    let same : integer_at (codes "at") table ≡ plan.at = cc in
     let all = table-keys section.Image image_keys path d table is in
     let at = number-ok (λ n. nat_le n 4294967292 && n % 4 == 0) (under path (codes "at")) (get_member (codes "at") table) tt all.1.0 in
     let P : ℕ → Type 0 = λ n. (n % 4 ≡ 0) × (n ≤ 4294967292) in subst P same (place-parts _ at)

@@ -15,7 +15,7 @@ use Rattle.protect_table.proofs.Tables.{permission_of-push}
 use Rattle.toml.specs.Data.{Data}
 use Rattle.control_plane.specs.Outcome.{are_unmapped}
 use Rattle.rack_file.specs.Tables.{is_apart, home_judged, home_entry}
-use Rattle.rack_file.specs.Judged.{Stops}
+use Rattle.rack_file.specs.Judged.{RefusesAs}
 use Rattle.rack_file.specs.declared.refusals.RackRefusal.{RackRefusal}
 
 or-false : (b : Bool) → b ≡ (b || false)
@@ -64,5 +64,5 @@ pub home-accepted : (permissions : PageView → Perm) (spans : List SpanView) (p
 home-accepted permissions spans path d home is e = sym (ap (λ free. home_judged free path d) (table-free permissions spans is)) ∙ e
 
 pub home-refused : (permissions : PageView → Perm) (spans : List SpanView) (path : List ℕ) (d : Data) (e : RackRefusal) → permissions ≡ permission_of (map home_entry spans)
-    → Stops e (home_judged (are_unmapped permissions) path d) → Stops e (home_judged (is_apart spans) path d)
-home-refused permissions spans path d e is stops = let P : (SpanView → Bool) → Type 0 = λ free. Stops e (home_judged free path d) in subst P (table-free permissions spans is) stops
+    → RefusesAs e (home_judged (are_unmapped permissions) path d) → RefusesAs e (home_judged (is_apart spans) path d)
+home-refused permissions spans path d e is stops = let P : (SpanView → Bool) → Type 0 = λ free. RefusesAs e (home_judged free path d) in subst P (table-free permissions spans is) stops

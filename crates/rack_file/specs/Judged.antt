@@ -16,14 +16,14 @@ Says (refusal.Refused what path) refused = refused ≡ (what, path)
 Says refusal.NoMemory refused = Unit {0}
 
 -- the code refuses as is judged, unless memory ran out
-abbrev pub Stops : {Y : Type 0} → RackRefusal → Result Y Refused → Type 0
-Stops (refusal.Refused what path) judged = judged ≡ Err (what, path)
-Stops refusal.NoMemory judged = Unit {0}
+abbrev pub RefusesAs : {Y : Type 0} → RackRefusal → Result Y Refused → Type 0
+RefusesAs (refusal.Refused what path) judged = judged ≡ Err (what, path)
+RefusesAs refusal.NoMemory judged = Unit {0}
 
 -- the code answers as is judged, unless memory ran out
-abbrev pub Gives : {X Y : Type 0} → (X → Y) → Result X RackRefusal → Result Y Refused → Type 0
-Gives view (Ok x) judged = judged ≡ Ok (view x)
-Gives view (Err refused) judged = Stops refused judged
+abbrev pub GivesJudged : {X Y : Type 0} → (X → Y) → Result X RackRefusal → Result Y Refused → Type 0
+GivesJudged view (Ok x) judged = judged ≡ Ok (view x)
+GivesJudged view (Err refused) judged = RefusesAs refused judged
 
 -- the code gives this text, unless memory ran out
 abbrev pub GivesText : Result (String Global) RackRefusal → List ℕ → Type 0
@@ -32,9 +32,9 @@ GivesText (Err (refusal.Refused what path)) wanted = ⊥
 GivesText (Err refusal.NoMemory) wanted = Unit {0}
 
 -- the code finds nothing wrong and reads this value, or refuses as is judged, unless memory ran out
-abbrev pub Reads : {X Y : Type 0} → (X → Y) → Result X RackRefusal → Result (Unit {0}) Refused → Y → Type 0
-Reads view (Ok x) judged value = (judged ≡ Ok tt) × (view x ≡ value)
-Reads view (Err refused) judged value = Stops refused judged
+abbrev pub ReadsAs : {X Y : Type 0} → (X → Y) → Result X RackRefusal → Result (Unit {0}) Refused → Y → Type 0
+ReadsAs view (Ok x) judged value = (judged ≡ Ok tt) × (view x ≡ value)
+ReadsAs view (Err refused) judged value = RefusesAs refused judged
 
 -- the document that bytes spell is read, and they are refused only where they spell none
 abbrev pub GivesDocument : Result (BTreeMap (String Global) Value) RackRefusal → Option Members → Type 0

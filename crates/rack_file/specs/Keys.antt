@@ -14,8 +14,8 @@ abbrev pub under : List ℕ → List ℕ → List ℕ
 under path name = if length path == 0 then name else path ++ codes "." ++ name
 
 -- the path of an element of an array, counted from 0
-abbrev pub numbered : List ℕ → ℕ → List ℕ
-numbered path n = path ++ codes "." ++ digits 10 false n
+abbrev pub member_path : List ℕ → ℕ → List ℕ
+member_path path n = path ++ codes "." ++ digits 10 false n
 
 -- how a table is named itself
 abbrev pub table_name : List ℕ → List ℕ
@@ -63,9 +63,9 @@ abbrev pub natural_of : ℤ → Option ℕ
 natural_of (pos n) = Some n
 natural_of (negsuc n) = None
 
-abbrev pub passes : (ℕ → Bool) → Option ℕ → Bool
-passes test None = false
-passes test (Some n) = test n
+abbrev pub some_passes : (ℕ → Bool) → Option ℕ → Bool
+some_passes test None = false
+some_passes test (Some n) = test n
 
 abbrev pub kind_judged : {X : Type 0} → List ℕ → Option X → Result X Refused
 kind_judged path None = Err (Kind, path)
@@ -89,7 +89,7 @@ optional_judged test path (Some datum) = and_then (kind_judged path (as_str datu
 
 -- first whether the value is there, then its kind, then its limit
 abbrev pub value_judged : Rule → List ℕ → Option Data → Result (Unit {0}) Refused
-value_judged (Number test) path value = and_then (natural_judged path value) (λ n. demand (passes test n) Limit path)
+value_judged (Number test) path value = and_then (natural_judged path value) (λ n. demand (some_passes test n) Limit path)
 value_judged (Text test) path value = and_then (text_judged path value) (λ text. demand (test text) Limit path)
 value_judged (OptionalText test) path value = optional_judged test path value
 
@@ -105,18 +105,18 @@ abbrev pub names_of : List Key → List (List ℕ)
 names_of keys = map (λ key. key.name) keys
 
 -- the table has no key but those of these names
-abbrev pub has_only : List (List ℕ) → Members → Bool
-has_only names no_members = true
-has_only names (member name datum rest) = list_any (λ known. bytes_eq name known) names && has_only names rest
+abbrev pub has_no_other_key : List (List ℕ) → Members → Bool
+has_no_other_key names no_members = true
+has_no_other_key names (member name datum rest) = list_any (λ known. bytes_eq name known) names && has_no_other_key names rest
 
 abbrev pub known_judged : List ℕ → Members → List (List ℕ) → Result (Unit {0}) Refused
-known_judged path table names = demand (has_only names table) Unknown (table_name path)
+known_judged path table names = demand (has_no_other_key names table) Unknown (table_name path)
 
 -- ---- what accepted keys hold
 
 -- the integer at a key, where it has one
-abbrev pub number_at : List ℕ → Members → ℕ
-number_at name table = unwrap_or (option_and_then natural_of (option_and_then as_integer (get_member name table))) 0
+abbrev pub integer_at : List ℕ → Members → ℕ
+integer_at name table = unwrap_or (option_and_then natural_of (option_and_then as_integer (get_member name table))) 0
 
 -- the text at a key, where it has one
 abbrev pub text_at : List ℕ → Members → List ℕ
@@ -143,4 +143,4 @@ optional_array_judged path low high (Some datum) = array_judged path low high (S
 abbrev pub items_judged : {X : Type 0} → (List X → List ℕ → Data → Result X Refused) → List ℕ → List X → Items → Result (List X) Refused
 items_judged judge path done no_items = Ok done
 items_judged judge path done (item datum rest) =
-    and_then (judge done (numbered path (length done)) datum) (λ x. items_judged judge path (done ++ x ∷ []) rest)
+    and_then (judge done (member_path path (length done)) datum) (λ x. items_judged judge path (done ++ x ∷ []) rest)

@@ -2,19 +2,19 @@
 use Rattle.std.specs.Prelude.{codes, Result, Ok}
 use Rattle.toml.specs.Data.{Members}
 use Rattle.mind_base.specs.declared.plans.PolicyKind.TheVariants.{Threshold}
-use Rattle.rack_file.specs.Keys.{Refused, and_then, keys_judged, known_judged, number_at}
+use Rattle.rack_file.specs.Keys.{Refused, and_then, keys_judged, known_judged, integer_at}
 use Rattle.rack_file.specs.Tables.{top_keys, names_in}
 use Rattle.rack_file.specs.declared.sections.Section.TheVariants.{Top}
 use Rattle.rack_file.specs.declared.settings.Settings.{Settings}
 
 abbrev pub settings_at : Members → Settings
 settings_at top = record {
-  slots = number_at (codes "slots") top;
-  protect = number_at (codes "protect") top;
-  outliers = number_at (codes "outliers") top;
-  region = number_at (codes "region") top;
-  most = number_at (codes "most") top;
-  threshold = number_at (codes "threshold") top;
+  slots = integer_at (codes "slots") top;
+  protect = integer_at (codes "protect") top;
+  outliers = integer_at (codes "outliers") top;
+  region = integer_at (codes "region") top;
+  most = integer_at (codes "most") top;
+  threshold = integer_at (codes "threshold") top;
   policy = Threshold;
 }
 

@@ -16,7 +16,7 @@ use Rattle.mind_base.specs.declared.plans.ImagePlan.{ImagePlan}
 use Rattle.mind_base.specs.declared.plans.ThreadPlan.{ThreadPlan}
 use Rattle.mind_base.specs.declared.plans.MapPlan.{MapPlan}
 use Rattle.control_plane.specs.Outcome.{all_in, are_unmapped}
-use Rattle.rack_file.specs.Keys.{Refused, and_then, demand, Number, Text, OptionalText, Key, within, number_key, kind_judged, keys_judged, names_of, known_judged, number_at, text_at, array_judged, optional_array_judged, items_judged, under}
+use Rattle.rack_file.specs.Keys.{Refused, and_then, demand, Number, Text, OptionalText, Key, within, number_key, kind_judged, keys_judged, names_of, known_judged, integer_at, text_at, array_judged, optional_array_judged, items_judged, under}
 use Rattle.rack_file.specs.declared.refusals.RackFault.TheVariants.{Limit, Overlap, Unplaced, Slots}
 use Rattle.rack_file.specs.declared.sections.Section.{Section}
 use Rattle.rack_file.specs.declared.sections.Section.TheVariants as section
@@ -25,7 +25,7 @@ use Rattle.rack_file.specs.declared.sections.Section.TheVariants as section
 
 -- the highest size of a block of the directory is at least the first one
 abbrev pub most_key : Key
-most_key = record { name = codes "most"; rule = λ table. Number (within (number_at (codes "region") table) 9) }
+most_key = record { name = codes "most"; rule = λ table. Number (within (integer_at (codes "region") table) 9) }
 
 abbrev pub policy_key : Key
 policy_key = record { name = codes "policy"; rule = λ table. OptionalText (λ text. bytes_eq text (codes "threshold")) }
@@ -44,7 +44,7 @@ memory_keys = number_key (codes "spare") 0 4096 ∷ []
 
 -- a run of pages lies inside its domain
 abbrev pub pages_key : Key
-pages_key = record { name = codes "pages"; rule = λ table. Number (λ n. within 1 4096 n && nat_le (number_at (codes "page") table + n) 1048576) }
+pages_key = record { name = codes "pages"; rule = λ table. Number (λ n. within 1 4096 n && nat_le (integer_at (codes "page") table + n) 1048576) }
 
 abbrev pub span_keys : List Key
 span_keys = number_key (codes "domain") 0 15 ∷ number_key (codes "page") 0 1048575 ∷ pages_key ∷ []
@@ -94,7 +94,7 @@ table_judged section keys path datum =
 -- ---- blades
 
 abbrev pub blade_judged : List ℕ → Data → Result ℕ Refused
-blade_judged path datum = and_then (table_judged section.Blade blade_keys path datum) (λ table. Ok (number_at (codes "frames") table))
+blade_judged path datum = and_then (table_judged section.Blade blade_keys path datum) (λ table. Ok (integer_at (codes "frames") table))
 
 abbrev pub blades_judged : Members → Result (List ℕ) Refused
 blades_judged top =
@@ -103,7 +103,7 @@ blades_judged top =
 -- ---- memory blades
 
 abbrev pub span_at : Members → SpanView
-span_at table = record { domain = number_at (codes "domain") table; base = number_at (codes "page") table; pages = number_at (codes "pages") table }
+span_at table = record { domain = integer_at (codes "domain") table; base = integer_at (codes "page") table; pages = integer_at (codes "pages") table }
 
 -- no page of a run is in one of these
 abbrev pub is_apart : List SpanView → SpanView → Bool
@@ -125,14 +125,14 @@ abbrev pub memory_judged : List MemoryPlan → List ℕ → Data → Result Memo
 memory_judged done path datum =
     and_then (kind_judged path (as_table datum)) (λ table. and_then (keys_judged path table memory_keys) (λ checked.
     and_then (homes_judged (all_homes done) path table) (λ homes. and_then (known_judged path table (names_in section.Memory)) (λ known.
-    Ok (record { homes = homes; spare = number_at (codes "spare") table })))))
+    Ok (record { homes = homes; spare = integer_at (codes "spare") table })))))
 
 -- how many pages runs have together
-abbrev pub pages_in : List SpanView → ℕ
-pages_in spans = sum (map (λ span. span.pages) spans)
+abbrev pub page_count : List SpanView → ℕ
+page_count spans = sum (map (λ span. span.pages) spans)
 
-abbrev pub home_pages : List MemoryPlan → ℕ
-home_pages memories = pages_in (all_homes memories)
+abbrev pub all_home_pages : List MemoryPlan → ℕ
+all_home_pages memories = page_count (all_homes memories)
 
 -- what is left of so many when this many are taken, if there are as many
 abbrev pub left_after : ℕ → ℕ → Option ℕ
@@ -142,20 +142,20 @@ abbrev pub memories_judged : Members → Result (List MemoryPlan) Refused
 memories_judged top =
     and_then (array_judged (codes "memory") 1 8 (get_member (codes "memory") top)) (λ items.
     and_then (items_judged memory_judged (codes "memory") [] items) (λ memories.
-    and_then (demand (nat_le (home_pages memories) 16384) Limit (codes "memory")) (λ fits. Ok memories)))
+    and_then (demand (nat_le (all_home_pages memories) 16384) Limit (codes "memory")) (λ fits. Ok memories)))
 
 -- ---- images and threads
 
 abbrev pub image_judged : List ℕ → Data → Result ImagePlan Refused
 image_judged path datum =
-    and_then (table_judged section.Image image_keys path datum) (λ table. Ok (record { name = text_at (codes "name") table; at = number_at (codes "at") table }))
+    and_then (table_judged section.Image image_keys path datum) (λ table. Ok (record { name = text_at (codes "name") table; at = integer_at (codes "at") table }))
 
 abbrev pub images_judged : Members → Result (List ImagePlan) Refused
 images_judged top =
     and_then (array_judged (codes "image") 1 16 (get_member (codes "image") top)) (λ items. items_judged (λ done. image_judged) (codes "image") [] items)
 
 abbrev pub thread_at : Members → ThreadPlan
-thread_at table = record { blade = number_at (codes "blade") table; domain = number_at (codes "domain") table; image = number_at (codes "image") table; queue = number_at (codes "queue") table }
+thread_at table = record { blade = integer_at (codes "blade") table; domain = integer_at (codes "domain") table; image = integer_at (codes "image") table; queue = integer_at (codes "queue") table }
 
 abbrev pub thread_judged : ℕ → ℕ → List ℕ → Data → Result ThreadPlan Refused
 thread_judged blades images path datum =
@@ -168,15 +168,15 @@ threads_judged blades images top =
 
 -- ---- maps
 
-abbrev pub perm_of : List ℕ → Perm
-perm_of text = if bytes_eq text (codes "rw") then Rw else R
+abbrev pub perm_in_file : List ℕ → Perm
+perm_in_file text = if bytes_eq text (codes "rw") then Rw else R
 
 -- a home as an entry that lets its pages be read
 abbrev pub home_entry : SpanView → MapPlan
 home_entry span = record { span = span; perm = R }
 
 abbrev pub map_at : Members → MapPlan
-map_at table = record { span = span_at table; perm = perm_of (text_at (codes "perm") table) }
+map_at table = record { span = span_at table; perm = perm_in_file (text_at (codes "perm") table) }
 
 -- each page of a map has a home, and none is mapped by an earlier map
 abbrev pub map_judged : (SpanView → Bool) → (PageView → Perm) → List ℕ → Data → Result MapPlan Refused

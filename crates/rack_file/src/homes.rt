@@ -1,11 +1,13 @@
+//! The memory blades and their homes.
+
 ghost use Rattle.std.specs.Prelude.{◌≡◌, ◌++◌, [], codes, nat_le, length};
 ghost use Rattle.toml.specs.View.{view, table_view, items_view};
 ghost use Rattle.mind_base.specs.Fit.{all_homes};
 ghost use Rattle.protect_table.specs.Protect.{permission_at};
 ghost use Rattle.control_plane.specs.Outcome.{are_unmapped};
-ghost use Rattle.rack_file.specs.Keys.{numbered, items_judged};
-ghost use Rattle.rack_file.specs.Tables.{is_apart, home_judged, homes_judged, memory_judged, memories_judged, home_pages, pages_in, left_after};
-ghost use Rattle.rack_file.specs.Judged.{Gives};
+ghost use Rattle.rack_file.specs.Keys.{member_path, items_judged};
+ghost use Rattle.rack_file.specs.Tables.{is_apart, home_judged, homes_judged, memory_judged, memories_judged, all_home_pages, page_count, left_after};
+ghost use Rattle.rack_file.specs.Judged.{GivesJudged};
 
 use crate::keys::{array_in, number_in, table_in};
 use crate::placing::{homes_table, is_unmapped, put};
@@ -19,7 +21,7 @@ use toml::{Table, Value};
 
 /// The home that a value describes, where the table has the earlier ones.
 fn home_in(alloc: Global, path: &str, value: &Value, homes: &Protect) -> Result<Span, RackRefusal>
-    ensures { Gives (λ span. span) result (home_judged (are_unmapped (permission_at homes.now)) path.now (view value.now)) }
+    ensures { GivesJudged (λ span. span) result (home_judged (are_unmapped (permission_at homes.now)) path.now (view value.now)) }
 {
     let table = match table_in(alloc, path, value) {
         Ok(table) => table,
@@ -48,7 +50,7 @@ fn next_home(
     homes: &Sequence<Span>,
     table: &Protect,
 ) -> Result<Span, RackRefusal>
-    ensures { Gives (λ span. span) result (home_judged (are_unmapped (permission_at table.now)) (numbered path.now (length homes.now)) (view value.now)) }
+    ensures { GivesJudged (λ span. span) result (home_judged (are_unmapped (permission_at table.now)) (member_path path.now (length homes.now)) (view value.now)) }
 {
     let place = match element_path(alloc, path, homes.len()) {
         Ok(place) => place,
@@ -64,7 +66,7 @@ fn homes_of(
     values: &[Value],
     memories: &[MemoryPlan],
 ) -> Result<Sequence<Span>, RackRefusal>
-    ensures { Gives (λ homes. homes) result (items_judged (λ done. home_judged (is_apart (all_homes memories.now ++ done))) path.now [] (items_view values.now)) }
+    ensures { GivesJudged (λ homes. homes) result (items_judged (λ done. home_judged (is_apart (all_homes memories.now ++ done))) path.now [] (items_view values.now)) }
 {
     let mut homes = Sequence::new(alloc);
     let mut table = match homes_table(alloc, memories) {
@@ -94,7 +96,7 @@ fn homes_in(
     table: &Table,
     memories: &[MemoryPlan],
 ) -> Result<Sequence<Span>, RackRefusal>
-    ensures { Gives (λ homes. homes) result (homes_judged (all_homes memories.now) path.now (table_view table.now)) }
+    ensures { GivesJudged (λ homes. homes) result (homes_judged (all_homes memories.now) path.now (table_view table.now)) }
 {
     let values = match array_in(alloc, path, table, "homes", 1, 16) {
         Ok(values) => values,
@@ -114,7 +116,7 @@ fn memory_in(
     value: &Value,
     memories: &[MemoryPlan],
 ) -> Result<MemoryPlan, RackRefusal>
-    ensures { Gives (λ memory. memory) result (memory_judged memories.now path.now (view value.now)) }
+    ensures { GivesJudged (λ memory. memory) result (memory_judged memories.now path.now (view value.now)) }
 {
     let table = match table_in(alloc, path, value) {
         Ok(table) => table,
@@ -139,7 +141,7 @@ fn next_memory(
     value: &Value,
     memories: &Sequence<MemoryPlan>,
 ) -> Result<MemoryPlan, RackRefusal>
-    ensures { Gives (λ memory. memory) result (memory_judged memories.now (numbered (codes "memory") (length memories.now)) (view value.now)) }
+    ensures { GivesJudged (λ memory. memory) result (memory_judged memories.now (member_path (codes "memory") (length memories.now)) (view value.now)) }
 {
     let place = match element_path(alloc, "memory", memories.len()) {
         Ok(place) => place,
@@ -149,7 +151,7 @@ fn next_memory(
 }
 
 fn memories_of(alloc: Global, values: &[Value]) -> Result<Sequence<MemoryPlan>, RackRefusal>
-    ensures { Gives (λ memories. memories) result (items_judged memory_judged (codes "memory") [] (items_view values.now)) }
+    ensures { GivesJudged (λ memories. memories) result (items_judged memory_judged (codes "memory") [] (items_view values.now)) }
 {
     let mut memories = Sequence::new(alloc);
     for value in values {
@@ -166,7 +168,7 @@ fn memories_of(alloc: Global, values: &[Value]) -> Result<Sequence<MemoryPlan>, 
 
 /// What is left of a number of pages without those of these runs. None exactly where they have more.
 fn left_by(pages: u32, spans: &[Span]) -> Option<u32>
-    ensures { result ≡ left_after pages (pages_in spans.now) }
+    ensures { result ≡ left_after pages (page_count spans.now) }
 {
     let mut left = pages;
     for span in spans {
@@ -181,7 +183,7 @@ fn left_by(pages: u32, spans: &[Span]) -> Option<u32>
 
 /// Whether all homes together have at most so many pages.
 fn has_room(pages: u32, memories: &[MemoryPlan]) -> bool
-    ensures { result ≡ nat_le (home_pages memories.now) pages }
+    ensures { result ≡ nat_le (all_home_pages memories.now) pages }
 {
     let mut left = pages;
     for memory in memories {
@@ -198,7 +200,7 @@ pub(crate) fn memories_in(
     alloc: Global,
     document: &Table,
 ) -> Result<Sequence<MemoryPlan>, RackRefusal>
-    ensures { Gives (λ memories. memories) result (memories_judged (table_view document.now)) }
+    ensures { GivesJudged (λ memories. memories) result (memories_judged (table_view document.now)) }
 {
     let values = match array_in(alloc, "", document, "memory", 1, 8) {
         Ok(values) => values,

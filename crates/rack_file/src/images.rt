@@ -1,6 +1,8 @@
+//! The image of a program, from the bytes of its file.
+
 ghost use Rattle.std.specs.Prelude.{◌≡◌, IfOk};
 ghost use Rattle.mind_base.specs.Fit.{FitsImage};
-ghost use Rattle.rack_file.specs.Images.{image_judged};
+ghost use Rattle.rack_file.specs.Images.{image_bytes_judged};
 
 use mind_base::{Image, ImagePlan, Sequence};
 
@@ -13,7 +15,7 @@ pub enum ImageFault {
 
 /// The image of a plan. An image has 4 to 65,536 bytes, a multiple of 4. Takes no memory.
 pub fn image_of(plan: &ImagePlan, bytes: Vec<u8>) -> Result<Image, ImageFault>
-    ensures judged { result ≡ image_judged plan.now bytes.items }
+    ensures judged { result ≡ image_bytes_judged plan.now bytes.items }
     ensures fits { IfOk result (λ image. FitsImage plan.now image) }
 {
     let length = bytes.len();

@@ -1,9 +1,11 @@
+//! The value at a key, by its kind and its limits.
+
 ghost use Rattle.std.specs.Prelude.{◌≡◌, ◌==◌, ◌≤◌, codes, string_bytes, Ok, Err, Some, None, IfOk, option_map, option_copied, nat_le, length, IsTrue};
 ghost use Rattle.std.specs.List.{list_any};
 ghost use Rattle.toml.specs.Data.{get_member, as_array, as_table};
 ghost use Rattle.toml.specs.View.{view, table_view, items_view};
-ghost use Rattle.rack_file.specs.Keys.{within, number_key, natural_judged, text_judged, key_judged, number_at, kind_judged, array_judged, count, under};
-ghost use Rattle.rack_file.specs.Judged.{Gives, Reads};
+ghost use Rattle.rack_file.specs.Keys.{within, number_key, natural_judged, text_judged, key_judged, integer_at, kind_judged, array_judged, count, under};
+ghost use Rattle.rack_file.specs.Judged.{GivesJudged, ReadsAs};
 
 use crate::refusals::{RackFault, RackRefusal, refused, refused_key};
 use std::alloc::Global;
@@ -23,7 +25,7 @@ pub(crate) fn natural_in(
     table: &Table,
     name: &str,
 ) -> Result<Option<u64>, RackRefusal>
-    ensures { Gives (λ n. n) result (natural_judged (under path.now name.now) (get_member name.now (table_view table.now))) }
+    ensures { GivesJudged (λ n. n) result (natural_judged (under path.now name.now) (get_member name.now (table_view table.now))) }
 {
     let value = match member_at(table, name) {
         Some(value) => value,
@@ -44,7 +46,7 @@ pub(crate) fn number_in(
     low: u32,
     high: u32,
 ) -> Result<u32, RackRefusal>
-    ensures reads { Reads (λ n. n) result (key_judged path.now (table_view table.now) (number_key name.now low high)) (number_at name.now (table_view table.now)) }
+    ensures reads { ReadsAs (λ n. n) result (key_judged path.now (table_view table.now) (number_key name.now low high)) (integer_at name.now (table_view table.now)) }
     ensures within { IfOk result (λ n. (low ≤ n) × (n ≤ high)) }
 {
     match natural_in(alloc, path, table, name) {
@@ -65,7 +67,7 @@ pub(crate) fn text_in<'a>(
     table: &'a Table,
     name: &str,
 ) -> Result<&'a str, RackRefusal>
-    ensures { Gives (λ text. text.now) result (text_judged (under path.now name.now) (get_member name.now (table_view table.now))) }
+    ensures { GivesJudged (λ text. text.now) result (text_judged (under path.now name.now) (get_member name.now (table_view table.now))) }
 {
     let value = match member_at(table, name) {
         Some(value) => value,
@@ -83,7 +85,7 @@ pub(crate) fn table_in<'a>(
     path: &str,
     value: &'a Value,
 ) -> Result<&'a Table, RackRefusal>
-    ensures { Gives (λ table. table_view table.now) result (kind_judged path.now (as_table (view value.now))) }
+    ensures { GivesJudged (λ table. table_view table.now) result (kind_judged path.now (as_table (view value.now))) }
 {
     match value.as_table() {
         Some(table) => Ok(table),
@@ -115,7 +117,7 @@ pub(crate) fn array_in<'a>(
     high: usize,
 ) -> Result<&'a [Value], RackRefusal>
     ensures most { IfOk result (λ values. length values.now ≤ high) }
-    ensures array { Gives (λ values. items_view values.now) result (array_judged (under path.now name.now) low high (get_member name.now (table_view table.now))) }
+    ensures array { GivesJudged (λ values. items_view values.now) result (array_judged (under path.now name.now) low high (get_member name.now (table_view table.now))) }
 {
     let value = match member_at(table, name) {
         Some(value) => value,

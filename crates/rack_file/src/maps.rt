@@ -1,3 +1,5 @@
+//! The runs of pages that are mapped from the start.
+
 ghost use Rattle.std.specs.Prelude.{◌≡◌, ◌≤◌, [], codes, nat_le, length, All, IfOk};
 ghost use Rattle.toml.specs.Data.{get_member};
 ghost use Rattle.toml.specs.View.{view, table_view, items_view};
@@ -6,9 +8,9 @@ ghost use Rattle.mind_base.specs.Permission.{permission_of};
 ghost use Rattle.mind_base.specs.Cover.{cover_of};
 ghost use Rattle.protect_table.specs.Protect.{permission_at};
 ghost use Rattle.control_plane.specs.Outcome.{are_placed};
-ghost use Rattle.rack_file.specs.Keys.{numbered, keys_judged, items_judged, optional_array_judged};
+ghost use Rattle.rack_file.specs.Keys.{member_path, keys_judged, items_judged, optional_array_judged};
 ghost use Rattle.rack_file.specs.Tables.{map_at, map_keys, map_judged, maps_judged, maps_within};
-ghost use Rattle.rack_file.specs.Judged.{Gives, Reads};
+ghost use Rattle.rack_file.specs.Judged.{GivesJudged, ReadsAs};
 
 use crate::keys::{array_in, member_at, table_in};
 use crate::placing::{is_placed, is_unmapped, put};
@@ -22,7 +24,7 @@ use toml::{Table, Value};
 
 /// The keys of a map's table.
 fn map_from(alloc: Global, path: &str, table: &Table) -> Result<MapPlan, RackRefusal>
-    ensures { Reads (λ entry. entry) result (keys_judged path.now (table_view table.now) map_keys) (map_at (table_view table.now)) }
+    ensures { ReadsAs (λ entry. entry) result (keys_judged path.now (table_view table.now) map_keys) (map_at (table_view table.now)) }
 {
     let span = match span_in(alloc, path, table) {
         Ok(span) => span,
@@ -42,7 +44,7 @@ fn map_in(
     homes: &range_translate::Table,
     mapped: &Protect,
 ) -> Result<MapPlan, RackRefusal>
-    ensures { Gives (λ entry. entry) result (map_judged (are_placed homes.now.homes) (permission_at mapped.now) path.now (view value.now)) }
+    ensures { GivesJudged (λ entry. entry) result (map_judged (are_placed homes.now.homes) (permission_at mapped.now) path.now (view value.now)) }
 {
     let table = match table_in(alloc, path, value) {
         Ok(table) => table,
@@ -74,7 +76,7 @@ fn next_map(
     mapped: &Protect,
 ) -> Result<MapPlan, RackRefusal>
     requires { permission_at mapped.now ≡ permission_of maps.now }
-    ensures { Gives (λ entry. entry) result (map_judged (are_placed homes.now.homes) (permission_of maps.now) (numbered (codes "map") (length maps.now)) (view value.now)) }
+    ensures { GivesJudged (λ entry. entry) result (map_judged (are_placed homes.now.homes) (permission_of maps.now) (member_path (codes "map") (length maps.now)) (view value.now)) }
 {
     let place = match element_path(alloc, "map", maps.len()) {
         Ok(place) => place,
@@ -95,7 +97,7 @@ fn maps_of(
     values: &[Value],
     homes: &range_translate::Table,
 ) -> Result<Mapped, RackRefusal>
-    ensures maps { Gives (λ mapped. mapped.maps) result (items_judged (λ done. map_judged (are_placed homes.now.homes) (permission_of done)) (codes "map") [] (items_view values.now)) }
+    ensures maps { GivesJudged (λ mapped. mapped.maps) result (items_judged (λ done. map_judged (are_placed homes.now.homes) (permission_of done)) (codes "map") [] (items_view values.now)) }
     ensures cover { IfOk result (λ mapped. mapped.cover ≡ cover_of (permission_of mapped.maps)) }
 {
     let mut maps = Sequence::new(alloc);
@@ -122,7 +124,7 @@ fn maps_of(
 }
 
 fn map_values<'a>(alloc: Global, document: &'a Table) -> Result<&'a [Value], RackRefusal>
-    ensures { Gives (λ values. items_view values.now) result (optional_array_judged (codes "map") 0 256 (get_member (codes "map") (table_view document.now))) }
+    ensures { GivesJudged (λ values. items_view values.now) result (optional_array_judged (codes "map") 0 256 (get_member (codes "map") (table_view document.now))) }
 {
     match member_at(document, "map") {
         Some(_) => array_in(alloc, "", document, "map", 0, 256),
@@ -137,7 +139,7 @@ fn maps_within(
     homes: &range_translate::Table,
     most: u32,
 ) -> Result<Sequence<MapPlan>, RackRefusal>
-    ensures { Gives (λ maps. maps) result (maps_within (are_placed homes.now.homes) most (items_view values.now)) }
+    ensures { GivesJudged (λ maps. maps) result (maps_within (are_placed homes.now.homes) most (items_view values.now)) }
 {
     let mapped = match maps_of(alloc, values, homes) {
         Ok(mapped) => mapped,
@@ -160,7 +162,7 @@ pub(crate) fn maps_in(
     requires apart { AreApart (all_homes memories.now) }
     requires few { length memories.now ≤ 8 }
     requires spare { All (λ memory. memory.spare ≤ 4096) memories.now }
-    ensures { Gives (λ maps. maps) result (maps_judged (are_placed memories.now) most (table_view document.now)) }
+    ensures { GivesJudged (λ maps. maps) result (maps_judged (are_placed memories.now) most (table_view document.now)) }
 {
     let values = match map_values(alloc, document) {
         Ok(values) => values,

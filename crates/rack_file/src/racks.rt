@@ -1,8 +1,10 @@
+//! The plan that a rack file describes, or its first fault.
+
 ghost use Rattle.std.specs.Prelude.{◌≡◌, [], IfOk};
 ghost use Rattle.mind_base.specs.Fit.{IsFit};
 ghost use Rattle.toml.specs.View.{table_view};
 ghost use Rattle.rack_file.specs.Racks.{document_of, rack_judged, top_judged};
-ghost use Rattle.rack_file.specs.Judged.{Gives, GivesDocument};
+ghost use Rattle.rack_file.specs.Judged.{GivesJudged, GivesDocument};
 
 use crate::arrays::{blades_in, images_in, threads_in};
 use crate::homes::memories_in;
@@ -43,7 +45,7 @@ fn document_from(alloc: Global, bytes: &[u8]) -> Result<Table, RackRefusal>
 
 /// The rack that a document describes.
 fn rack_in(alloc: Global, document: &Table) -> Result<RackPlan, RackRefusal>
-    ensures { Gives (λ plan. plan) result (top_judged (table_view document.now)) }
+    ensures { GivesJudged (λ plan. plan) result (top_judged (table_view document.now)) }
 {
     let settings = match settings_in(alloc, document) {
         Ok(settings) => settings,
@@ -91,7 +93,7 @@ fn rack_in(alloc: Global, document: &Table) -> Result<RackPlan, RackRefusal>
 /// Reads a rack file. What is refused is the first thing that is wrong, in the order in which the
 /// tables and their keys are listed.
 pub fn rack_of(alloc: Global, bytes: &[u8]) -> Result<RackPlan, RackRefusal>
-    ensures judged { Gives (λ plan. plan) result (rack_judged (document_of bytes.now)) }
+    ensures judged { GivesJudged (λ plan. plan) result (rack_judged (document_of bytes.now)) }
     ensures fit { IfOk result (λ plan. IsFit plan) }
 {
     let document = match document_from(alloc, bytes) {

@@ -1,6 +1,8 @@
+//! Why a text is no rack, and the path of the key where.
+
 ghost use Rattle.std.specs.Prelude.{◌≡◌, string_bytes};
 ghost use Rattle.rack_file.specs.Judged.{GivesText, Says};
-ghost use Rattle.rack_file.specs.Keys.{under, numbered, table_name};
+ghost use Rattle.rack_file.specs.Keys.{under, member_path, table_name};
 
 use std::alloc::Global;
 use std::marker::Model;
@@ -71,7 +73,7 @@ pub(crate) fn key_path(alloc: Global, path: &str, name: &str) -> Result<String, 
 
 /// The path of an element of an array, counted from 0.
 pub(crate) fn element_path(alloc: Global, path: &str, number: usize) -> Result<String, RackRefusal>
-    ensures { GivesText result (numbered path.now number) }
+    ensures { GivesText result (member_path path.now number) }
 {
     let digits = match format!(in alloc; "{number}") {
         Ok(digits) => digits,

@@ -1,10 +1,12 @@
+//! The keys that each table may have.
+
 ghost use Rattle.std.specs.Prelude.{◌≡◌, ◌||◌};
 ghost use Rattle.std.specs.List.{list_any};
 ghost use Rattle.std.specs.Str.{bytes_eq};
 ghost use Rattle.toml.specs.View.{table_view};
-ghost use Rattle.rack_file.specs.Keys.{has_only, known_judged, names_of};
+ghost use Rattle.rack_file.specs.Keys.{has_no_other_key, known_judged, names_of};
 ghost use Rattle.rack_file.specs.Tables.{top_keys, array_names, names_in};
-ghost use Rattle.rack_file.specs.Judged.{Gives};
+ghost use Rattle.rack_file.specs.Judged.{GivesJudged};
 
 use crate::refusals::{RackFault, RackRefusal, refused_table};
 use std::alloc::Global;
@@ -98,7 +100,7 @@ fn is_known(section: Section, key: &str) -> bool
 }
 
 fn has_only(section: Section, table: &Table) -> bool
-    ensures { result ≡ has_only (names_in section) (table_view table.now) }
+    ensures { result ≡ has_no_other_key (names_in section) (table_view table.now) }
 {
     for (key, _value) in table.iter() {
         if !is_known(section, key.as_str()) {
@@ -115,7 +117,7 @@ pub(crate) fn check_known(
     path: &str,
     table: &Table,
 ) -> Result<(), RackRefusal>
-    ensures { Gives (λ done. done) result (known_judged path.now (table_view table.now) (names_in section)) }
+    ensures { GivesJudged (λ done. done) result (known_judged path.now (table_view table.now) (names_in section)) }
 {
     if has_only(section, table) {
         Ok(())

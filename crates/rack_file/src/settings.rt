@@ -1,12 +1,14 @@
+//! The numbers and words of the top table.
+
 ghost use Rattle.std.specs.Prelude.{◌≡◌, ◌≤◌, codes, IfOk};
 ghost use Rattle.std.specs.Str.{bytes_eq};
 ghost use Rattle.toml.specs.Data.{get_member};
 ghost use Rattle.toml.specs.View.{view, table_view};
 ghost use Rattle.mind_base.specs.declared.plans.PolicyKind.TheVariants.{Threshold};
-ghost use Rattle.rack_file.specs.Keys.{key_judged, keys_judged, known_judged, number_at, value_judged, under};
+ghost use Rattle.rack_file.specs.Keys.{key_judged, keys_judged, known_judged, integer_at, value_judged, under};
 ghost use Rattle.rack_file.specs.Tables.{policy_key, most_key, top_keys, names_in};
 ghost use Rattle.rack_file.specs.Settings.{settings_at, settings_judged};
-ghost use Rattle.rack_file.specs.Judged.{Gives, Reads};
+ghost use Rattle.rack_file.specs.Judged.{GivesJudged, ReadsAs};
 
 use crate::keys::{member_at, number_in};
 use crate::refusals::{RackFault, RackRefusal, refused_key};
@@ -28,7 +30,7 @@ pub(crate) struct Settings {
 }
 
 fn policy_in(alloc: Global, table: &Table) -> Result<PolicyKind, RackRefusal>
-    ensures { Reads (λ kind. kind) result (key_judged (codes "") (table_view table.now) policy_key) Threshold }
+    ensures { ReadsAs (λ kind. kind) result (key_judged (codes "") (table_view table.now) policy_key) Threshold }
 {
     let value = match member_at(table, "policy") {
         Some(value) => value,
@@ -46,8 +48,8 @@ fn policy_in(alloc: Global, table: &Table) -> Result<PolicyKind, RackRefusal>
 
 /// The highest size of a block of the directory, at least that of the first ones.
 fn most_in(alloc: Global, table: &Table, region: u32) -> Result<u32, RackRefusal>
-    requires { region ≡ number_at (codes "region") (table_view table.now) }
-    ensures reads { Reads (λ n. n) result (key_judged (codes "") (table_view table.now) most_key) (number_at (codes "most") (table_view table.now)) }
+    requires { region ≡ integer_at (codes "region") (table_view table.now) }
+    ensures reads { ReadsAs (λ n. n) result (key_judged (codes "") (table_view table.now) most_key) (integer_at (codes "most") (table_view table.now)) }
     ensures within { IfOk result (λ n. n ≤ 9) }
 {
     number_in(alloc, "", table, "most", region, 9)
@@ -55,7 +57,7 @@ fn most_in(alloc: Global, table: &Table, region: u32) -> Result<u32, RackRefusal
 
 /// The plain keys of the top table.
 fn settings_from(alloc: Global, table: &Table) -> Result<Settings, RackRefusal>
-    ensures { Reads (λ settings. settings) result (keys_judged (codes "") (table_view table.now) top_keys) (settings_at (table_view table.now)) }
+    ensures { ReadsAs (λ settings. settings) result (keys_judged (codes "") (table_view table.now) top_keys) (settings_at (table_view table.now)) }
 {
     let _format = match number_in(alloc, "", table, "format", 1, 1) {
         Ok(format) => format,
@@ -101,7 +103,7 @@ fn settings_from(alloc: Global, table: &Table) -> Result<Settings, RackRefusal>
 
 /// The plain keys of the top table, which has no others but its arrays.
 pub(crate) fn settings_in(alloc: Global, table: &Table) -> Result<Settings, RackRefusal>
-    ensures { Gives (λ settings. settings) result (settings_judged (table_view table.now)) }
+    ensures { GivesJudged (λ settings. settings) result (settings_judged (table_view table.now)) }
 {
     let settings = match settings_from(alloc, table) {
         Ok(settings) => settings,

@@ -1,10 +1,12 @@
+//! The tables of a rack file, read into their parts of the plan.
+
 ghost use Rattle.std.specs.Prelude.{◌≡◌, ◌≤◌, ◌+◌, ◌-◌, ◌<◌, codes, IfOk};
 ghost use Rattle.std.specs.Str.{bytes_eq};
 ghost use Rattle.toml.specs.View.{view, table_view};
 ghost use Rattle.mind_base.specs.declared.plans.PolicyKind.TheVariants.{Threshold};
-ghost use Rattle.rack_file.specs.Keys.{key_judged, keys_judged, number_at, text_at};
-ghost use Rattle.rack_file.specs.Tables.{pages_key, span_keys, span_at, at_key, name_key, perm_key, perm_of, policy_key, most_key, top_keys, blade_judged, image_judged, thread_judged, thread_keys, thread_at};
-ghost use Rattle.rack_file.specs.Judged.{Gives, Reads};
+ghost use Rattle.rack_file.specs.Keys.{key_judged, keys_judged, integer_at, text_at};
+ghost use Rattle.rack_file.specs.Tables.{pages_key, span_keys, span_at, at_key, name_key, perm_key, perm_in_file, policy_key, most_key, top_keys, blade_judged, image_judged, thread_judged, thread_keys, thread_at};
+ghost use Rattle.rack_file.specs.Judged.{GivesJudged, ReadsAs};
 
 use crate::keys::{natural_in, number_in, table_in, text_in};
 use crate::refusals::{RackFault, RackRefusal, refused_key};
@@ -15,8 +17,8 @@ use toml::{Table, Value};
 
 /// The number of pages of a run from the page `base` on, which ends inside its domain.
 fn pages_in(alloc: Global, path: &str, table: &Table, base: u32) -> Result<u32, RackRefusal>
-    requires { base ≡ number_at (codes "page") (table_view table.now) }
-    ensures reads { Reads (λ n. n) result (key_judged path.now (table_view table.now) pages_key) (number_at (codes "pages") (table_view table.now)) }
+    requires { base ≡ integer_at (codes "page") (table_view table.now) }
+    ensures reads { ReadsAs (λ n. n) result (key_judged path.now (table_view table.now) pages_key) (integer_at (codes "pages") (table_view table.now)) }
     ensures within { IfOk result (λ n. (1 ≤ n) × (n ≤ 4096) × (base + n ≤ 1048576)) }
 {
     match natural_in(alloc, path, table, "pages") {
@@ -32,16 +34,10 @@ fn pages_in(alloc: Global, path: &str, table: &Table, base: u32) -> Result<u32, 
 
 /// The run of pages that a table names.
 pub(crate) fn span_in(alloc: Global, path: &str, table: &Table) -> Result<Span, RackRefusal>
-    ensures { Reads (λ span. span) result (keys_judged path.now (table_view table.now) span_keys) (span_at (table_view table.now)) }
+    ensures { ReadsAs (λ span. span) result (keys_judged path.now (table_view table.now) span_keys) (span_at (table_view table.now)) }
 {
-    let domain = match number_in(alloc, path, table, "domain", 0, 15) {
-        Ok(domain) => domain,
-        Err(e) => return Err(e),
-    };
-    let base = match number_in(alloc, path, table, "page", 0, 1048575) {
-        Ok(base) => base,
-        Err(e) => return Err(e),
-    };
+    let domain = number_in(alloc, path, table, "domain", 0, 15)?;
+    let base = number_in(alloc, path, table, "page", 0, 1048575)?;
     match pages_in(alloc, path, table, base) {
         Ok(pages) => Ok(Span {
             domain: domain as u8,
@@ -54,16 +50,10 @@ pub(crate) fn span_in(alloc: Global, path: &str, table: &Table) -> Result<Span, 
 
 /// The number of frames of a blade.
 pub(crate) fn blade_in(alloc: Global, path: &str, value: &Value) -> Result<u32, RackRefusal>
-    ensures { Gives (λ n. n) result (blade_judged path.now (view value.now)) }
+    ensures { GivesJudged (λ n. n) result (blade_judged path.now (view value.now)) }
 {
-    let table = match table_in(alloc, path, value) {
-        Ok(table) => table,
-        Err(e) => return Err(e),
-    };
-    let frames = match number_in(alloc, path, table, "frames", 1, 1024) {
-        Ok(frames) => frames,
-        Err(e) => return Err(e),
-    };
+    let table = table_in(alloc, path, value)?;
+    let frames = number_in(alloc, path, table, "frames", 1, 1024)?;
     match check_known(alloc, Section::Blade, path, table) {
         Ok(()) => Ok(frames),
         Err(e) => Err(e),
@@ -72,12 +62,9 @@ pub(crate) fn blade_in(alloc: Global, path: &str, value: &Value) -> Result<u32, 
 
 /// The name of an image's file.
 fn name_in(alloc: Global, path: &str, table: &Table) -> Result<Name, RackRefusal>
-    ensures { Reads (λ name. name) result (key_judged path.now (table_view table.now) name_key) (text_at (codes "name") (table_view table.now)) }
+    ensures { ReadsAs (λ name. name) result (key_judged path.now (table_view table.now) name_key) (text_at (codes "name") (table_view table.now)) }
 {
-    let text = match text_in(alloc, path, table, "name") {
-        Ok(text) => text,
-        Err(e) => return Err(e),
-    };
+    let text = text_in(alloc, path, table, "name")?;
     match Name::of(alloc, text) {
         Ok(Some(name)) => Ok(name),
         Ok(None) => Err(refused_key(alloc, RackFault::Limit, path, "name")),
@@ -87,7 +74,7 @@ fn name_in(alloc: Global, path: &str, table: &Table) -> Result<Name, RackRefusal
 
 /// The address at which an image stands.
 fn address_in(alloc: Global, path: &str, table: &Table) -> Result<u32, RackRefusal>
-    ensures { Reads (λ n. n) result (key_judged path.now (table_view table.now) at_key) (number_at (codes "at") (table_view table.now)) }
+    ensures { ReadsAs (λ n. n) result (key_judged path.now (table_view table.now) at_key) (integer_at (codes "at") (table_view table.now)) }
 {
     match natural_in(alloc, path, table, "at") {
         Err(e) => Err(e),
@@ -102,20 +89,11 @@ fn address_in(alloc: Global, path: &str, table: &Table) -> Result<u32, RackRefus
 
 /// An image's plan.
 pub(crate) fn image_in(alloc: Global, path: &str, value: &Value) -> Result<ImagePlan, RackRefusal>
-    ensures { Gives (λ plan. plan) result (image_judged path.now (view value.now)) }
+    ensures { GivesJudged (λ plan. plan) result (image_judged path.now (view value.now)) }
 {
-    let table = match table_in(alloc, path, value) {
-        Ok(table) => table,
-        Err(e) => return Err(e),
-    };
-    let name = match name_in(alloc, path, table) {
-        Ok(name) => name,
-        Err(e) => return Err(e),
-    };
-    let at = match address_in(alloc, path, table) {
-        Ok(at) => at,
-        Err(e) => return Err(e),
-    };
+    let table = table_in(alloc, path, value)?;
+    let name = name_in(alloc, path, table)?;
+    let at = address_in(alloc, path, table)?;
     match check_known(alloc, Section::Image, path, table) {
         Ok(()) => Ok(ImagePlan { name, at }),
         Err(e) => Err(e),
@@ -138,34 +116,25 @@ fn thread_from(
 ) -> Result<ThreadPlan, RackRefusal>
     requires blades { named.blades ≤ 8 }
     requires images { named.images ≤ 16 }
-    ensures { Reads (λ plan. plan) result (keys_judged path.now (table_view table.now) (thread_keys named.blades named.images)) (thread_at (table_view table.now)) }
+    ensures { ReadsAs (λ plan. plan) result (keys_judged path.now (table_view table.now) (thread_keys named.blades named.images)) (thread_at (table_view table.now)) }
 {
-    let blade = match number_in(
+    let blade = number_in(
         alloc,
         path,
         table,
         "blade",
         0,
         named.blades.saturating_sub(1),
-    ) {
-        Ok(blade) => blade,
-        Err(e) => return Err(e),
-    };
-    let domain = match number_in(alloc, path, table, "domain", 0, 15) {
-        Ok(domain) => domain,
-        Err(e) => return Err(e),
-    };
-    let image = match number_in(
+    )?;
+    let domain = number_in(alloc, path, table, "domain", 0, 15)?;
+    let image = number_in(
         alloc,
         path,
         table,
         "image",
         0,
         named.images.saturating_sub(1),
-    ) {
-        Ok(image) => image,
-        Err(e) => return Err(e),
-    };
+    )?;
     match number_in(alloc, path, table, "queue", 1, 64) {
         Ok(queue) => Ok(ThreadPlan {
             blade: blade as u8,
@@ -186,16 +155,10 @@ pub(crate) fn thread_in(
 ) -> Result<ThreadPlan, RackRefusal>
     requires blades { named.blades ≤ 8 }
     requires images { named.images ≤ 16 }
-    ensures { Gives (λ plan. plan) result (thread_judged named.blades named.images path.now (view value.now)) }
+    ensures { GivesJudged (λ plan. plan) result (thread_judged named.blades named.images path.now (view value.now)) }
 {
-    let table = match table_in(alloc, path, value) {
-        Ok(table) => table,
-        Err(e) => return Err(e),
-    };
-    let plan = match thread_from(alloc, path, table, named) {
-        Ok(plan) => plan,
-        Err(e) => return Err(e),
-    };
+    let table = table_in(alloc, path, value)?;
+    let plan = thread_from(alloc, path, table, named)?;
     match check_known(alloc, Section::Thread, path, table) {
         Ok(()) => Ok(plan),
         Err(e) => Err(e),
@@ -204,12 +167,9 @@ pub(crate) fn thread_in(
 
 /// The permission of a map.
 pub(crate) fn perm_in(alloc: Global, path: &str, table: &Table) -> Result<Perm, RackRefusal>
-    ensures { Reads (λ perm. perm) result (key_judged path.now (table_view table.now) perm_key) (perm_of (text_at (codes "perm") (table_view table.now))) }
+    ensures { ReadsAs (λ perm. perm) result (key_judged path.now (table_view table.now) perm_key) (perm_in_file (text_at (codes "perm") (table_view table.now))) }
 {
-    let text = match text_in(alloc, path, table, "perm") {
-        Ok(text) => text,
-        Err(e) => return Err(e),
-    };
+    let text = text_in(alloc, path, table, "perm")?;
     if text == "rw" {
         Ok(Perm::Rw)
     } else if text == "r" {

@@ -2,12 +2,12 @@
 use Rattle.std.proofs.Common.{◌≡◌, ℕ, suc, ◌+◌, ◌-◌, ◌<◌, ◌∙◌, List, [], ◌∷◌, ◌++◌, ap, refl, sym, arith, append_assoc, append-nil}
 use Rattle.rack_gen.specs.declared.wires.Wire.{Wire}
 use Rattle.rack_gen.specs.declared.lines.Line.{Line}
-use Rattle.rack_gen.specs.Draw.{state_after}
+use Rattle.rack_gen.specs.Draw.{drawn_state}
 use Rattle.rack_gen.specs.Line.{line_at, draws_of}
 use Rattle.rack_gen.specs.Generator.{lines_from}
 
 one_drawn : (threads : ℕ) (wires : List Wire) (before total : List Line) (line : Line) (left state after : ℕ) → line ≡ line_at threads wires state
-    → after ≡ state_after (draws_of line) state → before ++ lines_from threads wires (suc left) state ≡ total
+    → after ≡ drawn_state (draws_of line) state → before ++ lines_from threads wires (suc left) state ≡ total
     → (before ++ line ∷ []) ++ lines_from threads wires left after ≡ total
 one_drawn threads wires before total line left state after is goes all =
     let rest : line ∷ lines_from threads wires left after ≡ lines_from threads wires (suc left) state = rw (goes, is) refl in
@@ -15,7 +15,7 @@ one_drawn threads wires before total line left state after is goes all =
 
 -- with the line that is drawn behind those before it, the same lines are still to be drawn
 pub still_to_draw : (threads : ℕ) (wires : List Wire) (before total : List Line) (line : Line) (count drawn state after : ℕ) → drawn < count → line ≡ line_at threads wires state
-    → after ≡ state_after (draws_of line) state → before ++ lines_from threads wires (count - drawn) state ≡ total
+    → after ≡ drawn_state (draws_of line) state → before ++ lines_from threads wires (count - drawn) state ≡ total
     → (before ++ line ∷ []) ++ lines_from threads wires (count - (drawn + 1)) after ≡ total
 still_to_draw threads wires before total line count drawn state after more is goes all =
     let left : count - drawn ≡ suc (count - (drawn + 1)) = omega arith in

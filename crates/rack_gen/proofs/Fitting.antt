@@ -7,7 +7,7 @@ use Rattle.schedule_text.specs.Event.{IsEventIn}
 use Rattle.rack_gen.specs.declared.wires.Wire.{Wire}
 use Rattle.rack_gen.specs.declared.lines.Line.{Line}
 use Rattle.rack_gen.specs.declared.lines.Line.TheVariants.{Step, Drain, Deliver, Lose, Repeat, Epoch, Settle}
-use Rattle.rack_gen.specs.Draw.{draw, state_after}
+use Rattle.rack_gen.specs.Draw.{draw, drawn_state}
 use Rattle.rack_gen.specs.Wire.{wires_of}
 use Rattle.rack_gen.specs.Line.{kind_at, wire_at, line_at, draws_of, event_of}
 use Rattle.rack_gen.specs.Generator.{lines_from, lines_for}
@@ -41,7 +41,7 @@ lines_fit : (sizes : Sizes) (count state : ℕ) (last : List Line) → 0 < sizes
     → AllByRecursion (IsLineIn sizes) (lines_from sizes.threads (wires_of sizes) count state ++ last)
 lines_fit sizes zero state last threads blades all = all
 lines_fit sizes (suc count) state last threads blades all =
-    (line_fits sizes state threads blades, lines_fit sizes count (state_after (draws_of (line_at sizes.threads (wires_of sizes) state)) state) last threads blades all)
+    (line_fits sizes state threads blades, lines_fit sizes count (drawn_state (draws_of (line_at sizes.threads (wires_of sizes) state)) state) last threads blades all)
 
 pub all_fit : (sizes : Sizes) (count seed : ℕ) → 0 < sizes.threads → 0 < sizes.blades → AllByRecursion (IsLineIn sizes) (lines_for sizes count seed)
 unfolding lines_for
@@ -51,7 +51,7 @@ all_fit sizes count seed threads blades = lines_fit sizes count seed (Settle ∷
 length_from : (threads : ℕ) (wires : List Wire) (count state : ℕ) (last : List Line) → length (lines_from threads wires count state ++ last) ≡ count + length last
 length_from threads wires zero state last = omega arith
 length_from threads wires (suc count) state last =
-    omega (arith, length_from threads wires count (state_after (draws_of (line_at threads wires state)) state) last)
+    omega (arith, length_from threads wires count (drawn_state (draws_of (line_at threads wires state)) state) last)
 
 pub length_lines : (sizes : Sizes) (count seed : ℕ) → length (lines_for sizes count seed) ≡ count + 1
 unfolding lines_for

@@ -15,21 +15,24 @@ use Rattle.mind_base.specs.declared.links.Side.TheVariants.{Messages, Acks}
 use Rattle.mind_base.specs.declared.events.Event.{Event}
 use Rattle.schedule_text.specs.declared.entries.Entry.TheVariants.{One}
 use Rattle.schedule_text.specs.declared.sizes.Sizes.{Sizes}
-use Rattle.schedule_text.specs.Word.{is_text, words_of}
+use Rattle.plain_text.specs.Blank.{is_text}
+use Rattle.plain_text.specs.Reading.{lines_read}
+use Rattle.plain_text.proofs.LineCuts.{first_line}
+use Rattle.schedule_text.specs.Word.{words_of}
 use Rattle.schedule_text.specs.declared.keywords.Keyword.{Keyword}
 use Rattle.schedule_text.specs.declared.keywords.Keyword.TheVariants as keywords
 use Rattle.schedule_text.specs.Keyword.{keyword_of, words_wanted}
-use Rattle.schedule_text.specs.Entry.{entry_of, worded, said, step_at, drain_at, deliver_at, lose_at, repeat_at, frame_at}
+use Rattle.schedule_text.specs.Entry.{entry_of, worded, said, step_entry, drain_at, deliver_at, lose_at, repeat_at, frame_on}
 use Rattle.schedule_text.specs.Schedule.{read_from, after_line, with_line}
 use Rattle.schedule_text.specs.Argument.{number_up_to, number_below}
-use Rattle.schedule_text.specs.Link.{ends_of, kind_of, place_of, link_of, wire_of}
+use Rattle.schedule_text.specs.Link.{ends_of, link_kind_of, link_number, link_named, wire_named}
 use Rattle.rack_gen.specs.declared.wires.Wire.{Wire}
-use Rattle.rack_gen.specs.Wire.{letter_of, side_mark, name_of}
+use Rattle.rack_gen.specs.Wire.{letter_of, side_mark, wire_name}
 use Rattle.rack_gen.proofs.Numerals.{numeral}
 use Rattle.rack_gen.specs.declared.lines.Line.{Line}
 use Rattle.rack_gen.specs.declared.lines.Line.TheVariants.{Step, Drain, Deliver, Lose, Repeat, Epoch, Settle}
 use Rattle.rack_gen.specs.Line.{event_of, words_in, spaced, line_text}
-use Rattle.rack_gen.proofs.Spacing.{IsWord, words_spaced, text_spaced, first_line}
+use Rattle.rack_gen.proofs.Spacing.{IsWord, words_spaced, text_spaced}
 use Rattle.rack_gen.proofs.WireLists.{IsWireIn}
 use Rattle.rack_gen.proofs.Fitting.{IsLineIn}
 
@@ -43,8 +46,8 @@ pub reads_up_to : (n : ℕ) → n < 64 → number_up_to 4294967295 (decimal n) �
 unfolding number_up_to
 reads_up_to n small = rw ((numeral n small).reads) refl
 
-reads_place : (bound n : ℕ) → n < bound → n < 64 → place_of bound (decimal n) ≡ Ok n
-unfolding place_of
+reads_place : (bound n : ℕ) → n < bound → n < 64 → link_number bound (decimal n) ≡ Ok n
+unfolding link_number
 reads_place bound n within small = rw ((numeral n small).leads, reads_below bound n within small) refl
 
 -- the name of a link
@@ -52,8 +55,8 @@ abbrev link_text : LinkName → List ℕ
 link_text link = letter_of link.kind ++ decimal link.number
 
 reads_link : (sizes : Sizes) (kind : LinkKind) (number : ℕ) → number < ends_of sizes kind → number < 64
-    → link_of sizes (letter_of kind ++ decimal number) ≡ Ok (record { kind = kind; number = number })
-unfolding link_of kind_of
+    → link_named sizes (letter_of kind ++ decimal number) ≡ Ok (record { kind = kind; number = number })
+unfolding link_named link_kind_of
 reads_link sizes Up number within small = rw (reads_place sizes.blades number within small) refl
 reads_link sizes Down number within small = rw (reads_place sizes.blades number within small) refl
 reads_link sizes To number within small = rw (reads_place sizes.memories number within small) refl
@@ -69,28 +72,28 @@ last_digit To (d ∷ ds) some = let e : length (116 ∷ d ∷ ds) - 1 ≡ suc (l
 last_digit From (d ∷ ds) some = let e : length (102 ∷ d ∷ ds) - 1 ≡ suc (length (d ∷ ds) - 1) = omega arith in rw e refl
 
 -- a name that ends with no a is that of a wire of messages
-reads_messages : (sizes : Sizes) (name : List ℕ) (link : LinkName) → eqb (get_or name (length name - 1) 0) 97 ≡ false → link_of sizes name ≡ Ok link
-    → wire_of sizes name ≡ Ok (link, Messages)
-unfolding wire_of
+reads_messages : (sizes : Sizes) (name : List ℕ) (link : LinkName) → eqb (get_or name (length name - 1) 0) 97 ≡ false → link_named sizes name ≡ Ok link
+    → wire_named sizes name ≡ Ok (link, Messages)
+unfolding wire_named
 reads_messages sizes name link ends is = rw (ends, is) refl
 
-reads_acks : (sizes : Sizes) (name : List ℕ) (link : LinkName) → link_of sizes name ≡ Ok link → wire_of sizes (name ++ 97 ∷ []) ≡ Ok (link, Acks)
-unfolding wire_of
+reads_acks : (sizes : Sizes) (name : List ℕ) (link : LinkName) → link_named sizes name ≡ Ok link → wire_named sizes (name ++ 97 ∷ []) ≡ Ok (link, Acks)
+unfolding wire_named
 reads_acks sizes name link is =
     let n : length name ≡ length (name ++ 97 ∷ []) - 1 = omega (arith, length-append name (97 ∷ [])) in
     rw (get_or_at name 97 [] 0 (length (name ++ 97 ∷ []) - 1) n, take_at name (97 ∷ []) (length (name ++ 97 ∷ []) - 1) n, is) refl
 
 reads_side : (sizes : Sizes) (kind : LinkKind) (number : ℕ) (side : Side) → number < ends_of sizes kind → number < 64
-    → wire_of sizes (letter_of kind ++ decimal number ++ side_mark side) ≡ Ok (record { kind = kind; number = number }, side)
+    → wire_named sizes (letter_of kind ++ decimal number ++ side_mark side) ≡ Ok (record { kind = kind; number = number }, side)
 reads_side sizes kind number Messages within small =
     let digits = numeral number small in
     let name : List ℕ = letter_of kind ++ decimal number in
     let last : eqb (get_or name (length name - 1) 0) 97 ≡ false = ap (λ b. eqb b 97) (last_digit kind (decimal number) digits.some) ∙ digits.ends in
-    ap (wire_of sizes) (append-nil name) ∙ reads_messages sizes name _ last (reads_link sizes kind number within small)
+    ap (wire_named sizes) (append-nil name) ∙ reads_messages sizes name _ last (reads_link sizes kind number within small)
 reads_side sizes kind number Acks within small = reads_acks sizes (letter_of kind ++ decimal number) _ (reads_link sizes kind number within small)
 
 pub reads_wire : (sizes : Sizes) (wire : Wire) → wire.link.number < ends_of sizes wire.link.kind → wire.link.number < 64
-    → wire_of sizes (name_of wire) ≡ Ok (wire.link, wire.side)
+    → wire_named sizes (wire_name wire) ≡ Ok (wire.link, wire.side)
 reads_wire sizes wire within small = reads_side sizes wire.link.kind wire.link.number wire.side within small
 
 -- ---- lines
@@ -121,7 +124,7 @@ number_word n small = let digits = numeral n small in record { some = digits.som
 both_print : (xs ys : List ℕ) → each_prints xs ≡ true → each_prints ys ≡ true → each_prints (xs ++ ys) ≡ true
 both_print xs ys p q = list_all-append (λ b. leb 0x21 b && leb b 0x7e) xs ys ∙ and_from (each_prints xs) (each_prints ys) p q
 
-name_word : (wire : Wire) → wire.link.number < 64 → IsWord (name_of wire)
+name_word : (wire : Wire) → wire.link.number < 64 → IsWord (wire_name wire)
 name_word wire small =
     let front : List ℕ = letter_of wire.link.kind ++ decimal wire.link.number in record {
       some = omega (
@@ -170,26 +173,26 @@ begins : (sizes : Sizes) (keyword : Keyword) (word : List ℕ) (arguments : List
 unfolding entry_of worded
 begins sizes keyword word arguments text is words some known count = rw (is, words, some, known, count) refl
 
-reads_frame : (sizes : Sizes) (word : List ℕ) (wire : Wire) (k : ℕ) (text : List ℕ) → IsSmall sizes → IsWireIn sizes wire × (k < 4) → words_of text ≡ word ∷ name_of wire ∷ decimal k ∷ []
-    → frame_at sizes text ≡ Ok (record { link = wire.link; side = wire.side; k = k })
-unfolding frame_at
+reads_frame : (sizes : Sizes) (word : List ℕ) (wire : Wire) (k : ℕ) (text : List ℕ) → IsSmall sizes → IsWireIn sizes wire × (k < 4) → words_of text ≡ word ∷ wire_name wire ∷ decimal k ∷ []
+    → frame_on sizes text ≡ Ok (record { link = wire.link; side = wire.side; k = k })
+unfolding frame_on
 reads_frame sizes word wire k text small fits words =
     rw (words, reads_wire sizes wire fits.0 (wire_small sizes wire small fits.0), reads_up_to k (omega (arith, fits.1))) refl
 
 -- what a line of these words says
 says : (sizes : Sizes) (line : Line) (text : List ℕ) → IsSmall sizes → IsLineIn sizes line → is_text text ≡ true → words_of text ≡ words_in line
     → entry_of sizes text ≡ Ok (One (event_of line))
-unfolding keyword_of said step_at drain_at deliver_at lose_at repeat_at
+unfolding keyword_of said step_entry drain_at deliver_at lose_at repeat_at
 says sizes (Step hart) text small fits is words =
     begins sizes keywords.Step (codes "step") (decimal hart ∷ []) text is words refl refl refl ∙ rw (words, reads_below sizes.threads hart fits (omega (arith, small.threads, fits))) refl
 says sizes (Drain hart) text small fits is words =
     begins sizes keywords.Drain (codes "drain") (decimal hart ∷ []) text is words refl refl refl ∙ rw (words, reads_below sizes.threads hart fits (omega (arith, small.threads, fits))) refl
 says sizes (Deliver wire k) text small fits is words =
-    begins sizes keywords.Deliver (codes "deliver") (name_of wire ∷ decimal k ∷ []) text is words refl refl refl ∙ rw (reads_frame sizes (codes "deliver") wire k text small fits words) refl
+    begins sizes keywords.Deliver (codes "deliver") (wire_name wire ∷ decimal k ∷ []) text is words refl refl refl ∙ rw (reads_frame sizes (codes "deliver") wire k text small fits words) refl
 says sizes (Lose wire k) text small fits is words =
-    begins sizes keywords.Lose (codes "lose") (name_of wire ∷ decimal k ∷ []) text is words refl refl refl ∙ rw (reads_frame sizes (codes "lose") wire k text small fits words) refl
+    begins sizes keywords.Lose (codes "lose") (wire_name wire ∷ decimal k ∷ []) text is words refl refl refl ∙ rw (reads_frame sizes (codes "lose") wire k text small fits words) refl
 says sizes (Repeat wire k) text small fits is words =
-    begins sizes keywords.Repeat (codes "repeat") (name_of wire ∷ decimal k ∷ []) text is words refl refl refl ∙ rw (reads_frame sizes (codes "repeat") wire k text small fits words) refl
+    begins sizes keywords.Repeat (codes "repeat") (wire_name wire ∷ decimal k ∷ []) text is words refl refl refl ∙ rw (reads_frame sizes (codes "repeat") wire k text small fits words) refl
 says sizes Epoch text small fits is words = begins sizes keywords.Epoch (codes "epoch") [] text is words refl refl refl
 says sizes Settle text small fits is words = begins sizes keywords.Settle (codes "settle") [] text is words refl refl refl
 
@@ -214,7 +217,7 @@ lines_text sizes (line ∷ all) small fit =
 
 reads_from : (sizes : Sizes) (all : List Line) (number : ℕ) (before : List Event) → IsSmall sizes → AllByRecursion (IsLineIn sizes) all → length before + length all ≤ 1000000
     → read_from sizes number before (map body all) ≡ Ok (before ++ map event_of all)
-unfolding read_from after_line with_line
+unfolding lines_read after_line with_line
 reads_from sizes [] number before small fit most = ap (λ events. Ok events) (sym (append-nil before))
 reads_from sizes (line ∷ all) number before small fit most =
     rw (reads_line sizes line small fit.0, le-leb (length before + 1) 1000000 (omega (arith, most)))
@@ -226,7 +229,7 @@ pub reads_all : (sizes : Sizes) (all : List Line) → IsSmall sizes → AllByRec
 reads_all sizes all small fit most = ap (read_from sizes 1 []) (lines_text sizes all small fit) ∙ reads_from sizes all 1 [] small fit (omega (arith, most))
 
 -- a line has at most 16 bytes
-name_short : (wire : Wire) → wire.link.number < 64 → length (name_of wire) ≤ 4
+name_short : (wire : Wire) → wire.link.number < 64 → length (wire_name wire) ≤ 4
 name_short wire small =
     let front : List ℕ = letter_of wire.link.kind ++ decimal wire.link.number in
     omega (
@@ -249,11 +252,11 @@ line_short : (sizes : Sizes) (line : Line) → IsSmall sizes → IsLineIn sizes 
 line_short sizes (Step hart) small fits = two_words (codes "step") (decimal hart) (omega arith) (numeral hart (omega (arith, small.threads, fits))).few
 line_short sizes (Drain hart) small fits = two_words (codes "drain") (decimal hart) (omega arith) (numeral hart (omega (arith, small.threads, fits))).few
 line_short sizes (Deliver wire k) small fits =
-    three_words (codes "deliver") (name_of wire) (decimal k) (omega arith) (name_short wire (wire_small sizes wire small fits.0)) (numeral k (omega (arith, fits.1))).few
+    three_words (codes "deliver") (wire_name wire) (decimal k) (omega arith) (name_short wire (wire_small sizes wire small fits.0)) (numeral k (omega (arith, fits.1))).few
 line_short sizes (Lose wire k) small fits =
-    three_words (codes "lose") (name_of wire) (decimal k) (omega arith) (name_short wire (wire_small sizes wire small fits.0)) (numeral k (omega (arith, fits.1))).few
+    three_words (codes "lose") (wire_name wire) (decimal k) (omega arith) (name_short wire (wire_small sizes wire small fits.0)) (numeral k (omega (arith, fits.1))).few
 line_short sizes (Repeat wire k) small fits =
-    three_words (codes "repeat") (name_of wire) (decimal k) (omega arith) (name_short wire (wire_small sizes wire small fits.0)) (numeral k (omega (arith, fits.1))).few
+    three_words (codes "repeat") (wire_name wire) (decimal k) (omega arith) (name_short wire (wire_small sizes wire small fits.0)) (numeral k (omega (arith, fits.1))).few
 line_short sizes Epoch small fits = omega arith
 line_short sizes Settle small fits = omega arith
 

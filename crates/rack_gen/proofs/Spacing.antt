@@ -1,14 +1,14 @@
--- Words one space apart are read as the words of a line, and lines one behind the other as the lines of a text.
-use Rattle.std.proofs.Common.{◌≡◌, ℕ, ◌-◌, ◌<◌, ◌∙◌, Bool, true, false, ◌&&◌, ◌||◌, eqb, ltb, leb, List, [], ◌∷◌, ◌++◌, length, get_or, filter, inl, inr, ap, refl, arith}
-use Rattle.std.specs.List.{All, AllByRecursion, slice_split}
-use Rattle.std.specs.Str.Lines.{lines, lines_of_parts, strip_carriage_return}
+-- Words one space apart are read as the words of a line.
+use Rattle.std.proofs.Common.{◌≡◌, ℕ, ◌<◌, ◌∙◌, Bool, true, false, ◌&&◌, ◌||◌, ltb, leb, List, [], ◌∷◌, ◌++◌, length, get_or, filter, ap, refl, arith}
+use Rattle.std.specs.List.{All, AllByRecursion}
 use Rattle.std.proofs.Math.Bool.{or-true}
-use Rattle.std.proofs.lemmas.Bool.{and_parts, and_from, or_cases, leb-true, eqb-true, lt-ltb, le-leb, ne_eqb}
+use Rattle.std.proofs.lemmas.Bool.{and_parts, and_from, leb-true, lt-ltb, ne_eqb}
 use Rattle.std.proofs.lemmas.List.Folds.{list_all-append}
-use Rattle.std.proofs.lemmas.List.Splits.{slice_split_none, slice_split_at, length-slice_split}
+use Rattle.std.proofs.lemmas.List.Splits.{slice_split_none, slice_split_at}
 use Rattle.std.proofs.lemmas.List.Sums.{AllPass-from_list_all}
 use Rattle.mind_base.specs.Name.{each_prints}
-use Rattle.schedule_text.specs.Word.{is_blank, is_text, words_of}
+use Rattle.plain_text.specs.Blank.{is_blank, is_text}
+use Rattle.schedule_text.specs.Word.{words_of}
 use Rattle.schedule_text.proofs.Cuts.{no_words}
 use Rattle.rack_gen.specs.Line.{spaced}
 
@@ -50,38 +50,10 @@ word_is_text : (word : List ℕ) → each_prints word ≡ true → is_text word 
 word_is_text [] e = refl
 word_is_text (b ∷ word) e =
     let p = and_parts (leb 0x21 b && leb b 0x7e) (each_prints word) e in
-    let q = and_parts (leb 0x21 b) (leb b 0x7e) p.0 in
-    let above : leb 0x20 b ≡ true = le-leb 0x20 b (omega (arith, leb-true 0x21 b q.0)) in
-    and_from _ _ (ap (λ t. eqb b 9 || t) (and_from _ _ above q.1) ∙ or-true (eqb b 9)) (word_is_text word p.1)
+    and_from _ _ (ap (λ t. is_blank b || t) p.0 ∙ or-true (is_blank b)) (word_is_text word p.1)
 
 pub text_spaced : (words : List (List ℕ)) → AllByRecursion IsWord words → is_text (spaced words) ≡ true
 text_spaced [] all = refl
 text_spaced (word ∷ []) all = word_is_text word all.0.prints
 text_spaced (word ∷ next ∷ words) all =
     list_all-append _ word (32 ∷ spaced (next ∷ words)) ∙ and_from _ _ (word_is_text word all.0.prints) (text_spaced (next ∷ words) all.1)
-
--- ---- lines
-
--- a byte of a text ends no line
-no_end : (body : List ℕ) → is_text body ≡ true → (k d : ℕ) → k < length body → ((get_or body k d ≡ 10 → ⊥) × (get_or body k d ≡ 13 → ⊥))
-no_end body e k d lt =
-    elim (or_cases (eqb (get_or body k d) 9) (leb 0x20 (get_or body k d) && leb (get_or body k d) 0x7e) (AllPass-from_list_all (λ b. eqb b 9 || (leb 0x20 b && leb b 0x7e)) body e k d lt)) [
-      | inl tab ↦ let is = eqb-true (get_or body k d) 9 tab in ((λ q. omega (arith, is, q)), (λ q. omega (arith, is, q)))
-      | inr print ↦ let above = leb-true 0x20 (get_or body k d) (and_parts (leb 0x20 (get_or body k d)) (leb (get_or body k d) 0x7e) print).0 in ((λ q. omega (arith, above, q)), (λ q. omega (arith, above, q)))
-    ]
-
--- nothing is stripped off a text
-unstripped : (body : List ℕ) → is_text body ≡ true → strip_carriage_return body ≡ body
-unstripped [] e = refl
-unstripped (b ∷ bs) e = rw (ne_eqb (get_or (b ∷ bs) (length (b ∷ bs) - 1) 0) 13 (no_end (b ∷ bs) e (length (b ∷ bs) - 1) 0 (omega arith)).1) refl
-
-ended_part : (part : List ℕ) (parts : List (List ℕ)) → 0 < length parts → lines_of_parts (part ∷ parts) ≡ strip_carriage_return part ∷ lines_of_parts parts
-ended_part part [] some = absurd (omega arith)
-ended_part part (x ∷ xs) some = refl
-
-pub first_line : (body rest : List ℕ) → is_text body ≡ true → lines (body ++ 10 ∷ rest) ≡ body ∷ lines rest
-first_line body rest e =
-    let ends : ℕ → Bool = λ b. eqb b 10 in
-    ap lines_of_parts (slice_split_at ends body 10 rest (λ k d lt. ne_eqb _ 10 (no_end body e k d lt).0) refl)
-    ∙ ended_part body (slice_split ends rest) (omega (arith, length-slice_split ends rest))
-    ∙ ap (λ line. line ∷ lines rest) (unstripped body e)

@@ -8,7 +8,7 @@ use Rattle.schedule_text.specs.Size.{sizes_of}
 use Rattle.rack_gen.specs.declared.wires.Wire.{Wire}
 use Rattle.rack_gen.specs.declared.lines.Line.{Line}
 use Rattle.rack_gen.specs.declared.lines.Line.TheVariants.{Settle}
-use Rattle.rack_gen.specs.Draw.{state_after}
+use Rattle.rack_gen.specs.Draw.{drawn_state}
 use Rattle.rack_gen.specs.Wire.{wires_of}
 use Rattle.rack_gen.specs.Line.{line_at, draws_of, event_of, line_text}
 
@@ -16,7 +16,7 @@ use Rattle.rack_gen.specs.Line.{line_at, draws_of, event_of, line_text}
 abbrev pub lines_from : ℕ → List Wire → ℕ → ℕ → List Line
 lines_from threads wires zero state = []
 lines_from threads wires (suc count) state =
-    line_at threads wires state ∷ lines_from threads wires count (state_after (draws_of (line_at threads wires state)) state)
+    line_at threads wires state ∷ lines_from threads wires count (drawn_state (draws_of (line_at threads wires state)) state)
 
 -- so many drawn lines, the seed being the first state, and a last line on which the rack settles
 unfoldable pub lines_for : Sizes → ℕ → ℕ → List Line

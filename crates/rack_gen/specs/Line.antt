@@ -9,7 +9,7 @@ use Rattle.rack_gen.specs.declared.wires.Wire.{Wire}
 use Rattle.rack_gen.specs.declared.lines.Line.{Line}
 use Rattle.rack_gen.specs.declared.lines.Line.TheVariants.{Step, Drain, Deliver, Lose, Repeat, Epoch, Settle}
 use Rattle.rack_gen.specs.Draw.{draw}
-use Rattle.rack_gen.specs.Wire.{name_of}
+use Rattle.rack_gen.specs.Wire.{wire_name}
 
 -- what the first number of a line decides: the kind of the line
 abbrev pub kind_at : ℕ → ℕ
@@ -53,9 +53,9 @@ event_of Settle = events.Settle
 abbrev pub words_in : Line → List (List ℕ)
 words_in (Step hart) = codes "step" ∷ decimal hart ∷ []
 words_in (Drain hart) = codes "drain" ∷ decimal hart ∷ []
-words_in (Deliver wire k) = codes "deliver" ∷ name_of wire ∷ decimal k ∷ []
-words_in (Lose wire k) = codes "lose" ∷ name_of wire ∷ decimal k ∷ []
-words_in (Repeat wire k) = codes "repeat" ∷ name_of wire ∷ decimal k ∷ []
+words_in (Deliver wire k) = codes "deliver" ∷ wire_name wire ∷ decimal k ∷ []
+words_in (Lose wire k) = codes "lose" ∷ wire_name wire ∷ decimal k ∷ []
+words_in (Repeat wire k) = codes "repeat" ∷ wire_name wire ∷ decimal k ∷ []
 words_in Epoch = codes "epoch" ∷ []
 words_in Settle = codes "settle" ∷ []
 

@@ -33,5 +33,5 @@ side_mark Messages = []
 side_mark Acks = codes "a"
 
 -- the letter and the number of the link, with an a behind them for the wire of acknowledgements
-abbrev pub name_of : Wire → List ℕ
-name_of wire = letter_of wire.link.kind ++ decimal wire.link.number ++ side_mark wire.side
+abbrev pub wire_name : Wire → List ℕ
+wire_name wire = letter_of wire.link.kind ++ decimal wire.link.number ++ side_mark wire.side

@@ -1,3 +1,5 @@
+//! The generator of numbers.
+
 ghost use Rattle.std.specs.Prelude.{◌≡◌, ◌/◌};
 ghost use Rattle.rack_gen.specs.Draw.{next};
 

@@ -4,7 +4,6 @@
 mod draws;
 mod lines;
 mod schedules;
-mod texts;
 mod wires;
 
 pub use schedules::{generated, make};

@@ -1,13 +1,15 @@
+//! One drawn line: its event and its text.
+
 ghost use Rattle.std.specs.Prelude.{◌≡◌, ◌++◌, ◌∷◌, [], ◌%◌, ◌<◌, ◌≤◌, codes, length, OnOk};
 ghost use Rattle.std.specs.Fmt.{decimal};
-ghost use Rattle.rack_gen.specs.Draw.{draw, state_after};
+ghost use Rattle.rack_gen.specs.Draw.{draw, drawn_state};
 ghost use Rattle.rack_gen.specs.Line.{wire_at, line_at, draws_of, event_of, line_text, spaced};
-ghost use Rattle.rack_gen.specs.Wire.{name_of};
+ghost use Rattle.rack_gen.specs.Wire.{wire_name};
 
 use crate::draws::Generator;
-use crate::texts::put_decimal;
 use crate::wires::{Wire, put_name};
 use mind_base::{Event, NoMemory};
+use plain_text::put_decimal;
 use std::alloc::Global;
 
 /// What a line of a generated schedule says.
@@ -36,7 +38,7 @@ pub fn draw_line(generator: &mut Generator, threads: u8, wires: &[Wire]) -> Line
     requires some { 0 < length wires.now }
     requires few { length wires.now ≤ 64 }
     ensures line { result ≡ line_at threads wires.now generator.old.state }
-    ensures state { generator.new.state ≡ state_after (draws_of result) generator.old.state }
+    ensures state { generator.new.state ≡ drawn_state (draws_of result) generator.old.state }
 {
     match generator.next() % 16 {
         0..=7 => Line::Step {
@@ -68,7 +70,7 @@ pub fn draw_line(generator: &mut Generator, threads: u8, wires: &[Wire]) -> Line
 fn draw_hart(generator: &mut Generator, threads: u8) -> u8
     requires { 0 < threads }
     ensures hart { result ≡ draw 1 generator.old.state % threads }
-    ensures state { generator.new.state ≡ state_after 1 generator.old.state }
+    ensures state { generator.new.state ≡ drawn_state 1 generator.old.state }
 {
     (generator.next() % u32::from(threads)) as u8
 }
@@ -78,7 +80,7 @@ fn draw_frame(generator: &mut Generator, wires: &[Wire]) -> Frame
     requires few { length wires.now ≤ 64 }
     ensures wire { result.wire ≡ wire_at wires.now (draw 1 generator.old.state) }
     ensures k { result.k ≡ draw 2 generator.old.state % 4 }
-    ensures state { generator.new.state ≡ state_after 2 generator.old.state }
+    ensures state { generator.new.state ≡ drawn_state 2 generator.old.state }
 {
     let place = generator.next() as usize % wires.len();
     let k = generator.next() % 4;
@@ -135,7 +137,7 @@ fn put_of_hart(alloc: Global, out: &mut Vec<u8>, word: &[u8], hart: u8) -> Resul
 {
     out.extend_from_slice(word)?;
     out.extend_from_slice(b" ")?;
-    put_decimal(alloc, out, u32::from(hart))?;
+    put_decimal(alloc, out, u64::from(hart))?;
     out.extend_from_slice(b"\n")?;
     Ok(())
 }
@@ -147,13 +149,13 @@ fn put_of_frame(
     wire: Wire,
     k: u32,
 ) -> Result<(), NoMemory>
-    ensures { OnOk result (out.new.items ≡ out.old.items ++ (spaced (word.now ∷ name_of wire ∷ decimal k ∷ []) ++ codes "\n")) }
+    ensures { OnOk result (out.new.items ≡ out.old.items ++ (spaced (word.now ∷ wire_name wire ∷ decimal k ∷ []) ++ codes "\n")) }
 {
     out.extend_from_slice(word)?;
     out.extend_from_slice(b" ")?;
     put_name(alloc, out, wire)?;
     out.extend_from_slice(b" ")?;
-    put_decimal(alloc, out, k)?;
+    put_decimal(alloc, out, u64::from(k))?;
     out.extend_from_slice(b"\n")?;
     Ok(())
 }

@@ -1,3 +1,5 @@
+//! The schedule that is drawn for a rack, as text and as events.
+
 ghost use Rattle.std.specs.Prelude.{◌≡◌, ◌≤◌, ◌+◌, Ok, length, map, IfOk};
 ghost use Rattle.std.specs.List.{flat_map, AllByRecursion};
 ghost use Rattle.mind_base.specs.Fit.{Within};

@@ -1,9 +1,11 @@
+//! The wires of a rack, in the order in which one is drawn.
+
 ghost use Rattle.std.specs.Prelude.{◌≡◌, ◌+◌, ◌*◌, ◌++◌, length, IfOk, OnOk};
 ghost use Rattle.mind_base.specs.declared.links.LinkKind.TheVariants.{Up, Down, To, From};
-ghost use Rattle.rack_gen.specs.Wire.{wires_of_link, wires_between, letter_of, side_mark, name_of};
+ghost use Rattle.rack_gen.specs.Wire.{wires_of_link, wires_between, letter_of, side_mark, wire_name};
 
-use crate::texts::put_decimal;
 use mind_base::{LinkKind, LinkName, NoMemory, Side};
+use plain_text::put_decimal;
 use std::alloc::Global;
 
 /// A wire of the rack: its link, and whether it carries the messages or their acknowledgements.
@@ -96,10 +98,10 @@ fn mark(side: Side) -> &'static [u8]
 
 /// The name of a wire.
 pub fn put_name(alloc: Global, out: &mut Vec<u8>, wire: Wire) -> Result<(), NoMemory>
-    ensures { OnOk result (out.new.items ≡ out.old.items ++ name_of wire) }
+    ensures { OnOk result (out.new.items ≡ out.old.items ++ wire_name wire) }
 {
     out.extend_from_slice(letter(wire.link.kind))?;
-    put_decimal(alloc, out, u32::from(wire.link.number))?;
+    put_decimal(alloc, out, u64::from(wire.link.number))?;
     out.extend_from_slice(mark(wire.side))?;
     Ok(())
 }

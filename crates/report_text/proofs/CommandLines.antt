@@ -10,7 +10,7 @@ use Rattle.mind_base.specs.declared.notes.Note.{Note}
 use Rattle.tso_machine.specs.State.{Taken}
 use Rattle.tso_machine.specs.Commands.{outcome_at}
 use Rattle.tso_machine.proofs.Runs.{take-at}
-use Rattle.report_text.specs.CommandLine.{moved_at, outcome_of, command_line, command_lines_from}
+use Rattle.report_text.specs.CommandLine.{moved_at, command_outcome, command_line, command_lines_from}
 
 lines-append : (ended : ℕ → Option Outcome) (n : ℕ) (xs : List Command) (y : Command)
     → command_lines_from ended n (xs ++ y ∷ []) ≡ command_lines_from ended n xs ++ command_line (n + length xs) y (ended (n + length xs))
@@ -29,7 +29,7 @@ line-more ended commands i command e =
 -- the outcome as the machine took it, else that kept of the moves
 pub ended-as : (taken : List Taken) (notes : List Note) (moves : List (Option Outcome)) (i : ℕ) (took moved ended : Option Outcome) → i < length moves
     → moved ≡ get_or moves i moved → get_or moves i None ≡ moved_at notes i → took ≡ outcome_at taken i → ended ≡ option_or took moved
-    → ended ≡ outcome_of taken notes i
+    → ended ≡ command_outcome taken notes i
 ended-as taken notes moves i took moved ended within is first as_taken either =
     let kept : get_or moves i None ≡ moved = get_or_from_slice_get moves i moved None (slice_get_read moves (length moves) i moved refl within is) in
     either ∙ ap (λ o. option_or o moved) as_taken ∙ ap (λ o. option_or (outcome_at taken i) o) (sym kept ∙ first)

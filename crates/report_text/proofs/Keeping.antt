@@ -10,16 +10,17 @@ use Rattle.std.proofs.lemmas.List.Folds.{list_any-append}
 use Rattle.std.proofs.lemmas.List.{length-append}
 use Rattle.std.proofs.lemmas.Map.Views.{any-filter_same}
 use Rattle.std.proofs.lemmas.Map.Keys.{IsDistinct-head, IsDistinct-tail, IsDistinct-cons, IsDistinct-push}
-use Rattle.mind_base.specs.Range.{RangeView}
+use Rattle.mind_base.specs.Range.{RangeView, same_range}
+use Rattle.mind_base.proofs.SameRange.{same_range-laws}
 use Rattle.report_text.specs.declared.force.BlockKey.{BlockKey}
-use Rattle.report_text.specs.Force.{is_same, has_block, without, entered}
-use Rattle.report_text.specs.Kept.{key_of, key_cmp, Keeps}
+use Rattle.report_text.specs.Force.{has_block, without, entered}
+use Rattle.report_text.specs.Kept.{key_of, key_cmp, HoldsKeys}
 
 -- ---- keys compare equal where the blocks are the same
 number-test : (a b : ℕ) → is_eq (nat_cmp a b) ≡ (a == b)
 number-test a b = grind (arith, common_steps)
 
-pub key-test : (a b : RangeView) → is_eq (key_cmp (key_of a) (key_of b)) ≡ is_same a b
+pub key-test : (a b : RangeView) → is_eq (key_cmp (key_of a) (key_of b)) ≡ same_range a b
 key-test a b =
     let first = nat_cmp a.domain b.domain in
     let second = nat_cmp a.base b.base in
@@ -32,36 +33,9 @@ key-test a b =
     ∙ sym (and_assoc (a.domain == b.domain) (a.base == b.base) (a.log == b.log))
 
 -- ---- the test of blocks decides whether they are equal
-number-same : (a b : ℕ) → (a == b) ≡ true → a ≡ b
-number-same a b h = grind (arith, common_steps, h)
-
 both : (p q : Bool) → (p && q) ≡ true → (p ≡ true) × (q ≡ true)
 both true q h = (refl, h)
 both false q h = absurd (cc)
-
-same-sound : (a b : RangeView) → is_same a b ≡ true → a ≡ b
-same-sound a b h =
-    let front = both ((a.domain == b.domain) && (a.base == b.base)) (a.log == b.log) h in
-    let parts = both (a.domain == b.domain) (a.base == b.base) front.0 in
-    let d = number-same a.domain b.domain parts.0 in
-    let n = number-same a.base b.base parts.1 in
-    let l = number-same a.log b.log front.1 in
-    λ i. record { domain = d i; base = n i; log = l i }
-
-number-refl : (a : ℕ) → (a == a) ≡ true
-number-refl a = grind (arith, common_steps)
-
-number-turned : (a b : ℕ) → (a == b) ≡ (b == a)
-number-turned a b = grind (arith, common_steps)
-
-pub same-laws : IsEquivalence is_same
-same-laws = record {
-  refl = λ a. rw (number-refl a.domain) (rw (number-refl a.base) (number-refl a.log));
-  symm = λ a b. ap (λ t. t && (a.base == b.base) && (a.log == b.log)) (number-turned a.domain b.domain)
-      ∙ ap (λ t. (b.domain == a.domain) && t && (a.log == b.log)) (number-turned a.base b.base)
-      ∙ ap (λ t. (b.domain == a.domain) && (b.base == a.base) && t) (number-turned a.log b.log);
-  congr = λ a b c h. ap (λ r. is_same r c) (same-sound a b h);
-}
 
 -- ---- lists without repeats
 module _ {K : Type 0} {e : K → K → Bool} (laws : IsEquivalence e) where
@@ -142,33 +116,33 @@ module _ {K : Type 0} {e : K → K → Bool} (laws : IsEquivalence e) where
 -- ---- the set beside the list
 -- a block taken out of both
 pub keeps-without : (kept after : BTreeSet BlockKey) (key : BlockKey) (r : RangeView) (blocks : List RangeView) → key ≡ key_of r → Updates key_cmp kept after key false
-    → length after.keys + cond (contains key_cmp kept key) 1 0 ≡ length kept.keys → Keeps kept blocks → Keeps after (without r blocks)
+    → length after.keys + cond (contains key_cmp kept key) 1 0 ≡ length kept.keys → HoldsKeys kept blocks → HoldsKeys after (without r blocks)
 keeps-without kept after key r blocks e updates shorter keeps = record {
   same = λ q. updates.0 (key_of q) ∙ ap (λ k. cond (is_eq (key_cmp k (key_of q))) false (contains key_cmp kept (key_of q))) e
       ∙ ap (λ t. cond t false (contains key_cmp kept (key_of q))) (key-test r q)
-      ∙ ap (λ t. cond (is_same r q) false t) (keeps.same q) ∙ sym (any-out same-laws r q blocks);
-  length = let out = length-out same-laws r blocks keeps.apart in
+      ∙ ap (λ t. cond (same_range r q) false t) (keeps.same q) ∙ sym (any-out same_range-laws r q blocks);
+  length = let out = length-out same_range-laws r blocks keeps.apart in
       let one : Bool → ℕ = λ t. cond t 1 0 in
       let there : one (contains key_cmp kept key) ≡ one (has_block r blocks) = ap (λ k. one (contains key_cmp kept k)) e ∙ ap one (keeps.same r) in
       let size = keeps.length in omega (arith, out, there, size, shorter);
-  apart = distinct-out same-laws (λ b. not (is_same r b)) blocks keeps.apart;
+  apart = distinct-out same_range-laws (λ b. not (same_range r b)) blocks keeps.apart;
 }
 
 -- a block put into both
 pub keeps-entered : (kept after : BTreeSet BlockKey) (key : BlockKey) (r : RangeView) (blocks : List RangeView) → key ≡ key_of r → Updates key_cmp kept after key true
-    → length after.keys ≡ length kept.keys + cond (not (contains key_cmp kept key)) 1 0 → Keeps kept blocks → Keeps after (entered r blocks)
+    → length after.keys ≡ length kept.keys + cond (not (contains key_cmp kept key)) 1 0 → HoldsKeys kept blocks → HoldsKeys after (entered r blocks)
 keeps-entered kept after key r blocks e updates longer keeps = record {
   same = λ q. updates.0 (key_of q) ∙ ap (λ k. cond (is_eq (key_cmp k (key_of q))) true (contains key_cmp kept (key_of q))) e
       ∙ ap (λ t. cond t true (contains key_cmp kept (key_of q))) (key-test r q)
-      ∙ ap (λ t. cond (is_same r q) true t) (keeps.same q) ∙ sym (any-in same-laws r q blocks (has_block r blocks) refl);
+      ∙ ap (λ t. cond (same_range r q) true t) (keeps.same q) ∙ sym (any-in same_range-laws r q blocks (has_block r blocks) refl);
   length = longer ∙ ap (λ k. length kept.keys + cond (not (contains key_cmp kept k)) 1 0) e
       ∙ ap (λ t. length kept.keys + cond (not t) 1 0) (keeps.same r) ∙ ap (λ n. n + cond (not (has_block r blocks)) 1 0) keeps.length
-      ∙ sym (length-in same-laws r blocks (has_block r blocks));
-  apart = distinct-in same-laws r blocks (has_block r blocks) refl keeps.apart;
+      ∙ sym (length-in same_range-laws r blocks (has_block r blocks));
+  apart = distinct-in same_range-laws r blocks (has_block r blocks) refl keeps.apart;
 }
 
 -- a set with no keys
-pub keeps-none : (kept : BTreeSet BlockKey) → kept.keys ≡ [] → Keeps kept []
+pub keeps-none : (kept : BTreeSet BlockKey) → kept.keys ≡ [] → HoldsKeys kept []
 unfolding IsDistinct
 keeps-none kept none = record {
   same = λ r. ap (list_any (λ k. is_eq (key_cmp (key_of r) k))) none;

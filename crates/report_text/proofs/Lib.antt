@@ -3,5 +3,4 @@ pub mod FirstMoves
 pub mod Keeping
 pub mod Lines
 pub mod Peaks
-pub mod Samples
 pub mod Tallies

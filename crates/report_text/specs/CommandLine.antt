@@ -7,24 +7,16 @@ use Rattle.mind_base.specs.declared.commands.Outcome.{Outcome}
 use Rattle.mind_base.specs.declared.commands.Outcome.TheVariants as outcome
 use Rattle.mind_base.specs.declared.notes.Note.{Note}
 use Rattle.mind_base.specs.declared.notes.Note.TheVariants as note
+use Rattle.mind_base.specs.OutcomeWord.{outcome_word}
 use Rattle.tso_machine.specs.State.{Taken}
 use Rattle.tso_machine.specs.Commands.{outcome_at}
-use Rattle.report_text.specs.Digits.{decimal}
+use Rattle.std.specs.Fmt.{decimal}
 
 abbrev pub command_word : Command → List ℕ
 command_word (Map span perm) = codes "map"
 command_word (Unmap span) = codes "unmap"
 command_word (Protect span perm) = codes "protect"
 command_word (Migrate range memory) = codes "migrate"
-
-abbrev pub outcome_word : Outcome → List ℕ
-outcome_word outcome.Fine = codes "ok"
-outcome_word outcome.Unplaced = codes "unplaced"
-outcome_word outcome.Overlap = codes "overlap"
-outcome_word outcome.Unmapped = codes "unmapped"
-outcome_word outcome.Slots = codes "slots"
-outcome_word outcome.Same = codes "same"
-outcome_word outcome.Room = codes "room"
 
 -- how the command with this number ended, or that it did not yet
 abbrev pub outcome_text : Option Outcome → List ℕ
@@ -34,17 +26,7 @@ outcome_text None = codes "waiting"
 -- the outcome in a note of the move of this number
 abbrev pub moved_in : Note → ℕ → Option Outcome
 moved_in (note.Moved number outcome) index = if number == index then Some outcome else None
-moved_in (note.Event number) index = None
-moved_in (note.Exec hart) index = None
-moved_in (note.Drain hart) index = None
-moved_in (note.Command number) index = None
-moved_in (note.Take blade page writable) index = None
-moved_in (note.Give blade page) index = None
-moved_in (note.Down blade page) index = None
-moved_in (note.Region range state) index = None
-moved_in (note.Gone range) index = None
-moved_in (note.Split range) index = None
-moved_in (note.Merge range) index = None
+moved_in other index = None
 
 -- the outcome in the first note of the move of this number
 abbrev pub moved_at : List Note → ℕ → Option Outcome
@@ -52,8 +34,8 @@ moved_at [] index = None
 moved_at (note ∷ notes) index = option_or (moved_in note index) (moved_at notes index)
 
 -- how a command ended: as the machine took it, else as its first move did
-abbrev pub outcome_of : List Taken → List Note → ℕ → Option Outcome
-outcome_of taken notes index = option_or (outcome_at taken index) (moved_at notes index)
+abbrev pub command_outcome : List Taken → List Note → ℕ → Option Outcome
+command_outcome taken notes index = option_or (outcome_at taken index) (moved_at notes index)
 
 -- the line of one command, by its number and how it ended
 abbrev pub command_line : ℕ → Command → Option Outcome → List ℕ
@@ -68,4 +50,4 @@ command_lines_from ended index (command ∷ commands) =
 
 -- the lines of all commands
 abbrev pub command_lines : List Command → List Taken → List Note → List ℕ
-command_lines commands taken notes = command_lines_from (outcome_of taken notes) 0 commands
+command_lines commands taken notes = command_lines_from (command_outcome taken notes) 0 commands

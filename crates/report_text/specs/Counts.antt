@@ -5,24 +5,22 @@ use Rattle.mind_base.specs.declared.notes.Note.TheVariants as note
 use Rattle.report_text.specs.declared.kinds.Kind.{Kind}
 use Rattle.report_text.specs.declared.kinds.Kind.TheVariants.{Event, Label, Take, Give, Down, Split, Merge}
 use Rattle.report_text.specs.declared.counts.Counts.{Counts}
-use Rattle.report_text.specs.Digits.{decimal}
+use Rattle.std.specs.Fmt.{decimal}
 use Rattle.report_text.specs.Force.{peak}
 
 -- The kind under which a note counts. Labels are what takes effect in the machine: executed instructions,
 -- drained stores and taken commands.
-abbrev pub kind_of : Note → Option Kind
-kind_of (note.Event index) = Some Event
-kind_of (note.Exec hart) = Some Label
-kind_of (note.Drain hart) = Some Label
-kind_of (note.Command index) = Some Label
-kind_of (note.Moved index outcome) = None
-kind_of (note.Take blade page writable) = Some Take
-kind_of (note.Give blade page) = Some Give
-kind_of (note.Down blade page) = Some Down
-kind_of (note.Region range state) = None
-kind_of (note.Gone range) = None
-kind_of (note.Split range) = Some Split
-kind_of (note.Merge range) = Some Merge
+abbrev pub note_kind : Note → Option Kind
+note_kind (note.Event index) = Some Event
+note_kind (note.Exec hart) = Some Label
+note_kind (note.Drain hart) = Some Label
+note_kind (note.Command index) = Some Label
+note_kind (note.Take blade page writable) = Some Take
+note_kind (note.Give blade page) = Some Give
+note_kind (note.Down blade page) = Some Down
+note_kind (note.Split range) = Some Split
+note_kind (note.Merge range) = Some Merge
+note_kind other = None
 
 abbrev pub is_kind : Kind → Option Kind → Bool
 is_kind Event (Some Event) = true
@@ -34,12 +32,12 @@ is_kind Split (Some Split) = true
 is_kind Merge (Some Merge) = true
 is_kind kind other = false
 
-abbrev pub is_of : Kind → Note → Bool
-is_of kind note = is_kind kind (kind_of note)
+abbrev pub is_note_of : Kind → Note → Bool
+is_note_of kind note = is_kind kind (note_kind note)
 
 -- how many notes are of this kind
 abbrev pub count_of : Kind → List Note → ℕ
-count_of kind notes = count_by (is_of kind) notes
+count_of kind notes = count_by (is_note_of kind) notes
 
 -- the counts of a log
 abbrev pub counts_of : List Note → Counts

@@ -1,10 +1,5 @@
--- Numbers and bytes as text.
-use Rattle.std.specs.Prelude.{ℕ, ◌+◌, ◌/◌, ◌%◌, ◌^◌, false, nat_lt, List, [], ◌∷◌, ◌++◌, if◌then◌else◌}
-use Rattle.std.specs.Fmt.{digits}
-
--- a number in decimal digits
-abbrev pub decimal : ℕ → List ℕ
-decimal n = digits 10 false n
+-- Bytes and words as hexadecimal text.
+use Rattle.std.specs.Prelude.{ℕ, ◌+◌, ◌/◌, ◌%◌, ◌^◌, nat_lt, List, [], ◌∷◌, ◌++◌, if◌then◌else◌}
 
 -- one lower-case hexadecimal digit
 abbrev pub hex_digit : ℕ → ℕ

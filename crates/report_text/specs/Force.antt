@@ -1,20 +1,17 @@
 -- The directory entries in force, as the notes of a log tell them.
 use Rattle.std.specs.Prelude.{ℕ, zero, suc, max, Bool, not, ◌&&◌, ◌==◌, List, [], ◌∷◌, ◌++◌, length, take, filter, fold, Option, Some, None, if◌then◌else◌}
 use Rattle.std.specs.List.{list_any}
-use Rattle.mind_base.specs.Range.{RangeView, halves_of}
+use Rattle.mind_base.specs.Range.{RangeView, halves_of, same_range}
 use Rattle.mind_base.specs.declared.notes.Note.{Note}
 use Rattle.mind_base.specs.declared.notes.Note.TheVariants as note
 
-abbrev pub is_same : RangeView → RangeView → Bool
-is_same a b = (a.domain == b.domain) && (a.base == b.base) && (a.log == b.log)
-
 -- whether the block is among these
 abbrev pub has_block : RangeView → List RangeView → Bool
-has_block r blocks = list_any (λ b. is_same r b) blocks
+has_block r blocks = list_any (λ b. same_range r b) blocks
 
 -- the blocks without this one
 abbrev pub without : RangeView → List RangeView → List RangeView
-without r blocks = filter (λ b. not (is_same r b)) blocks
+without r blocks = filter (λ b. not (same_range r b)) blocks
 
 -- the blocks and this one, which counts once
 abbrev pub entered : RangeView → List RangeView → List RangeView
@@ -38,23 +35,16 @@ after_note blocks (note.Region range state) = entered range blocks
 after_note blocks (note.Gone range) = without range blocks
 after_note blocks (note.Split range) = split_into range blocks (halves_of range)
 after_note blocks (note.Merge range) = merged_from range blocks (halves_of range)
-after_note blocks (note.Event index) = blocks
-after_note blocks (note.Exec hart) = blocks
-after_note blocks (note.Drain hart) = blocks
-after_note blocks (note.Command index) = blocks
-after_note blocks (note.Moved index outcome) = blocks
-after_note blocks (note.Take blade page writable) = blocks
-after_note blocks (note.Give blade page) = blocks
-after_note blocks (note.Down blade page) = blocks
+after_note blocks other = blocks
 
 -- the blocks whose entries are in force at the end of the notes, none twice
-abbrev pub in_force : List Note → List RangeView
-in_force notes = fold after_note [] notes
+abbrev pub blocks_in_force : List Note → List RangeView
+blocks_in_force notes = fold after_note [] notes
 
 -- the greatest number of entries in force behind the first n notes or fewer
 abbrev pub peak_within : List Note → ℕ → ℕ
 peak_within notes zero = 0
-peak_within notes (suc n) = max (peak_within notes n) (length (in_force (take (suc n) notes)))
+peak_within notes (suc n) = max (peak_within notes n) (length (blocks_in_force (take (suc n) notes)))
 
 -- the greatest number of entries in force at any point of the log
 abbrev pub peak : List Note → ℕ

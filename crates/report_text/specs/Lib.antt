@@ -4,5 +4,4 @@ pub mod Digits
 pub mod Force
 pub mod Kept
 pub mod Report
-pub mod Sample
 pub mod ThreadLine

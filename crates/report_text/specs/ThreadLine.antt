@@ -6,7 +6,8 @@ use Rattle.mind_base.specs.declared.ends.End.TheVariants.{Running, Exit, Fault}
 use Rattle.mind_base.specs.declared.ends.FaultKind.{FaultKind}
 use Rattle.mind_base.specs.declared.ends.FaultKind.TheVariants as fault
 use Rattle.hart_effect.specs.Thread.{Thread}
-use Rattle.report_text.specs.Digits.{decimal, hex2, hex8}
+use Rattle.std.specs.Fmt.{decimal}
+use Rattle.report_text.specs.Digits.{hex2, hex8}
 
 abbrev pub fault_word : FaultKind → List ℕ
 fault_word fault.Fetch = codes "fetch"

@@ -1,9 +1,12 @@
+//! The lines of commands.
+
 ghost use Rattle.std.specs.Prelude.{◌≡◌, ◌≤◌, ◌++◌, OnOk, length};
-ghost use Rattle.report_text.specs.CommandLine.{command_word, outcome_word, outcome_text, command_line, command_lines};
+ghost use Rattle.mind_base.specs.OutcomeWord.{outcome_word};
+ghost use Rattle.report_text.specs.CommandLine.{command_word, outcome_text, command_line, command_lines};
 
 use crate::moves::first_moves;
-use crate::texts::put_decimal;
 use mind_base::{Command, Log, NoMemory, Outcome};
+use plain_text::put_decimal;
 use std::alloc::Global;
 use tso_machine::Machine;
 
@@ -18,25 +21,11 @@ fn word_for(command: &Command) -> &'static [u8]
     }
 }
 
-fn word_of(outcome: Outcome) -> &'static [u8]
-    ensures { result.now ≡ outcome_word outcome }
-{
-    match outcome {
-        Outcome::Fine => b"ok",
-        Outcome::Unplaced => b"unplaced",
-        Outcome::Overlap => b"overlap",
-        Outcome::Unmapped => b"unmapped",
-        Outcome::Slots => b"slots",
-        Outcome::Same => b"same",
-        Outcome::Room => b"room",
-    }
-}
-
 fn text_of(outcome: Option<Outcome>) -> &'static [u8]
     ensures { result.now ≡ outcome_text outcome }
 {
     match outcome {
-        Some(outcome) => word_of(outcome),
+        Some(outcome) => outcome.word(),
         None => b"waiting",
     }
 }

@@ -1,10 +1,12 @@
+//! The line of counts.
+
 ghost use Rattle.std.specs.Prelude.{◌≡◌, ◌++◌, IfOk, OnOk};
 ghost use Rattle.report_text.specs.Counts.{count_of, counts_of, named, counts_front, counts_rest, counts_text};
 
 use crate::force::peak_in;
 use crate::kinds::{Kind, counts_as};
-use crate::texts::put_decimal;
 use mind_base::{Log, NoMemory};
+use plain_text::put_decimal;
 use std::alloc::Global;
 
 /// The counts of a log: the numbers of its notes by kind, and the greatest number of directory entries

@@ -1,7 +1,9 @@
+//! The blocks whose entries are in force, note by note.
+
 ghost use Rattle.std.specs.Prelude.{◌≡◌, [], List, IfOk, OnOk};
 ghost use Rattle.mind_base.specs.Range.{RangeView, halves_of};
 ghost use Rattle.report_text.specs.Force.{has_block, without, entered, split_into, merged_from, after_note, peak};
-ghost use Rattle.report_text.specs.Kept.{key_of, Keeps};
+ghost use Rattle.report_text.specs.Kept.{key_of, HoldsKeys};
 
 use mind_base::{Log, NoMemory, Note, Range};
 use std::alloc::Global;
@@ -27,21 +29,21 @@ fn make_key(range: Range) -> BlockKey
 
 /// Whether the block is among these.
 fn has(kept: &BTreeSet<BlockKey>, range: Range) -> bool
-    ensures { (blocks : List RangeView) → Keeps kept.now blocks → result ≡ has_block range blocks }
+    ensures { (blocks : List RangeView) → HoldsKeys kept.now blocks → result ≡ has_block range blocks }
 {
     kept.contains(&make_key(range))
 }
 
 /// Takes the block out, if it is there.
 fn remove(kept: &mut BTreeSet<BlockKey>, range: Range)
-    ensures { (blocks : List RangeView) → Keeps kept.old blocks → Keeps kept.new (without range blocks) }
+    ensures { (blocks : List RangeView) → HoldsKeys kept.old blocks → HoldsKeys kept.new (without range blocks) }
 {
     kept.remove(&make_key(range));
 }
 
 /// Puts the block in, if it is not there yet.
 fn enter(kept: &mut BTreeSet<BlockKey>, range: Range) -> Result<(), NoMemory>
-    ensures { OnOk result ((blocks : List RangeView) → Keeps kept.old blocks → Keeps kept.new (entered range blocks)) }
+    ensures { OnOk result ((blocks : List RangeView) → HoldsKeys kept.old blocks → HoldsKeys kept.new (entered range blocks)) }
 {
     kept.insert(make_key(range))?;
     Ok(())
@@ -49,7 +51,7 @@ fn enter(kept: &mut BTreeSet<BlockKey>, range: Range) -> Result<(), NoMemory>
 
 /// Puts the two halves of a block in its place, where it is there and has more than one page.
 fn split(kept: &mut BTreeSet<BlockKey>, range: Range) -> Result<(), NoMemory>
-    ensures { OnOk result ((blocks : List RangeView) → Keeps kept.old blocks → Keeps kept.new (split_into range blocks (halves_of range))) }
+    ensures { OnOk result ((blocks : List RangeView) → HoldsKeys kept.old blocks → HoldsKeys kept.new (split_into range blocks (halves_of range))) }
 {
     let Some((lower, upper)) = range.halves() else {
         return Ok(());
@@ -64,7 +66,7 @@ fn split(kept: &mut BTreeSet<BlockKey>, range: Range) -> Result<(), NoMemory>
 
 /// Puts a block in the place of its two halves, where both are there.
 fn merge(kept: &mut BTreeSet<BlockKey>, range: Range) -> Result<(), NoMemory>
-    ensures { OnOk result ((blocks : List RangeView) → Keeps kept.old blocks → Keeps kept.new (merged_from range blocks (halves_of range))) }
+    ensures { OnOk result ((blocks : List RangeView) → HoldsKeys kept.old blocks → HoldsKeys kept.new (merged_from range blocks (halves_of range))) }
 {
     let Some((lower, upper)) = range.halves() else {
         return Ok(());
@@ -82,7 +84,7 @@ fn merge(kept: &mut BTreeSet<BlockKey>, range: Range) -> Result<(), NoMemory>
 
 /// Takes one note over.
 fn take_note(kept: &mut BTreeSet<BlockKey>, note: Note) -> Result<(), NoMemory>
-    ensures { OnOk result ((blocks : List RangeView) → Keeps kept.old blocks → Keeps kept.new (after_note blocks note)) }
+    ensures { OnOk result ((blocks : List RangeView) → HoldsKeys kept.old blocks → HoldsKeys kept.new (after_note blocks note)) }
 {
     match note {
         Note::Region { range, .. } => enter(kept, range),
@@ -105,7 +107,7 @@ fn take_note(kept: &mut BTreeSet<BlockKey>, note: Note) -> Result<(), NoMemory>
 
 /// A set that keeps no block.
 fn make_empty(alloc: Global) -> BTreeSet<BlockKey>
-    ensures { Keeps result [] }
+    ensures { HoldsKeys result [] }
 {
     BTreeSet::new(alloc)
 }

@@ -1,5 +1,7 @@
+//! The kinds of notes that are counted.
+
 ghost use Rattle.std.specs.Prelude.{◌≡◌};
-ghost use Rattle.report_text.specs.Counts.{kind_of, is_kind, is_of};
+ghost use Rattle.report_text.specs.Counts.{note_kind, is_kind, is_note_of};
 
 use mind_base::Note;
 
@@ -18,7 +20,7 @@ pub enum Kind {
 
 /// The kind under which a note counts, if it counts.
 fn kind_in(note: Note) -> Option<Kind>
-    ensures { result ≡ kind_of note }
+    ensures { result ≡ note_kind note }
 {
     match note {
         Note::Event { .. } => Some(Kind::Event),
@@ -36,7 +38,7 @@ fn kind_in(note: Note) -> Option<Kind>
 
 /// Whether a note counts under this kind.
 pub fn counts_as(kind: Kind, note: Note) -> bool
-    ensures { result ≡ is_of kind note }
+    ensures { result ≡ is_note_of kind note }
 {
     match kind_in(note) {
         None => false,

@@ -11,6 +11,3 @@ mod texts;
 mod threads;
 
 pub use reports::report;
-
-#[cfg(test)]
-mod tests;

@@ -1,3 +1,5 @@
+//! The first outcome of each move.
+
 ghost use Rattle.std.specs.Prelude.{◌≡◌, ℕ, ◌<◌, length, get_or, IfOk, None};
 ghost use Rattle.std.specs.Option.{option_or};
 ghost use Rattle.report_text.specs.CommandLine.{moved_in, moved_at};

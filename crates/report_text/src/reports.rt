@@ -1,3 +1,5 @@
+//! The report of a machine and a log.
+
 ghost use Rattle.std.specs.Prelude.{◌≡◌, ◌≤◌, length, IfOk};
 ghost use Rattle.report_text.specs.Report.{report_text};
 

@@ -1,18 +1,10 @@
+//! Bytes and words in hexadecimal digits.
+
 ghost use Rattle.std.specs.Prelude.{◌≡◌, ◌<◌, ◌++◌, OnOk};
 ghost use Rattle.std.specs.List.{flat_map};
-ghost use Rattle.report_text.specs.Digits.{decimal, hex_digit, hex2, hex8};
+ghost use Rattle.report_text.specs.Digits.{hex_digit, hex2, hex8};
 
 use mind_base::NoMemory;
-use std::alloc::Global;
-
-/// A number in decimal digits.
-pub fn put_decimal(alloc: Global, out: &mut Vec<u8>, n: u64) -> Result<(), NoMemory>
-    ensures { OnOk result (out.new.items ≡ out.old.items ++ decimal n) }
-{
-    let text = format!(in alloc; "{n}")?;
-    out.extend_from_slice(text.as_bytes())?;
-    Ok(())
-}
 
 fn digit(n: u8) -> u8
     requires { n < 16 }

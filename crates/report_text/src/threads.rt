@@ -1,8 +1,11 @@
+//! The lines of threads.
+
 ghost use Rattle.std.specs.Prelude.{◌≡◌, ◌++◌, OnOk};
 ghost use Rattle.report_text.specs.ThreadLine.{fault_word, end_text, output_text, thread_line_of, thread_lines};
 
-use crate::texts::{put_bytes, put_decimal, put_word};
+use crate::texts::{put_bytes, put_word};
 use mind_base::{End, FaultKind, NoMemory};
+use plain_text::put_decimal;
 use std::alloc::Global;
 use tso_machine::Machine;
 

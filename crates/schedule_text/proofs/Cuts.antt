@@ -1,53 +1,13 @@
--- The first line of a text, and the first word of a line.
-use Rattle.std.proofs.Common.{◌≡◌, ℕ, suc, ◌+◌, ◌<◌, Bool, true, false, not, cond, eqb, ltb, List, [], ◌∷◌, length, get_or, take, drop, filter, refl, sym, ap, ◌∙◌, arith, inl, inr}
-use Rattle.std.specs.List.{slice_split, onto_first, prefix_len, position_or_len}
-use Rattle.std.specs.Str.Lines.{lines, lines_of_parts, strip_carriage_return}
-use Rattle.std.proofs.lemmas.Bool.{cases_lt, lt-ltb, ne_eqb}
-use Rattle.std.proofs.lemmas.List.{take_all, drop_all, drop_more, length-take-le}
-use Rattle.std.proofs.lemmas.List.Splits.{slice_split-cons_yes, slice_split_none, slice_split_first}
-use Rattle.std.proofs.lemmas.List.Sums.{fails_before_first, passes_at_first, prefix_len-le-length, prefix_len_stops}
-use Rattle.schedule_text.specs.Word.{is_blank, words_of}
-
--- ---- lines
-
-abbrev ends : ℕ → Bool
-ends b = eqb b 10
-
--- a part with more parts behind it was ended
-parts_more : (part : List ℕ) (parts : List (List ℕ)) → 0 < length parts → lines_of_parts (part ∷ parts) ≡ strip_carriage_return part ∷ lines_of_parts parts
-parts_more part [] some = absurd (omega arith)
-parts_more part (x ∷ xs) some = refl
-
-some_onto : (x : ℕ) (parts : List (List ℕ)) → 0 < length (onto_first x parts)
-some_onto x [] = omega arith
-some_onto x (part ∷ parts) = omega arith
-
-some_parts : (p : ℕ → Bool) (xs : List ℕ) → 0 < length (slice_split p xs)
-some_parts p [] = omega arith
-some_parts p (x ∷ xs) = elim (p x) as (λ b. 0 < length (cond b ([] ∷ slice_split p xs) (onto_first x (slice_split p xs)))) [
-  | true ↦ omega arith
-  | false ↦ some_onto x (slice_split p xs)
-]
-
--- no part is cut off where nothing passes
-whole : (p : ℕ → Bool) (xs : List ℕ) → position_or_len p xs ≡ length xs → slice_split p xs ≡ xs ∷ []
-whole p xs e = slice_split_none p xs (λ k d lt. fails_before_first p xs k d (omega arith))
-
-pub lines_ended : (text : List ℕ) (at : ℕ) → at ≡ position_or_len ends text → at < length text → lines text ≡ strip_carriage_return (take at text) ∷ lines (drop (at + 1) text)
-lines_ended text at is lt =
-    let first = slice_split_first ends text 0 (omega arith) in
-    let cut : slice_split ends text ≡ take at text ∷ slice_split ends (drop (at + 1) text) = rw is first in
-    ap lines_of_parts cut ∙ parts_more (take at text) (slice_split ends (drop (at + 1) text)) (some_parts ends (drop (at + 1) text))
-
-one_part : (part : List ℕ) → 0 < length part → lines_of_parts (part ∷ []) ≡ part ∷ []
-one_part part some = let e : eqb (length part) 0 ≡ false = ne_eqb (length part) 0 (λ e. omega (arith, e)) in rw e refl
-
-pub lines_last : (text : List ℕ) (at : ℕ) → at ≡ position_or_len ends text → at ≡ length text → 0 < length text → lines text ≡ text ∷ lines (drop at text)
-lines_last text at is len some =
-    let rest : drop at text ≡ [] = drop_all at text (omega arith) in
-    rw rest (ap lines_of_parts (whole ends text (omega arith)) ∙ one_part text some)
-
--- ---- words
+-- The first word of a line.
+use Rattle.std.proofs.Common.{◌≡◌, ℕ, suc, ◌+◌, ◌-◌, ◌<◌, ◌≤◌, Bool, true, false, not, cond, ltb, List, [], ◌∷◌, length, get_or, take, drop, filter, refl, sym, ap, ◌∙◌, arith, inl, inr}
+use Rattle.std.specs.List.{slice_split, prefix_len, position_or_len}
+use Rattle.std.proofs.lemmas.Bool.{cases_lt, lt-ltb}
+use Rattle.std.proofs.lemmas.List.{take_all, drop_all, drop_more, length-take-le, take_rest}
+use Rattle.std.proofs.lemmas.List.Splits.{slice_split-cons_yes, slice_split_first}
+use Rattle.std.proofs.lemmas.List.Sums.{passes_at_first, prefix_len-le-length, prefix_len_stops}
+use Rattle.plain_text.specs.Blank.{is_blank}
+use Rattle.plain_text.proofs.LineCuts.{whole}
+use Rattle.schedule_text.specs.Word.{words_of}
 
 abbrev some_word : List ℕ → Bool
 some_word word = ltb 0 (length word)
@@ -120,6 +80,19 @@ pub record IsSplit (line word after : List ℕ) : Type 0 where
   pub some : 0 < length word → words_of line ≡ word ∷ words_of after
   pub none : length word ≡ 0 → words_of line ≡ []
   pub last : length word ≡ 0 → after ≡ []
+
+-- a line without the blanks in front, split at its first blank
+pub split_at_blank : (all line : List ℕ) (end : ℕ) → words_of line ≡ words_of all → (position_or_len is_blank line ≡ 0 → line ≡ []) → end ≡ position_or_len is_blank line → end ≤ length line
+    → IsSplit all (take end line) (take (length line - end) (drop end line))
+split_at_blank all line end same blank is within =
+    let len = length-take-le end line within in
+    let empty : length (take end line) ≡ 0 → line ≡ [] = λ none. blank (omega (arith, none, len)) in
+    rw (take_rest line end)
+    record {
+      some = λ some. sym same ∙ words_first line end is (omega (arith, some, len));
+      none = λ none. sym same ∙ ap words_of (empty none) ∙ words_nil;
+      last = λ none. ap (drop end) (empty none) ∙ drop_all end [] (omega arith);
+    }
 
 pub first_word : (line word after : List ℕ) → IsSplit line word after → word ≡ get_or (words_of line) 0 []
 first_word line [] after split = rw (split.none refl) refl

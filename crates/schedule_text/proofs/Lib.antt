@@ -1,4 +1,3 @@
 pub mod Cuts
 pub mod Fitting
-pub mod Reading
 pub mod WrittenOut

@@ -8,12 +8,12 @@ use Rattle.mind_base.specs.declared.links.Side.TheVariants.{Messages, Acks}
 use Rattle.schedule_text.specs.declared.faults.LineFault.{LineFault}
 use Rattle.schedule_text.specs.declared.faults.LineFault.TheVariants as faults
 use Rattle.schedule_text.specs.declared.sizes.Sizes.{Sizes}
-use Rattle.schedule_text.specs.Refusal.{◌>>=◌}
+use Rattle.plain_text.specs.Reading.{◌>>=◌}
 use Rattle.schedule_text.specs.Argument.{number_below}
 
 -- u and d lead up from a compute blade and down to it, t and f to a memory blade and from it
-unfoldable pub kind_of : ℕ → Result LinkKind LineFault
-kind_of letter =
+unfoldable pub link_kind_of : ℕ → Result LinkKind LineFault
+link_kind_of letter =
     if letter == 117 then Ok Up else if letter == 100 then Ok Down else if letter == 116 then Ok To else if letter == 102 then Ok From else Err faults.Wire
 
 -- how many links of a kind there are
@@ -24,25 +24,25 @@ ends_of sizes To = sizes.memories
 ends_of sizes From = sizes.memories
 
 -- whatever is wrong with a name, there is no such wire
-abbrev pub named : Result ℕ LineFault → Result ℕ LineFault
-named (Ok n) = Ok n
-named (Err fault) = Err faults.Wire
+abbrev pub as_wire_number : Result ℕ LineFault → Result ℕ LineFault
+as_wire_number (Ok n) = Ok n
+as_wire_number (Err fault) = Err faults.Wire
 
 -- a number below the bound without leading zeros, and so not in hexadecimal
-unfoldable pub place_of : ℕ → List ℕ → Result ℕ LineFault
-place_of bound digits =
-    if nat_lt 1 (length digits) && slice_index digits 0 == 48 then Err faults.Wire else named (number_below bound digits)
+unfoldable pub link_number : ℕ → List ℕ → Result ℕ LineFault
+link_number bound digits =
+    if nat_lt 1 (length digits) && slice_index digits 0 == 48 then Err faults.Wire else as_wire_number (number_below bound digits)
 
 -- a letter and the number of a blade
-unfoldable pub link_of : Sizes → List ℕ → Result LinkName LineFault
-link_of sizes name = do
-  kind ← kind_of (slice_index name 0)
-  number ← place_of (ends_of sizes kind) (drop 1 name)
+unfoldable pub link_named : Sizes → List ℕ → Result LinkName LineFault
+link_named sizes name = do
+  kind ← link_kind_of (slice_index name 0)
+  number ← link_number (ends_of sizes kind) (drop 1 name)
   Ok (record { kind = kind; number = number })
 
 -- the name of a link, with an a behind it for the wire of acknowledgements
-unfoldable pub wire_of : Sizes → List ℕ → Result (LinkName × Side) LineFault
-wire_of sizes name =
+unfoldable pub wire_named : Sizes → List ℕ → Result (LinkName × Side) LineFault
+wire_named sizes name =
     if slice_index name (length name - 1) == 97
-    then link_of sizes (take (length name - 1) name) >>= (λ link. Ok (link, Acks))
-    else link_of sizes name >>= (λ link. Ok (link, Messages))
+    then link_named sizes (take (length name - 1) name) >>= (λ link. Ok (link, Acks))
+    else link_named sizes name >>= (λ link. Ok (link, Messages))

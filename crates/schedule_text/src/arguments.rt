@@ -1,5 +1,7 @@
+//! The arguments of a schedule's lines.
+
 ghost use Rattle.std.specs.Prelude.{◌≡◌, ◌<◌, ◌≤◌, ◌^◌, length, IfOk};
-ghost use Rattle.schedule_text.specs.Argument.{number_up_to, number_below, perm_of, page_at, span_at, range_at};
+ghost use Rattle.schedule_text.specs.Argument.{number_up_to, number_below, perm_named, page_on, span_on, range_on};
 
 use crate::faults::LineFault;
 use crate::words::word;
@@ -34,9 +36,9 @@ pub fn below(bound: u8, word: &[u8]) -> Result<u8, LineFault>
 }
 
 /// `r` or `rw`.
-#[tactic(auto, unfolding(crate::specs::Argument::perm_of))]
+#[tactic(auto, unfolding(crate::specs::Argument::perm_named))]
 pub fn perm(word: &[u8]) -> Result<Perm, LineFault>
-    ensures { result ≡ perm_of word.now }
+    ensures { result ≡ perm_named word.now }
 {
     if word == b"r".as_slice() {
         return Ok(Perm::R);
@@ -48,11 +50,11 @@ pub fn perm(word: &[u8]) -> Result<Perm, LineFault>
 }
 
 /// The page that two words of a line name, from the word with this number on: domain and page number.
-#[tactic(auto, unfolding(crate::specs::Argument::page_at))]
+#[tactic(auto, unfolding(crate::specs::Argument::page_on))]
 pub fn page(line: &[u8], from: usize) -> Result<Page, LineFault>
     requires short { length line.now < 2 ^ 32 }
     requires few { from < 2 ^ 32 }
-    ensures { result ≡ page_at from line.now }
+    ensures { result ≡ page_on from line.now }
 {
     let domain = up_to(15, word(line, from))?;
     let number = up_to(1_048_575, word(line, from + 1))?;
@@ -63,10 +65,10 @@ pub fn page(line: &[u8], from: usize) -> Result<Page, LineFault>
 }
 
 /// The run of pages that the first arguments of a line name: domain, first page, number of pages.
-#[tactic(auto, unfolding(crate::specs::Argument::span_at))]
+#[tactic(auto, unfolding(crate::specs::Argument::span_on))]
 pub fn span(line: &[u8]) -> Result<Span, LineFault>
     requires { length line.now < 2 ^ 32 }
-    ensures { result ≡ span_at line.now }
+    ensures { result ≡ span_on line.now }
 {
     let page = page(line, 1)?;
     let pages = up_to(4096, word(line, 3))?;
@@ -81,10 +83,10 @@ pub fn span(line: &[u8]) -> Result<Span, LineFault>
 }
 
 /// The block that the first arguments of a line name: domain, first page, logarithm of its number of pages.
-#[tactic(auto, unfolding(crate::specs::Argument::range_at))]
+#[tactic(auto, unfolding(crate::specs::Argument::range_on))]
 pub fn range(line: &[u8]) -> Result<Range, LineFault>
     requires { length line.now < 2 ^ 32 }
-    ensures { result ≡ range_at line.now }
+    ensures { result ≡ range_on line.now }
 {
     let page = page(line, 1)?;
     let log = up_to(9, word(line, 3))?;

@@ -1,3 +1,5 @@
+//! The commands among events.
+
 ghost use Rattle.std.specs.Prelude.{◌≡◌, ◌≤◌, length, IfOk};
 ghost use Rattle.std.specs.List.{filter_map};
 ghost use Rattle.schedule_text.specs.Asked.{command_of};

@@ -1,15 +1,18 @@
+//! One line of a schedule: an event, or rounds of steps.
+
 ghost use Rattle.std.specs.Prelude.{◌≡◌, ◌<◌, ◌^◌, length, IfOk};
 ghost use Rattle.schedule_text.specs.declared.sizes.Sizes.{Sizes};
 ghost use Rattle.schedule_text.specs.Event.{IsLinkIn, IsEntryIn};
-ghost use Rattle.schedule_text.specs.Entry.{entry_of, worded, said, step_at, drain_at, evict_at, frame_at, deliver_at, lose_at, repeat_at, resend_at, asked, map_at, protect_at, unmap_at, migrate_at, run_at};
+ghost use Rattle.schedule_text.specs.Entry.{entry_of, worded, said, step_entry, drain_at, evict_at, frame_on, deliver_at, lose_at, repeat_at, resend_at, one_command, map_entry, protect_at, unmap_at, migrate_at, run_at};
 
 use crate::arguments::{below, page, perm, range, span, up_to};
 use crate::faults::LineFault;
 use crate::keywords::{Keyword, keyword_in, words_wanted};
 use crate::links::{link, wire};
 use crate::sizes::Sizes;
-use crate::words::{is_text, word, word_count};
+use crate::words::{word, word_count};
 use mind_base::{Command, Event, LinkName, Side};
+use plain_text::is_text;
 
 /// What a line says: nothing, one event, or a number of rounds.
 #[derive(Clone, Copy, Debug, PartialEq, Eq)]
@@ -81,10 +84,10 @@ fn said(sizes: Sizes, keyword: Keyword, line: &[u8]) -> Result<Entry, LineFault>
     }
 }
 
-#[tactic(auto, unfolding(crate::specs::Entry::step_at))]
+#[tactic(auto, unfolding(crate::specs::Entry::step_entry))]
 fn step(sizes: Sizes, line: &[u8]) -> Result<Entry, LineFault>
     requires { length line.now < 2 ^ 32 }
-    ensures reads { result ≡ step_at sizes line.now }
+    ensures reads { result ≡ step_entry sizes line.now }
     ensures fits { IfOk result (IsEntryIn sizes) }
 {
     let hart = below(sizes.threads, word(line, 1))?;
@@ -142,10 +145,10 @@ fn repeat(sizes: Sizes, line: &[u8]) -> Result<Entry, LineFault>
     Ok(Entry::One(Event::Repeat { link, side, k }))
 }
 
-#[tactic(auto, unfolding(crate::specs::Entry::frame_at))]
+#[tactic(auto, unfolding(crate::specs::Entry::frame_on))]
 fn frame_in(sizes: Sizes, line: &[u8]) -> Result<Frame, LineFault>
     requires { length line.now < 2 ^ 32 }
-    ensures reads { result ≡ frame_at sizes line.now }
+    ensures reads { result ≡ frame_on sizes line.now }
     ensures fits { IfOk result (λ frame. IsLinkIn sizes frame.link) }
 {
     let (link, side) = wire(sizes, word(line, 1))?;
@@ -163,10 +166,10 @@ fn resend(sizes: Sizes, line: &[u8]) -> Result<Entry, LineFault>
     Ok(Entry::One(Event::Resend { link }))
 }
 
-#[tactic(auto, unfolding(crate::specs::Entry::map_at))]
+#[tactic(auto, unfolding(crate::specs::Entry::map_entry))]
 fn map(line: &[u8]) -> Result<Entry, LineFault>
     requires { length line.now < 2 ^ 32 }
-    ensures reads { result ≡ map_at line.now }
+    ensures reads { result ≡ map_entry line.now }
     ensures fits { (sizes : Sizes) → IfOk result (IsEntryIn sizes) }
 {
     let span = span(line)?;
@@ -217,7 +220,7 @@ fn run(line: &[u8]) -> Result<Entry, LineFault>
 }
 
 fn asked(command: Command) -> Entry
-    ensures { result ≡ asked command }
+    ensures { result ≡ one_command command }
 {
     Entry::One(Event::Ask { command })
 }

@@ -1,3 +1,5 @@
+//! The words that a line begins with.
+
 ghost use Rattle.std.specs.Prelude.{◌≡◌};
 ghost use Rattle.schedule_text.specs.Keyword.{keyword_of, words_wanted};
 

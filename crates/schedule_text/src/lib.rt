@@ -6,7 +6,6 @@ mod asked;
 mod entries;
 mod faults;
 mod keywords;
-mod lines;
 mod links;
 mod rounds;
 mod schedules;
@@ -14,8 +13,6 @@ mod sizes;
 mod words;
 
 pub use asked::commands_of;
-pub use faults::{LineFault, LineRefusal};
+pub use faults::LineFault;
+pub use plain_text::LineRefusal;
 pub use schedules::schedule_of;
-
-#[cfg(test)]
-mod tests;

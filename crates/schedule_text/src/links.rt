@@ -1,6 +1,8 @@
+//! The names of links and wires.
+
 ghost use Rattle.std.specs.Prelude.{◌≡◌, ◌<◌, ◌^◌, length, IfOk};
 ghost use Rattle.schedule_text.specs.Event.{IsLinkIn};
-ghost use Rattle.schedule_text.specs.Link.{kind_of, ends_of, place_of, link_of, wire_of};
+ghost use Rattle.schedule_text.specs.Link.{link_kind_of, ends_of, link_number, link_named, wire_named};
 
 use crate::arguments::below;
 use crate::faults::LineFault;
@@ -8,10 +10,10 @@ use crate::sizes::Sizes;
 use mind_base::{LinkKind, LinkName, Side};
 
 /// The wire of the rack with this name: that of a link, with `a` behind for its acknowledgements.
-#[tactic(auto, unfolding(crate::specs::Link::wire_of))]
+#[tactic(auto, unfolding(crate::specs::Link::wire_named))]
 pub fn wire(sizes: Sizes, name: &[u8]) -> Result<(LinkName, Side), LineFault>
     requires { length name.now < 2 ^ 32 }
-    ensures wire { result ≡ wire_of sizes name.now }
+    ensures wire { result ≡ wire_named sizes name.now }
     ensures fits { IfOk result (λ wire. IsLinkIn sizes wire.0) }
 {
     if !name.is_empty() && name[name.len() - 1] == b'a' {
@@ -23,10 +25,10 @@ pub fn wire(sizes: Sizes, name: &[u8]) -> Result<(LinkName, Side), LineFault>
 }
 
 /// The link of the rack with this name: a letter and the number of a blade.
-#[tactic(auto, unfolding(crate::specs::Link::link_of, crate::specs::Link::kind_of))]
+#[tactic(auto, unfolding(crate::specs::Link::link_named, crate::specs::Link::link_kind_of))]
 pub fn link(sizes: Sizes, name: &[u8]) -> Result<LinkName, LineFault>
     requires { length name.now < 2 ^ 32 }
-    ensures link { result ≡ link_of sizes name.now }
+    ensures link { result ≡ link_named sizes name.now }
     ensures fits { IfOk result (IsLinkIn sizes) }
 {
     if name.is_empty() {
@@ -37,9 +39,9 @@ pub fn link(sizes: Sizes, name: &[u8]) -> Result<LinkName, LineFault>
     Ok(LinkName { kind, number })
 }
 
-#[tactic(auto, unfolding(crate::specs::Link::kind_of))]
+#[tactic(auto, unfolding(crate::specs::Link::link_kind_of))]
 fn kind(letter: u8) -> Result<LinkKind, LineFault>
-    ensures { result ≡ kind_of letter }
+    ensures { result ≡ link_kind_of letter }
 {
     match letter {
         b'u' => Ok(LinkKind::Up),
@@ -60,10 +62,10 @@ fn ends(sizes: Sizes, kind: LinkKind) -> u8
 }
 
 /// A decimal number without leading zeros, below the bound.
-#[tactic(auto, unfolding(crate::specs::Link::place_of))]
+#[tactic(auto, unfolding(crate::specs::Link::link_number))]
 fn place(bound: u8, digits: &[u8]) -> Result<u8, LineFault>
     requires { length digits.now < 2 ^ 32 }
-    ensures place { result ≡ place_of bound digits.now }
+    ensures place { result ≡ link_number bound digits.now }
     ensures within { IfOk result (λ n. n < bound) }
 {
     if digits.len() > 1 && digits[0] == b'0' {

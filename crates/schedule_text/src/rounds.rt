@@ -1,3 +1,5 @@
+//! Rounds of steps of all threads.
+
 ghost use Rattle.std.specs.Prelude.{◌≡◌, ◌<◌, ◌^◌, ◌++◌, length, OnOk};
 ghost use Rattle.schedule_text.specs.Round.{turn, turns, rounds, written_out};
 

@@ -1,24 +1,30 @@
+//! The events of a schedule, or its first fault.
+
 ghost use Rattle.std.specs.Prelude.{◌≡◌, ◌++◌, ◌≤◌, ◌<◌, ◌^◌, [], length, IfOk, OnOk};
 ghost use Rattle.std.specs.Str.Lines.{lines};
 ghost use Rattle.std.specs.List.{AllByRecursion};
-ghost use Rattle.schedule_text.specs.Refusal.{Gives};
+ghost use Rattle.plain_text.specs.Reading.{Gives};
 ghost use Rattle.schedule_text.specs.Schedule.{schedule_in, after_line, read_from};
 ghost use Rattle.schedule_text.specs.Size.{sizes_of};
 ghost use Rattle.schedule_text.specs.Event.{IsEventIn, IsEventOf};
 
 use crate::entries::entry_in;
-use crate::faults::{LineFault, LineRefusal};
-use crate::lines::split_line;
+use crate::faults::LineFault;
 use crate::rounds::{event_count, push_entry};
 use crate::sizes::{Sizes, sizes_in};
 use mind_base::{Event, RackPlan};
+use plain_text::{LineRefusal, split_line};
 use std::alloc::Global;
 
 /// The most events of a schedule.
 const MOST: usize = 1_000_000;
 
 /// Reads the text of a schedule for a rack. A line of rounds is written out.
-pub fn schedule_of(alloc: Global, bytes: &[u8], plan: &RackPlan) -> Result<Vec<Event>, LineRefusal>
+pub fn schedule_of(
+    alloc: Global,
+    bytes: &[u8],
+    plan: &RackPlan,
+) -> Result<Vec<Event>, LineRefusal<LineFault>>
     requires threads { length plan.now.threads ≤ 64 }
     requires blades { length plan.now.frames ≤ 8 }
     requires memories { length plan.now.memories ≤ 8 }
@@ -33,7 +39,11 @@ pub fn schedule_of(alloc: Global, bytes: &[u8], plan: &RackPlan) -> Result<Vec<E
     read_lines(alloc, sizes_in(plan), bytes)
 }
 
-fn read_lines(alloc: Global, sizes: Sizes, bytes: &[u8]) -> Result<Vec<Event>, LineRefusal>
+fn read_lines(
+    alloc: Global,
+    sizes: Sizes,
+    bytes: &[u8],
+) -> Result<Vec<Event>, LineRefusal<LineFault>>
     requires { length bytes.now < 2 ^ 32 }
     ensures exact { Gives (λ events. events.items) result (read_from sizes 1 [] (lines bytes.now)) }
     ensures most { IfOk result (λ events. length events.items ≤ 1000000) }
@@ -58,7 +68,7 @@ fn add_line(
     sizes: Sizes,
     line: u32,
     text: &[u8],
-) -> Result<(), LineRefusal>
+) -> Result<(), LineRefusal<LineFault>>
     requires few { length events.old.items ≤ 1000000 }
     requires numbers { AllByRecursion (IsEventIn sizes) events.old.items }
     requires short { length text.now < 2 ^ 32 }

@@ -1,3 +1,5 @@
+//! How many threads, blades and memory blades a schedule may name.
+
 ghost use Rattle.std.specs.Prelude.{◌≡◌, ◌≤◌, length};
 ghost use Rattle.schedule_text.specs.Size.{sizes_of};
 

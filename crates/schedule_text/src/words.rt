@@ -1,14 +1,11 @@
-ghost use Rattle.std.specs.Prelude.{◌≡◌, ◌+◌, ◌<◌, ◌≤◌, [], ◌∷◌, length, slice_index_or};
-ghost use Rattle.std.specs.List.{prefix_len, position_or_len};
-ghost use Rattle.schedule_text.specs.Word.{is_blank, is_text, words_of};
+//! The words of a line.
 
-/// Whether each byte is a tab or prints.
-pub fn is_text(line: &[u8]) -> bool
-    ensures { result ≡ is_text line.now }
-{
-    line.iter()
-        .all(|b| *b == b'\t' || (*b >= b' ' && *b <= b'~'))
-}
+ghost use Rattle.std.specs.Prelude.{◌≡◌, ◌+◌, ◌<◌, ◌≤◌, [], ◌∷◌, length, slice_index_or};
+ghost use Rattle.std.specs.List.{position_or_len};
+ghost use Rattle.plain_text.specs.Blank.{is_blank};
+ghost use Rattle.schedule_text.specs.Word.{words_of};
+
+use plain_text::{blanks_at_front, first_blank};
 
 /// How many words a line has.
 pub fn word_count(line: &[u8]) -> usize
@@ -49,7 +46,7 @@ fn split_word(line: &[u8]) -> (&[u8], &[u8])
     ensures rest { length result.0.now + length result.1.now ≤ length line.now }
 {
     let line = without_blanks(line);
-    let end = word_end(line);
+    let end = first_blank(line);
     (&line[..end], &line[end..])
 }
 
@@ -60,34 +57,4 @@ fn without_blanks(line: &[u8]) -> &[u8]
     ensures short { length result.now ≤ length line.now }
 {
     &line[blanks_at_front(line)..]
-}
-
-fn blanks_at_front(line: &[u8]) -> usize
-    ensures place { result ≡ prefix_len is_blank line.now }
-    ensures within { result ≤ length line.now }
-{
-    for (i, b) in line.iter().enumerate() {
-        if !is_blank(*b) {
-            return i;
-        }
-    }
-    line.len()
-}
-
-fn word_end(line: &[u8]) -> usize
-    ensures place { result ≡ position_or_len is_blank line.now }
-    ensures within { result ≤ length line.now }
-{
-    for (i, b) in line.iter().enumerate() {
-        if is_blank(*b) {
-            return i;
-        }
-    }
-    line.len()
-}
-
-fn is_blank(byte: u8) -> bool
-    ensures { result ≡ is_blank byte }
-{
-    byte == b' ' || byte == b'\t'
 }

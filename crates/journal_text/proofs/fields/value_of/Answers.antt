@@ -2,7 +2,7 @@ use Rattle.std.proofs.Common.{◌≡◌, ◌+◌, ◌*◌, ◌<◌, ◌∙◌, l
 use Rattle.std.specs.Str.Parse.{digits_value}
 use Rattle.std.proofs.lemmas.Int.Digits.{digits_value_more}
 use Rattle.std.proofs.lemmas.List.{take_all}
-use Rattle.journal_text.specs.Journal.{decimal}
+use Rattle.std.specs.Fmt.{decimal}
 use Rattle.journal_text.proofs.Decimals.{none_empty, none_padded, none_large, first_alone, some_value}
 use Rattle.journal_text.proofs.fields.value_of.Goals as goal
 
@@ -14,7 +14,7 @@ returns-then-digits-gt1 c n below e = none_padded n c.args.digits.now (omega ari
 
 pub returns-then-value-below : goal.returns-then-value-below
 returns-then-value-below c n below e =
-    let more : digits_value 10 (take (c.loop-byte.byte-index + 1) c.args.digits.now) ≡ c.loop-byte.value * 10 + c.from.result = search (rules, digits_value_more 10 c.args.digits.now c.loop-byte.byte-index (omega arith)) in
+    let more : digits_value 10 (take (c.loop-byte.byte-index + 1) c.args.digits.now) ≡ c.loop-byte.value * 10 + c.digit.result = search (rules, digits_value_more 10 c.args.digits.now c.loop-byte.byte-index (omega arith)) in
     none_large n c.args.digits.now (c.loop-byte.byte-index + 1) c.args.below (omega arith) below (omega (arith, more)) e
 
 pub loop-byte-preserved : goal.loop-byte-preserved

@@ -1,7 +1,7 @@
 use Rattle.std.proofs.Common.{refl}
 use Rattle.mind_top.specs.Words.{usage_line}
 use Rattle.mind_top.specs.declared.statuses.Status.TheVariants as status
-use Rattle.mind_top.proofs.Ends.{said, with-nothing}
+use Rattle.mind_top.proofs.Ends.{said, with-nothing, run-answered, load-answered}
 use Rattle.mind_top.proofs.Forms.{asked-as}
 use Rattle.mind_top.proofs.top.top.Goals as goal
 
@@ -10,7 +10,9 @@ returns-in-None-clause-ends g c =
     said (g.S.Store.holds c.args.store.now) _ (record { log = c.args.log.now.notes; end = c.args.end.now }) _ _ _ _ usage_line status.Usage c.say.result (c.in-None.ensures.asked, (c.requires.empty, c.requires.none), refl) c.say.ensures.says
 
 pub returns-in-Some-Run-clause-ends : goal.returns-in-Some-Run-clause-ends
-returns-in-Some-Run-clause-ends g c = c.answer_run.ensures.answers _ (asked-as _ _ _ c.in-Some-Run.field-0-is c.in-Some-Run.ensures.asked)
+returns-in-Some-Run-clause-ends g c =
+    run-answered (g.S.Store.holds c.args.store.now) _ _ _ c.load-loaded.result (record { log = c.run_loaded.new.log.notes; end = c.run_loaded.new.end }) _ _ _ _ c.run_loaded.result
+    (asked-as _ _ _ c.in-Some-Run.field-0-is c.in-Some-Run.ensures.asked) c.load-loaded.ensures.loads c.run_loaded.ensures.ends
 
 pub returns-in-Some-Check-clause-ends : goal.returns-in-Some-Check-clause-ends
 returns-in-Some-Check-clause-ends g c =
@@ -23,4 +25,6 @@ returns-in-Some-Make-clause-ends g c =
     (c.answer_make.ensures.answers _ (asked-as _ _ _ c.in-Some-Make.field-0-is c.in-Some-Make.ensures.asked))
 
 pub returns-in-Some-Load-clause-ends : goal.returns-in-Some-Load-clause-ends
-returns-in-Some-Load-clause-ends g c = c.answer_load.ensures.answers _ (asked-as _ _ _ c.in-Some-Load.field-0-is c.in-Some-Load.ensures.asked)
+returns-in-Some-Load-clause-ends g c =
+    load-answered (g.S.Store.holds c.args.store.now) _ _ _ _ c.load_made-loaded.result (record { log = c.run_loaded-in-Some-Load.new.log.notes; end = c.run_loaded-in-Some-Load.new.end }) _ _ _ _ c.run_loaded-in-Some-Load.result
+    (asked-as _ _ _ c.in-Some-Load.field-0-is c.in-Some-Load.ensures.asked) c.load_made-loaded.ensures.loads c.run_loaded-in-Some-Load.ensures.ends

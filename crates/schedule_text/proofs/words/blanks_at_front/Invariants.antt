@@ -1,7 +1,0 @@
-use Rattle.std.proofs.Common.{◌≡◌, ◌+◌, drop}
-use Rattle.std.specs.List.{prefix_len}
-use Rattle.schedule_text.specs.Word.{is_blank}
-use Rattle.schedule_text.proofs.words.blanks_at_front.Given as goal
-
-abbrev pub invariant-loop-i : goal.invariant-loop-i
-invariant-loop-i l = prefix_len is_blank l.line ≡ l.i + prefix_len is_blank (drop l.i l.line)

@@ -1,7 +1,0 @@
-use Rattle.std.proofs.Common.{◌≡◌, ◌+◌, drop}
-use Rattle.std.specs.List.{position_or_len}
-use Rattle.schedule_text.specs.Word.{is_blank}
-use Rattle.schedule_text.proofs.words.word_end.Given as goal
-
-abbrev pub invariant-loop-i : goal.invariant-loop-i
-invariant-loop-i l = position_or_len is_blank l.line ≡ l.i + position_or_len is_blank (drop l.i l.line)
