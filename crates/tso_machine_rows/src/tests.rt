@@ -1,14 +1,10 @@
 //! Commands among the steps of two threads, of two domains, that run one program.
 
-ghost use Rattle.std.specs.Prelude.{◌≡◌, ◌<◌, ◌≤◌, ◌∷◌, [], length, IfOk};
-ghost use Rattle.mind_base.specs.Fit.{IsFit, FitImages};
+ghost use Rattle.std.specs.Prelude.{◌≤◌, length};
 ghost use Rattle.mind_base.specs.Span.{IsSpan};
-ghost use Rattle.tso_machine_rows.specs.Sample.{sample_home, sample_memories, sample_threads, sample_plan};
 
-use mind_base::{
-    Command, End, Image, ImagePlan, MemoryPlan, Name, NoMemory, Outcome, Perm, PolicyKind,
-    RackPlan, Range, Sequence, Span, ThreadPlan,
-};
+use mind_base::{Command, End, NoMemory, Outcome, Perm, Range, Span};
+use sample_racks::{images_in, plan_in};
 use std::alloc::Global;
 use std::process::Abort;
 use std::test::Fail;
@@ -23,95 +19,17 @@ static PROGRAM: [u8; 36] = [
     0x73, 0x00, 0x00, 0x00,
 ];
 
-fn home_in(domain: u8) -> Span
-    requires { domain < 16 }
-    ensures { result ≡ sample_home domain }
-{
-    Span {
-        domain,
-        base: 16,
-        pages: 4,
-    }
-}
-
-static THREADS: [ThreadPlan; 2] = [
-    ThreadPlan {
-        blade: 0,
-        domain: 0,
-        image: 0,
-        queue: 1,
-    },
-    ThreadPlan {
-        blade: 0,
-        domain: 1,
-        image: 0,
-        queue: 1,
-    },
-];
-
-fn memories_in(alloc: Global) -> Result<Sequence<MemoryPlan>, NoMemory>
-    ensures { IfOk result (λ memories. memories ≡ sample_memories) }
-{
-    let homes = Sequence::from_vec(vec![in alloc; home_in(0), home_in(1)]?);
-    let memory = MemoryPlan { homes, spare: 0 };
-    Ok(Sequence::from_vec(vec![in alloc; memory]?))
-}
-
-fn threads_in(alloc: Global) -> Result<Sequence<ThreadPlan>, NoMemory>
-    ensures { IfOk result (λ threads. threads ≡ sample_threads) }
-{
-    Ok(Sequence::from_vec(Vec::from_slice(alloc, &THREADS)?))
-}
-
-fn name_in(alloc: Global) -> Result<Name, Fail> {
-    Ok(Name::of(alloc, "a.bin")?.ok_or("no name")?)
-}
-
-fn plan_of(alloc: Global, name: Name) -> Result<RackPlan, NoMemory>
-    ensures { IfOk result (λ plan. plan ≡ sample_plan name) }
-{
-    let images = Sequence::from_vec(vec![in alloc; ImagePlan { name, at: 0 }]?);
-    let frames = Sequence::from_vec(vec![in alloc; 1u32]?);
-    let memories = memories_in(alloc)?;
-    let threads = threads_in(alloc)?;
-    Ok(RackPlan {
-        slots: 1,
-        protect: 2,
-        outliers: 0,
-        region: 0,
-        most: 0,
-        threshold: 0,
-        policy: PolicyKind::Threshold,
-        frames,
-        memories,
-        images,
-        threads,
-        maps: Sequence::new(alloc),
-    })
-}
-
-fn images_in(alloc: Global) -> Result<Vec<Image>, NoMemory>
-    ensures { IfOk result (λ images. images.items ≡ record { at = 0; bytes = PROGRAM } ∷ []) }
-{
-    let bytes = Sequence::from_vec(Vec::from_slice(alloc, &PROGRAM)?);
-    Ok(vec![in alloc; Image { at: 0, bytes }]?)
-}
-
-fn started(alloc: Global, plan: &RackPlan, commands: &[Command]) -> Result<Machine, NoMemory>
-    requires fit { IsFit plan.now }
-    requires images { FitImages plan.now.images (record { at = 0; bytes = PROGRAM } ∷ []) }
-    requires commands { length commands.now ≤ 1000000 }
-{
-    let images = images_in(alloc)?;
-    let machine = Machine::start(alloc, plan, images.as_slice(), commands)?;
-    Ok(machine)
-}
+/// A blade, four pages of each of two domains from page 16 on, and slots for two blocks; no page is mapped.
+const RACK: &str =
+    "format = 1\nslots = 1\nprotect = 2\noutliers = 0\nregion = 0\nmost = 0\nthreshold = 0\nblade = [{ frames = 1 }]\nmemory = [{ spare = 0, homes = [{ domain = 0, page = 16, pages = 4 }, { domain = 1, page = 16, pages = 4 }] }]\nimage = [{ name = \"a.bin\", at = 0 }]\nthread = [{ blade = 0, domain = 0, image = 0, queue = 1 }, { blade = 0, domain = 1, image = 0, queue = 1 }]\n";
 
 fn machine_of(alloc: Global, commands: &[Command]) -> Result<Machine, Fail>
     requires { length commands.now ≤ 1000000 }
 {
-    let plan = plan_of(alloc, name_in(alloc)?)?;
-    Ok(started(alloc, &plan, commands)?)
+    let plan = plan_in(alloc, RACK)?;
+    let images = images_in(alloc, plan.images.as_slice(), &[&PROGRAM])?;
+    let machine = Machine::start(alloc, &plan, images.as_slice(), commands)?;
+    Ok(machine)
 }
 
 /// The number of the first row whose label is not enabled as it says; None where there is none.
