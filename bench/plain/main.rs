@@ -3179,20 +3179,8 @@ impl<'a> Rack<'a> {
                 return self.log.exec(number);
             }
         }
-        if !blade.has_asked(page) {
-            hart.awaited = Some(access);
-            blade.asked.push(Asked {
-                page,
-                hart: number,
-                waiter: Waiter::Step,
-            });
-            self.net.send(
-                self.plan.links.up(hart.blade),
-                Message::Get {
-                    page,
-                    write: access.writes(),
-                },
-            );
+        if self.ask(number, Waiter::Step, page, access.writes()) {
+            self.harts[usize::from(number)].awaited = Some(access);
         }
     }
 
@@ -3212,18 +3200,21 @@ impl<'a> Rack<'a> {
                 return self.log.drain(number);
             }
         }
-        if !blade.has_asked(page) {
-            hart.drain_waits = true;
-            blade.asked.push(Asked {
-                page,
-                hart: number,
-                waiter: Waiter::Drain,
-            });
-            self.net.send(
-                self.plan.links.up(hart.blade),
-                Message::Get { page, write: true },
-            );
+        let asked = self.ask(number, Waiter::Drain, page, true);
+        self.harts[usize::from(number)].drain_waits = asked;
+    }
+
+    /// The blade of a hart asks for a page, unless that was done; whether it was not.
+    fn ask(&mut self, hart: u8, waiter: Waiter, page: Page, write: bool) -> bool {
+        let number = self.harts[usize::from(hart)].blade;
+        let blade = &mut self.blades[usize::from(number)];
+        if blade.has_asked(page) {
+            return false;
         }
+        blade.asked.push(Asked { page, hart, waiter });
+        self.net
+            .send(self.plan.links.up(number), Message::Get { page, write });
+        true
     }
 
     fn evict(&mut self, blade: u8, page: Page) {
