@@ -2,3 +2,4 @@ pub mod Blocks
 pub mod Digits
 pub mod Files
 pub mod SameRange
+pub mod StoredBytes

@@ -1,5 +1,8 @@
 //! A store that waits in a buffer.
 
+ghost use Rattle.std.specs.Prelude.{◌≡◌, None, Some, if◌then◌else◌};
+ghost use Rattle.mind_base.specs.Pending.{covers, byte_at};
+
 use std::marker::Model;
 
 /// A store that waits in a thread's queue: `size` bytes, 1, 2 or 4, at an address that is a multiple
@@ -21,4 +24,18 @@ impl Model for Pending {
     ghost invariant = { λ p. IsPending p.address p.size };
 
     ghost inverse = { λ v. record { address = v.address; size = v.size; value = v.value } };
+}
+
+impl Pending {
+    /// The byte that the store has at an address, where it covers it.
+    pub fn covered_byte(&self, address: u32) -> Option<u8>
+        ensures { result ≡ (if covers self.now address then Some (byte_at self.now address) else None) }
+    {
+        if self.address <= address && address - self.address < self.size as u32 {
+            let bytes = self.value.to_le_bytes();
+            Some(bytes[(address - self.address) as usize])
+        } else {
+            None
+        }
+    }
 }
