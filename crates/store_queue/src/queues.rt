@@ -1,8 +1,8 @@
 //! The stores of a hart that wait, oldest first.
 
-ghost use Rattle.std.specs.Prelude.{◌≡◌, ◌+◌, ◌<◌, ◌≤◌, ◌↔◌, [], ◌∷◌, ◌++◌, length, drop, slice_get, None, Some, IsTrue, IsFalse, IsNone, IfSome, IfNone, All, IfOk, IsErr, OnOk, IfErr, OnErr, if◌then◌else◌};
+ghost use Rattle.std.specs.Prelude.{◌≡◌, ◌+◌, ◌<◌, ◌≤◌, ◌↔◌, [], ◌∷◌, ◌++◌, length, drop, slice_get, IsTrue, IsFalse, IsNone, IfSome, IfNone, All, IfOk, IsErr, OnOk, IfErr, OnErr};
 ghost use Rattle.std.specs.List.{list_any};
-ghost use Rattle.mind_base.specs.Pending.{covers, byte_at, newest_byte as newest_byte_of};
+ghost use Rattle.mind_base.specs.Pending.{covers, newest_byte as newest_byte_of};
 ghost use Rattle.store_queue.specs.StoreQueue.{IsStoreQueue, IsNewestByte, store_lies_in};
 
 use circular_buffer::HeapCircularBuffer;
@@ -103,7 +103,7 @@ impl StoreQueue {
     {
         let mut byte = None;
         for store in self.stores.iter() {
-            if let Some(newer) = byte_of(store, address) {
+            if let Some(newer) = store.covered_byte(address) {
                 byte = Some(newer);
             }
         }
@@ -133,16 +133,4 @@ fn lies_in(store: &Pending, base: u32, pages: u32) -> bool
         pages,
     };
     span.has(Page::of(0, store.address))
-}
-
-/// The byte that a store has at an address, where it covers it.
-fn byte_of(store: &Pending, address: u32) -> Option<u8>
-    ensures { result ≡ (if covers store.now address then Some (byte_at store.now address) else None) }
-{
-    if store.address <= address && address - store.address < store.size as u32 {
-        let bytes = store.value.to_le_bytes();
-        Some(bytes[(address - store.address) as usize])
-    } else {
-        None
-    }
 }
