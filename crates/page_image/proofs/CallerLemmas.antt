@@ -1,10 +1,11 @@
 -- What a caller's proof cites: which bytes a number is made of, and each byte of an image after a store.
-use Rattle.std.proofs.Common.{◌≡◌, ℕ, zero, suc, ◌+◌, ◌-◌, ◌*◌, ◌^◌, ◌<◌, ◌≤◌, ◌⊎◌, inl, inr, List, length, take, drop, get_or, refl, ap, ◌∙◌, arith}
+use Rattle.std.proofs.Common.{◌≡◌, ℕ, ◌+◌, ◌-◌, ◌*◌, ◌^◌, ◌<◌, ◌≤◌, ◌⊎◌, inl, inr, List, length, take, drop, get_or, ap, ◌∙◌, arith}
 use Rattle.std.specs.Int.{w32, to_le_bytes}
 use Rattle.std.proofs.lemmas.List.{get_or-take, get_or-drop, get_or_past, length-take, length-take-le, get_or_append_left, get_or-append_right}
 use Rattle.mind_base.specs.Pending.{byte_number}
+use Rattle.mind_base.proofs.StoredBytes.{size_le_4, get_or-to_le_bytes}
 use Rattle.page_image.specs.PageImage.{PageImageView, IsPageImage, IsInside, number_at, image_after}
-use Rattle.page_image.proofs.Laws.{end_inside, size_le_4}
+use Rattle.page_image.proofs.Laws.{end_inside}
 
 -- past the first n of a list there is nothing
 get_or-past_take : (n i : ℕ) (l : List ℕ) → n ≤ i → get_or (take n l) i 0 ≡ 0
@@ -37,20 +38,12 @@ number_at-4 image offset =
     let first : get_or (take 4 run) 0 0 ≡ get_or image.bytes offset 0 = get_or-run image.bytes offset 4 0 (omega arith) ∙ ap (λ k. get_or image.bytes k 0) (omega arith) in
     rw (get_or-run image.bytes offset 4 1 (omega arith), get_or-run image.bytes offset 4 2 (omega arith), get_or-run image.bytes offset 4 3 (omega arith), first) (omega arith)
 
--- byte i of a value, the lowest first
-get_or-to_le_bytes : (value i : ℕ) → i < 4 → get_or (to_le_bytes w32 value) i 0 ≡ byte_number value i
-get_or-to_le_bytes value zero h = omega arith
-get_or-to_le_bytes value (suc zero) h = refl
-get_or-to_le_bytes value (suc (suc zero)) h = refl
-get_or-to_le_bytes value (suc (suc (suc zero))) h = refl
-get_or-to_le_bytes value (suc (suc (suc (suc i)))) h = absurd (omega arith)
-
 -- a byte that a store covers is that of its value
 pub get_or-image_after-inside : (image : PageImageView) (offset size value tag k : ℕ) → IsPageImage image → IsInside offset size → offset ≤ k → k < offset + size → get_or (image_after image offset size value tag).bytes k 0 ≡ byte_number value (k - offset)
 unfolding image_after
 get_or-image_after-inside image offset size value tag k is inside from below =
     let end : offset + size ≤ 4096 = end_inside offset size inside in
-    let short : size ≤ 4 = size_le_4 offset size inside in
+    let short : size ≤ 4 = size_le_4 offset size inside.aligned in
     let before : length (take offset image.bytes) ≡ offset = length-take-le offset image.bytes (rw is.byte_count (omega arith)) in
     let new : length (take size (to_le_bytes w32 value)) ≡ size = length-take-le size (to_le_bytes w32 value) short in
     get_or-append_right (take offset image.bytes) _ offset k 0 before from
@@ -67,7 +60,7 @@ get_or-image_after-outside image offset size value tag k is inside (inl low) =
     get_or_append_left (take offset image.bytes) _ 0 k (rw before low) ∙ get_or-take offset image.bytes k 0 low
 get_or-image_after-outside image offset size value tag k is inside (inr high) =
     let end : offset + size ≤ 4096 = end_inside offset size inside in
-    let short : size ≤ 4 = size_le_4 offset size inside in
+    let short : size ≤ 4 = size_le_4 offset size inside.aligned in
     let before : length (take offset image.bytes) ≡ offset = length-take-le offset image.bytes (rw is.byte_count (omega arith)) in
     let new : length (take size (to_le_bytes w32 value)) ≡ size = length-take-le size (to_le_bytes w32 value) short in
     get_or-append_right (take offset image.bytes) _ offset k 0 before (omega arith)

@@ -1,5 +1,5 @@
 -- What callers' proofs cite of the definitions of an image.
-use Rattle.std.proofs.Common.{◌≡◌, ℕ, zero, suc, ◌+◌, ◌-◌, ◌*◌, ◌/◌, ◌%◌, ◌^◌, ◌<◌, ◌≤◌, ◌⊎◌, inl, inr, List, [], ◌∷◌, ◌++◌, length, take, drop, replicate, get_or, set, refl, sym, ap, subst, ◌∙◌, arith, All, length-append, length-drop}
+use Rattle.std.proofs.Common.{◌≡◌, ℕ, zero, suc, ◌+◌, ◌-◌, ◌*◌, ◌/◌, ◌^◌, ◌<◌, ◌≤◌, List, [], ◌∷◌, ◌++◌, length, take, drop, replicate, get_or, set, refl, sym, ap, subst, ◌∙◌, arith, All, length-append, length-drop}
 use Rattle.std.specs.Int.{w32, w64, from_le_bytes, to_le_bytes, from_be_bytes, to_be_bytes, byte_at, bytes_low_first}
 use Rattle.std.specs.List.{flat_map}
 use Rattle.std.proofs.lemmas.List.{get_or-replicate, length-replicate, length-take-le, get_or-drop, flat_map_more, take-append-drop}
@@ -8,23 +8,12 @@ use Rattle.std.proofs.Math.ListN.{length-set}
 use Rattle.std.proofs.Math.Seq.{take-add, take-append_seam, drop-append_seam}
 use Rattle.std.proofs.lemmas.Nat.{from_be_bytes-to_be_bytes_8}
 use Rattle.std.proofs.lemmas.Grind.{get_or_default_zero}
+use Rattle.mind_base.proofs.StoredBytes as stored
 use Rattle.page_image.specs.PageImage.{PageImageView, IsPageImage, IsInside, number_at, image_after, zero_image, spelling_of}
 
 -- an access ends inside the page
 pub end_inside : (offset size : ℕ) → IsInside offset size → offset + size ≤ 4096
-end_inside offset size h = by_size h.aligned.0 h.aligned.1 where
-  by_size : (size ≡ 1) ⊎ ((size ≡ 2) ⊎ (size ≡ 4)) → offset % size ≡ 0 → offset + size ≤ 4096
-  by_size (inl one) even = let inside : offset < 4096 = h.inside in omega arith
-  by_size (inr (inl two)) even = let inside : offset < 4096 = h.inside in let halves : offset % 2 ≡ 0 = rw two at even in omega arith
-  by_size (inr (inr four)) even = let inside : offset < 4096 = h.inside in let quarters : offset % 4 ≡ 0 = rw four at even in omega arith
-
--- an access has at most 4 bytes
-pub size_le_4 : (offset size : ℕ) → IsInside offset size → size ≤ 4
-size_le_4 offset size h = by_size h.aligned.0 where
-  by_size : (size ≡ 1) ⊎ ((size ≡ 2) ⊎ (size ≡ 4)) → size ≤ 4
-  by_size (inl one) = omega arith
-  by_size (inr (inl two)) = omega arith
-  by_size (inr (inr four)) = omega arith
+end_inside offset size h = omega (arith, h.inside, stored.end_inside offset size h.aligned)
 
 -- zeros behind the bytes of a number change nothing
 get_or-zeros : (xs zeros : List ℕ) → ((k : ℕ) → get_or zeros k 0 ≡ 0) → (i : ℕ) → get_or (xs ++ zeros) i 0 ≡ get_or xs i 0
@@ -54,7 +43,7 @@ pub length-write : (bytes : List ℕ) (offset size value : ℕ) → length bytes
 length-write bytes offset size value count inside =
     let end : offset + size ≤ 4096 = end_inside offset size inside in
     let before : length (take offset bytes) ≡ offset = length-take-le offset bytes (rw count (omega arith)) in
-    let new : length (take size (to_le_bytes w32 value)) ≡ size = length-take-le size (to_le_bytes w32 value) (size_le_4 offset size inside) in
+    let new : length (take size (to_le_bytes w32 value)) ≡ size = length-take-le size (to_le_bytes w32 value) (stored.size_le_4 offset size inside.aligned) in
     let after : length (drop (offset + size) bytes) ≡ 4096 - (offset + size) = length-drop (offset + size) bytes ∙ rw count refl in
     simp length-append (rw (before, new, after) (omega arith))
 
