@@ -1,5 +1,5 @@
 -- The bytes of a domain after a store, and after some of its pages become zero.
-use Rattle.std.proofs.Common.{◌≡◌, ℕ, zero, suc, ◌+◌, ◌-◌, ◌/◌, ◌%◌, ◌<◌, ◌≤◌, ◌⊎◌, inl, inr, Bool, true, false, ◌||◌, cond, eqb, leb, ltb, nat_cmp, List, length, take, replicate, get_or, Option, Some, None, refl, ap, sym, ◌∙◌, arith}
+use Rattle.std.proofs.Common.{◌≡◌, ℕ, zero, ◌+◌, ◌-◌, ◌/◌, ◌%◌, ◌<◌, ◌≤◌, ◌⊎◌, inl, inr, Bool, true, false, ◌||◌, cond, eqb, leb, ltb, nat_cmp, List, length, take, replicate, get_or, Option, Some, None, refl, ap, sym, ◌∙◌, arith}
 use Rattle.std.specs.Int.{w32, to_le_bytes}
 use Rattle.std.specs.Map.{lookup}
 use Rattle.std.specs.List.{filter}
@@ -11,32 +11,9 @@ use Rattle.std.proofs.lemmas.List.{get_or-take, get_or-replicate, get_or_past, l
 use Rattle.std.proofs.lemmas.Map.Entries.{lookup-filter-keys}
 use Rattle.mind_base.specs.Page.{page_number_at, page_offset_at}
 use Rattle.mind_base.specs.Pending.{PendingView, IsPending, byte_number}
+use Rattle.mind_base.proofs.StoredBytes.{end_inside, size_le_4, get_or-to_le_bytes}
 use Rattle.flat_memory.specs.FlatMemory.{byte_among, stored_among, zeroed_among, written}
 use Rattle.flat_memory.proofs.Pages.{between-in, between-out}
-
--- a store ends inside its page
-pub end_inside : (address size : ℕ) → IsPending address size → address % 4096 + size ≤ 4096
-end_inside address size h = by_size h.0 h.1 where
-  by_size : (size ≡ 1) ⊎ ((size ≡ 2) ⊎ (size ≡ 4)) → address % size ≡ 0 → address % 4096 + size ≤ 4096
-  by_size (inl one) even = omega arith
-  by_size (inr (inl two)) even = let halves : address % 2 ≡ 0 = rw two at even in omega arith
-  by_size (inr (inr four)) even = let quarters : address % 4 ≡ 0 = rw four at even in omega arith
-
--- a store has at most 4 bytes
-pub size_le_4 : (address size : ℕ) → IsPending address size → size ≤ 4
-size_le_4 address size h = by_size h.0 where
-  by_size : (size ≡ 1) ⊎ ((size ≡ 2) ⊎ (size ≡ 4)) → size ≤ 4
-  by_size (inl one) = omega arith
-  by_size (inr (inl two)) = omega arith
-  by_size (inr (inr four)) = omega arith
-
--- byte i of a value, the lowest first
-get_or-to_le_bytes : (value i : ℕ) → i < 4 → get_or (to_le_bytes w32 value) i 0 ≡ byte_number value i
-get_or-to_le_bytes value zero h = omega arith
-get_or-to_le_bytes value (suc zero) h = refl
-get_or-to_le_bytes value (suc (suc zero)) h = refl
-get_or-to_le_bytes value (suc (suc (suc zero))) h = refl
-get_or-to_le_bytes value (suc (suc (suc (suc i)))) h = absurd (omega arith)
 
 -- a byte of a page over which the bytes of a store are written
 written-stored : (byte : ℕ → ℕ) (store : PendingView) (page bytes : List ℕ) (a : ℕ) → IsPending store.address store.size → bytes ≡ take store.size (to_le_bytes w32 store.value) → a / 4096 ≡ store.address / 4096 → get_or page (a % 4096) 0 ≡ byte a → written page (store.address % 4096) bytes (a % 4096) ≡ stored_among byte store a
