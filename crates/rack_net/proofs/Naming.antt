@@ -1,6 +1,7 @@
 -- Names and places of links.
-use Rattle.std.proofs.Common.{◌≡◌, ℕ, zero, suc, ◌+◌, ◌*◌, ◌<◌, true, false, refl, sym, ap, ◌∙◌, arith, inl, inr, ◌⊎◌, eq-eqb}
+use Rattle.std.proofs.Common.{◌≡◌, ℕ, zero, suc, ◌+◌, ◌*◌, ◌%◌, ◌<◌, cond, ltb, true, false, refl, sym, ap, subst, ◌∙◌, arith, inl, inr, ◌⊎◌, eq-eqb}
 use Rattle.std.proofs.lemmas.Bool.{cases_eq, ne_eqb}
+use Rattle.std.proofs.lemmas.Bool.Decides.{nat_tests}
 use Rattle.mind_base.specs.declared.links.LinkKind.{LinkKind}
 use Rattle.mind_base.specs.declared.links.LinkKind.TheVariants.{Up, Down, To, From}
 use Rattle.mind_base.specs.declared.links.LinkName.{LinkName}
@@ -16,30 +17,6 @@ below blades memories number From h = omega arith
 pub place-below : (blades memories : ℕ) (name : LinkName) → name.number < links_of_kind blades memories name.kind → link_place blades name < 2 * (blades + memories)
 place-below blades memories name h = below blades memories name.number name.kind h
 
-same_place : (blades memories m n : ℕ) (a b : LinkKind) → m < links_of_kind blades memories a → n < links_of_kind blades memories b → first_place blades a + 2 * m ≡ first_place blades b + 2 * n → (a ≡ b) × (m ≡ n)
-same_place blades memories m n Up Up p q e = (refl, omega arith)
-same_place blades memories m n Up Down p q e = absurd (omega arith)
-same_place blades memories m n Up To p q e = absurd (omega arith)
-same_place blades memories m n Up From p q e = absurd (omega arith)
-same_place blades memories m n Down Up p q e = absurd (omega arith)
-same_place blades memories m n Down Down p q e = (refl, omega arith)
-same_place blades memories m n Down To p q e = absurd (omega arith)
-same_place blades memories m n Down From p q e = absurd (omega arith)
-same_place blades memories m n To Up p q e = absurd (omega arith)
-same_place blades memories m n To Down p q e = absurd (omega arith)
-same_place blades memories m n To To p q e = (refl, omega arith)
-same_place blades memories m n To From p q e = absurd (omega arith)
-same_place blades memories m n From Up p q e = absurd (omega arith)
-same_place blades memories m n From Down p q e = absurd (omega arith)
-same_place blades memories m n From To p q e = absurd (omega arith)
-same_place blades memories m n From From p q e = (refl, omega arith)
-
--- links of the rack that stand at one place have one name
-pub one_name : (blades memories : ℕ) (a b : LinkName) → a.number < links_of_kind blades memories a.kind → b.number < links_of_kind blades memories b.kind → link_place blades a ≡ link_place blades b → a ≡ b
-one_name blades memories a b p q e =
-    let same = same_place blades memories a.number b.number a.kind b.kind p q e in
-    λ i. record { kind = same.0 i; number = same.1 i }
-
 abbrev kind_with : ℕ → LinkKind
 kind_with zero = Up
 kind_with (suc zero) = Down
@@ -54,6 +31,26 @@ kind_with-number From = refl
 
 one_kind : (a b : LinkKind) → kind_number a ≡ kind_number b → a ≡ b
 one_kind a b e = sym (kind_with-number a) ∙ ap kind_with e ∙ kind_with-number b
+
+-- the number of the kind of the link that stands at a place
+abbrev number_at : ℕ → ℕ → ℕ
+number_at blades place = cond (ltb place (2 * blades)) (place % 2) (2 + place % 2)
+
+number-there : (blades memories number : ℕ) (kind : LinkKind) → number < links_of_kind blades memories kind → kind_number kind ≡ number_at blades (first_place blades kind + 2 * number)
+number-there blades memories number Up h = grind (arith, nat_tests)
+number-there blades memories number Down h = grind (arith, nat_tests)
+number-there blades memories number To h = grind (arith, nat_tests)
+number-there blades memories number From h = grind (arith, nat_tests)
+
+one_number : (first m n : ℕ) → first + 2 * m ≡ first + 2 * n → m ≡ n
+one_number first m n e = omega arith
+
+-- links of the rack that stand at one place have one name
+pub one_name : (blades memories : ℕ) (a b : LinkName) → a.number < links_of_kind blades memories a.kind → b.number < links_of_kind blades memories b.kind → link_place blades a ≡ link_place blades b → a ≡ b
+one_name blades memories a b p q e =
+    let kind : a.kind ≡ b.kind = one_kind a.kind b.kind (number-there blades memories a.number a.kind p ∙ ap (number_at blades) e ∙ sym (number-there blades memories b.number b.kind q)) in
+    let number = one_number _ a.number b.number (subst (λ (k : LinkKind). link_place blades a ≡ first_place blades k + 2 * b.number) (sym kind) e) in
+    λ i. record { kind = kind i; number = number i }
 
 -- the test decides whether two names are one
 pub same-or-not : (a b : LinkName) → ((same_link a b ≡ true) × (a ≡ b)) ⊎ ((same_link a b ≡ false) × (a ≡ b → ⊥))

@@ -2,7 +2,8 @@
 
 ghost use Rattle.std.specs.Prelude.{◌≡◌, replicate, IfOk};
 ghost use Rattle.link_retry.specs.Link.{new_link};
-ghost use Rattle.rack_net.specs.Kept.{FindsBusy, FindsKeeping, FindsSide, AreKeptLinks};
+ghost use Rattle.rack_net.specs.Net.{IsNet};
+ghost use Rattle.rack_net.specs.Kept.{FindsBusy, FindsKeeping, FindsSide, AreKeptLinks, net_view};
 
 use link_retry::Link;
 use mind_base::{NoMemory, Side};
@@ -22,6 +23,7 @@ pub(crate) fn empty_links(alloc: Global, count: usize) -> Result<Vec<Link>, NoMe
 /// Lets all links go.
 pub(crate) fn give_up(blades: &mut u8, memories: &mut u8, links: &mut Vec<Link>)
     ensures kept { AreKeptLinks blades.new memories.new links.new.items }
+    ensures net { IsNet (net_view blades.new memories.new links.new.items) }
 {
     *blades = 0;
     *memories = 0;

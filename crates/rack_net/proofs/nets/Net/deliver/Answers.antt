@@ -4,7 +4,7 @@ use Rattle.link_retry.specs.GoBackN.{DeliversInOrder}
 use Rattle.wire_msg.specs.Spelling.{spelling}
 use Rattle.rack_net.specs.Net.{spelled}
 use Rattle.rack_net.specs.Kept.{net_view}
-use Rattle.rack_net.proofs.Putting.{Updates, updates, by-name, is-net}
+use Rattle.rack_net.proofs.Putting.{Updates, updates, by-name}
 use Rattle.rack_net.proofs.nets.Net.deliver.Goals as goal
 
 step : (c : goal.In-Ok) → Updates c.args.self.now (net_view c.self.inside.blades c.self.inside.memories (set c.self.inside.links.items c.place-at.result c.deliver_on.new.link)) c.args.link c.index_mut.result.now c.deliver_on.new.link
@@ -24,6 +24,3 @@ returns-in-Ok-clause-only c = (step c).only
 
 pub returns-in-Ok-clause-net : goal.returns-in-Ok-clause-net
 returns-in-Ok-clause-net c = (step c).net
-
-pub returns-in-Err-clause-net : goal.returns-in-Err-clause-net
-returns-in-Err-clause-net c = is-net _ _ _ c.give_up.ensures.kept
