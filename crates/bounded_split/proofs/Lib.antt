@@ -1,4 +1,4 @@
-pub mod Ending
 pub mod Merging
 pub mod Splitting
 pub mod Turning
+pub mod Walking

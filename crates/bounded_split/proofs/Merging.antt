@@ -1,4 +1,4 @@
--- How the loop over the merges stands to their definition: what is still to do from here was what was to do at first.
+-- The loop over the merges: what each does to the list, and what is still to do behind it.
 use Rattle.std.proofs.Common.{◌≡◌, ℕ, ◌+◌, ◌-◌, ◌<◌, ◌≤◌, Option, Some, None, List, [], ◌∷◌, ◌++◌, length, take, drop, slice_get, refl, ap, sym, subst, ◌∙◌, zero, suc, arith, append_assoc}
 use Rattle.std.specs.Option.{option_and_then, option_map_or}
 use Rattle.std.proofs.lemmas.List.{append-nil}
@@ -8,14 +8,7 @@ use Rattle.region_directory.specs.Directory.{DirectoryView}
 use Rattle.region_directory.specs.Merge.{merged_entry, merge_of, with_merge}
 use Rattle.region_directory.specs.declared.entries.Entry.{Entry}
 use Rattle.bounded_split.specs.Epoch.{Stays, Merges, cold_merge, cold_at, merge_noted, turns_behind, merged_turns, entries_left, merge_notes, turns_of_merges}
-use Rattle.bounded_split.proofs.Ending.{ends}
-
--- what becomes of the list when the merges from entry i on are still to be done, and their notes
-abbrev pub left_from : ℕ → ℕ → List Entry → ℕ → List Entry
-left_from t m es i = take i es ++ entries_left (merged_turns t m (drop i es))
-
-abbrev pub notes_from : ℕ → ℕ → List Entry → ℕ → List Note
-notes_from t m es i = merge_notes (merged_turns t m (drop i es))
+use Rattle.bounded_split.proofs.Walking.{IsWalking, left_from, notes_from, walking-stays, walking-turns}
 
 abbrev pub pair_at : ℕ → ℕ → List Entry → ℕ → Option Entry
 pair_at t m es i = option_and_then (λ lower. option_and_then (cold_merge t m lower) (slice_get es (suc i))) (slice_get es i)
@@ -30,13 +23,13 @@ turns-merge : (t m : ℕ) (a b w : Entry) (es : List Entry) → cold_merge t m a
 turns-merge t m a b w es e =
     ap (λ (o : Option Entry). option_map_or (λ whole. Merges whole ∷ turns_behind t m None es) o (Stays a ∷ turns_behind t m (Some b) es)) e
 
-stay-left : (t m : ℕ) (es : List Entry) (i : ℕ) → i < length es → pair_at t m es i ≡ None → left_from t m es (suc i) ≡ left_from t m es i
+stay-left : (t m : ℕ) (es : List Entry) (i : ℕ) → i < length es → pair_at t m es i ≡ None → left_from (merged_turns t m) es (suc i) ≡ left_from (merged_turns t m) es i
 stay-left t m [] i lt e = absurd (omega arith)
 stay-left t m (a ∷ []) zero lt e = refl
 stay-left t m (a ∷ b ∷ es) zero lt e = sym (ap entries_left (turns-stay t m a b es e))
 stay-left t m (a ∷ es) (suc i) lt e = ap (λ xs. a ∷ xs) (stay-left t m es i (omega arith) e)
 
-stay-notes : (t m : ℕ) (es : List Entry) (i : ℕ) → i < length es → pair_at t m es i ≡ None → notes_from t m es (suc i) ≡ notes_from t m es i
+stay-notes : (t m : ℕ) (es : List Entry) (i : ℕ) → i < length es → pair_at t m es i ≡ None → notes_from merge_notes (merged_turns t m) es (suc i) ≡ notes_from merge_notes (merged_turns t m) es i
 stay-notes t m [] i lt e = absurd (omega arith)
 stay-notes t m (a ∷ []) zero lt e = refl
 stay-notes t m (a ∷ b ∷ es) zero lt e = sym (ap merge_notes (turns-stay t m a b es e))
@@ -45,13 +38,13 @@ stay-notes t m (a ∷ es) (suc i) lt e = stay-notes t m es i (omega arith) e
 abbrev pub one_at : ℕ → Entry → List Entry → List Entry
 one_at i w es = take i es ++ w ∷ drop (suc (suc i)) es
 
-merge-left : (t m : ℕ) (es : List Entry) (i : ℕ) (w : Entry) → i < length es → pair_at t m es i ≡ Some w → left_from t m (one_at i w es) (suc i) ≡ left_from t m es i
+merge-left : (t m : ℕ) (es : List Entry) (i : ℕ) (w : Entry) → i < length es → pair_at t m es i ≡ Some w → left_from (merged_turns t m) (one_at i w es) (suc i) ≡ left_from (merged_turns t m) es i
 merge-left t m [] i w lt e = absurd (omega arith)
 merge-left t m (a ∷ []) zero w lt e = absurd (cc)
 merge-left t m (a ∷ b ∷ es) zero w lt e = sym (ap entries_left (turns-merge t m a b w es e))
 merge-left t m (a ∷ es) (suc i) w lt e = ap (λ xs. a ∷ xs) (merge-left t m es i w (omega arith) e)
 
-merge-noted : (t m : ℕ) (es : List Entry) (i : ℕ) (w : Entry) → i < length es → pair_at t m es i ≡ Some w → note.Merge w.range ∷ notes_from t m (one_at i w es) (suc i) ≡ notes_from t m es i
+merge-noted : (t m : ℕ) (es : List Entry) (i : ℕ) (w : Entry) → i < length es → pair_at t m es i ≡ Some w → note.Merge w.range ∷ notes_from merge_notes (merged_turns t m) (one_at i w es) (suc i) ≡ notes_from merge_notes (merged_turns t m) es i
 merge-noted t m [] i w lt e = absurd (omega arith)
 merge-noted t m (a ∷ []) zero w lt e = absurd (cc)
 merge-noted t m (a ∷ b ∷ es) zero w lt e = sym (ap merge_notes (turns-merge t m a b w es e))
@@ -70,27 +63,9 @@ merge-within t m (a ∷ b ∷ es) zero w lt e = omega arith
 merge-within t m (a ∷ es) (suc i) w lt e = omega (arith, merge-within t m es i w (omega arith) e)
 
 -- where the loop stands: the directory and the log as they are, how much room there is, and how many were merged
-pub record IsMerging (t : ℕ) (first now : DirectoryView) (before notes : List Note) (spare i merges : ℕ) : Type 0 where
-  pub slots : now.slots ≡ first.slots
-  pub most : now.most ≡ first.most
-  pub left : left_from t first.most now.entries i ≡ entries_left (turns_of_merges t first)
-  pub noted : notes ++ notes_from t first.most now.entries i ≡ before ++ merge_notes (turns_of_merges t first)
-  pub count : merges + length (notes_from t first.most now.entries i) ≡ length (merge_notes (turns_of_merges t first))
-  pub room : length now.entries ≤ spare
-  pub few : merges ≤ i
-  pub within : i ≤ length now.entries
-
-pub merging-start : (t : ℕ) (d : DirectoryView) (notes : List Note) (spare : ℕ) → length d.entries ≤ spare → IsMerging t d d notes notes spare 0 0
-merging-start t d notes spare room = record {
-  slots = refl;
-  most = refl;
-  left = refl;
-  noted = refl;
-  count = omega arith;
-  room = room;
-  few = omega arith;
-  within = omega arith;
-}
+abbrev pub IsMerging : ℕ → DirectoryView → DirectoryView → List Note → List Note → ℕ → ℕ → ℕ → Type 0
+IsMerging t first now before notes spare i merges =
+    IsWalking (merged_turns t first.most) merge_notes (turns_of_merges t first) first now before notes spare i merges
 
 pair-same : (t m : ℕ) (d : DirectoryView) (i : ℕ) (o : Option Entry) → d.most ≡ m → cold_at t d i ≡ o → pair_at t m d.entries i ≡ o
 pair-same t m d i o e c =
@@ -98,46 +73,24 @@ pair-same t m d i o e c =
     sym (ap (λ (k : ℕ). option_and_then (λ (lower : Entry). option_and_then (cold_merge t m lower) (slice_get d.entries k)) (slice_get d.entries i)) n)
     ∙ sym (ap (λ (k : ℕ). option_and_then (λ (lower : Entry). option_and_then (cold_merge t k lower) (slice_get d.entries (i + 1))) (slice_get d.entries i)) e) ∙ c
 
-pub merging-stays : (t : ℕ) (first now : DirectoryView) (before notes : List Note) (spare less i merges : ℕ) → IsMerging t first now before notes spare i merges → i < length now.entries → cold_at t now i ≡ None → spare ≤ less → IsMerging t first now before notes less (i + 1) merges
+merging-stays : (t : ℕ) (first now : DirectoryView) (before notes : List Note) (spare less i merges : ℕ) → IsMerging t first now before notes spare i merges → i < length now.entries → cold_at t now i ≡ None → spare ≤ less → IsMerging t first now before notes less (i + 1) merges
 merging-stays t first now before notes spare less i merges h lt none room =
-    let n : suc i ≡ i + 1 = omega arith in
     let pair = pair-same t first.most now i None h.most none in
-    let same : notes_from t first.most now.entries (suc i) ≡ notes_from t first.most now.entries i = stay-notes t first.most now.entries i lt pair in
-    subst (λ (k : ℕ). IsMerging t first now before notes less k merges) n (record {
-      slots = h.slots;
-      most = h.most;
-      left = stay-left t first.most now.entries i lt pair ∙ h.left;
-      noted = ap (λ xs. notes ++ xs) same ∙ h.noted;
-      count = ap (λ xs. merges + length xs) same ∙ h.count;
-      room = omega (arith, h.room, room);
-      few = omega (arith, h.few);
-      within = omega arith;
-    })
+    walking-stays _ _ _ first now before notes spare less i merges h lt (stay-left t first.most now.entries i lt pair) (stay-notes t first.most now.entries i lt pair) room
 
-pub merging-merges : (t : ℕ) (first now next : DirectoryView) (before notes after : List Note) (spare less i merges : ℕ) (w : Entry) → IsMerging t first now before notes spare i merges → i < length now.entries → cold_at t now i ≡ Some w
+merging-merges : (t : ℕ) (first now next : DirectoryView) (before notes after : List Note) (spare less i merges : ℕ) (w : Entry) → IsMerging t first now before notes spare i merges → i < length now.entries → cold_at t now i ≡ Some w
     → next ≡ record now { entries = with_merge i (Some w) now.entries } → after ≡ notes ++ note.Merge w.range ∷ [] → spare ≤ less + 1 → IsMerging t first next before after less (i + 1) (merges + 1)
 merging-merges t first now next before notes after spare less i merges w h lt some e f room =
     let n : suc i ≡ i + 1 = omega arith in
     let m : i + 2 ≡ suc (suc i) = omega arith in
     let pair = pair-same t first.most now i (Some w) h.most some in
-    let made : DirectoryView = record now { entries = one_at i w now.entries } in
-    let shown : next ≡ made = e ∙ ap (λ (k : ℕ). record now { entries = take i now.entries ++ w ∷ drop k now.entries }) m in
-    let noted = merge-noted t first.most now.entries i w lt pair in
     let fewer = merge-fewer t first.most now.entries i w lt pair in
-    let rest = notes_from t first.most (one_at i w now.entries) (suc i) in
+    let shown : next ≡ record now { entries = one_at i w now.entries } = e ∙ ap (λ (k : ℕ). record now { entries = take i now.entries ++ w ∷ drop k now.entries }) m in
     subst (λ (k : ℕ). IsMerging t first next before after less k (merges + 1)) n
-    (subst (λ (d : DirectoryView). IsMerging t first d before after less (suc i) (merges + 1)) (sym shown) (record {
-      slots = h.slots;
-      most = h.most;
-      left = merge-left t first.most now.entries i w lt pair ∙ h.left;
-      noted = ap (λ xs. xs ++ rest) f ∙ append_assoc notes (note.Merge w.range ∷ []) rest ∙ ap (λ xs. notes ++ xs) noted ∙ h.noted;
-      count = omega (arith, h.count, ap length noted);
-      room = omega (arith, h.room, fewer);
-      few = omega (arith, h.few);
-      within = merge-within t first.most now.entries i w lt pair;
-    }))
+    (subst (λ (d : DirectoryView). IsMerging t first d before after less (suc i) (merges + 1)) (sym shown)
+    (walking-turns _ (merged_turns t first.most) _ _ first now (one_at i w now.entries) before notes after (note.Merge w.range) spare less i (suc i) merges h
+    (merge-left t first.most now.entries i w lt pair) (merge-noted t first.most now.entries i w lt pair) f (omega (arith, h.room)) (omega arith) (merge-within t first.most now.entries i w lt pair)))
 
--- behind the last entry nothing is left to do
 -- one step of the loop
 pub merging-step : (t : ℕ) (first now next : DirectoryView) (before notes after : List Note) (spare less i merges added : ℕ) → IsMerging t first now before notes spare i merges → i < length now.entries
     → next ≡ record now { entries = with_merge i (cold_at t now i) now.entries } → after ≡ notes ++ merge_noted (cold_at t now i) → added ≡ length (merge_noted (cold_at t now i)) → spare ≤ less + added
@@ -145,16 +98,11 @@ pub merging-step : (t : ℕ) (first now next : DirectoryView) (before notes afte
 merging-step t first now next before notes after spare less i merges added h lt e f n room = by (cold_at t now i) refl e f n where
   by : (o : Option Entry) → cold_at t now i ≡ o → next ≡ record now { entries = with_merge i o now.entries } → after ≡ notes ++ merge_noted o → added ≡ length (merge_noted o) → IsMerging t first next before after less (i + 1) (merges + added)
   by None s e f n =
-      let none : added ≡ 0 = n in
-      let sum : merges ≡ merges + added = omega arith in
-      let here : IsMerging t first now before notes less (i + 1) merges = merging-stays t first now before notes spare less i merges h lt s (omega (arith, room, none)) in
-      let counted = subst (λ (k : ℕ). IsMerging t first now before notes less (i + 1) k) sum here in
-      let logged = subst (λ (xs : List Note). IsMerging t first now before xs less (i + 1) (merges + added)) (sym (f ∙ append-nil notes)) counted in
-      subst (λ (d : DirectoryView). IsMerging t first d before after less (i + 1) (merges + added)) (sym e) logged
+      let sum : merges + added ≡ merges = omega (arith, n) in
+      rw (e, f, append-nil, sum) (merging-stays t first now before notes spare less i merges h lt s (omega (arith, room, n)))
   by (Some w) s e f n =
-      let one : added ≡ 1 = n in
-      let sum : merges + 1 ≡ merges + added = omega arith in
-      subst (λ (k : ℕ). IsMerging t first next before after less (i + 1) k) sum (merging-merges t first now next before notes after spare less i merges w h lt s e f (omega arith))
+      let sum : merges + added ≡ merges + 1 = omega (arith, n) in
+      rw (sum) (merging-merges t first now next before notes after spare less i merges w h lt s e f (omega (arith, room, n)))
 
 pub noted-few : (o : Option Entry) → length (merge_noted o) ≤ 1
 noted-few None = omega arith
@@ -188,9 +136,3 @@ pub cold-last : (t : ℕ) (d : DirectoryView) (i : ℕ) (o : Option Entry) → s
 cold-last t d i None p q = ap (λ (o : Option Entry). option_and_then (λ (lower : Entry). option_and_then (cold_merge t d.most lower) (slice_get d.entries (i + 1))) o) p
 cold-last t d i (Some a) p q =
     ap (λ (o : Option Entry). option_and_then (λ (lower : Entry). option_and_then (cold_merge t d.most lower) (slice_get d.entries (i + 1))) o) p ∙ ap (λ (o : Option Entry). option_and_then (cold_merge t d.most a) o) q
-
-pub merging-ends : (t : ℕ) (first now : DirectoryView) (before notes : List Note) (spare i merges : ℕ) → IsMerging t first now before notes spare i merges → length now.entries ≤ i
-    → (now ≡ record first { entries = entries_left (turns_of_merges t first) }) × (notes ≡ before ++ merge_notes (turns_of_merges t first)) × (merges ≡ length (merge_notes (turns_of_merges t first)))
-merging-ends t first now before notes spare i merges h le =
-    ends first now (entries_left (turns_of_merges t first)) before notes (merge_notes (turns_of_merges t first)) i merges (λ xs. entries_left (merged_turns t first.most xs)) (λ xs. merge_notes (merged_turns t first.most xs))
-    refl refl le h.slots h.most h.left h.noted h.count

@@ -1,4 +1,4 @@
--- How the loop over the splits stands to their definition: what is still to do from here was what was to do at first.
+-- The loop over the splits: what each does to the list, and what is still to do behind it.
 use Rattle.std.proofs.Common.{◌≡◌, ℕ, ◌+◌, ◌-◌, ◌<◌, ◌≤◌, Option, Some, None, List, [], ◌∷◌, ◌++◌, length, get_or, take, drop, slice_get, refl, ap, sym, subst, ◌∙◌, zero, suc, arith, append_assoc}
 use Rattle.std.specs.Option.{option_and_then, option_map, option_map_or}
 use Rattle.std.proofs.lemmas.Option.{slice_get-get_or}
@@ -11,14 +11,7 @@ use Rattle.region_directory.specs.declared.entries.Entry.{Entry}
 use Rattle.region_directory.proofs.SearchLemmas.{blank}
 use Rattle.bounded_split.specs.Epoch.{Stays, Splits, hot_split, hot_at, entries_left, split_notes}
 use Rattle.bounded_split.specs.Hot.{hot_block, hot_turns, hot_turns_in, split_noted}
-use Rattle.bounded_split.proofs.Ending.{ends}
-
--- what becomes of the list when the splits from entry i on are still to be done, and their notes
-abbrev pub left_from : ℕ → ℕ → List Entry → ℕ → List Entry
-left_from t free es i = take i es ++ entries_left (hot_turns t free (drop i es))
-
-abbrev pub notes_from : ℕ → ℕ → List Entry → ℕ → List Note
-notes_from t free es i = split_notes (hot_turns t free (drop i es))
+use Rattle.bounded_split.proofs.Walking.{IsWalking, left_from, notes_from, walking-stays, walking-turns}
 
 abbrev pub halves_at : ℕ → ℕ → List Entry → ℕ → Option (Entry × Entry)
 halves_at t free es i = option_and_then (hot_split t free) (slice_get es i)
@@ -31,12 +24,12 @@ turns-split : (t free : ℕ) (a : Entry) (h : Entry × Entry) (es : List Entry) 
 turns-split t free a h es e =
     ap (λ (o : Option (Entry × Entry)). option_map_or (λ halves. Splits a halves ∷ hot_turns t (free - 1) es) o (Stays a ∷ hot_turns t free es)) e
 
-stay-left : (t free : ℕ) (es : List Entry) (i : ℕ) → i < length es → halves_at t free es i ≡ None → left_from t free es (suc i) ≡ left_from t free es i
+stay-left : (t free : ℕ) (es : List Entry) (i : ℕ) → i < length es → halves_at t free es i ≡ None → left_from (hot_turns t free) es (suc i) ≡ left_from (hot_turns t free) es i
 stay-left t free [] i lt e = absurd (omega arith)
 stay-left t free (a ∷ es) zero lt e = sym (ap entries_left (turns-stay t free a es e))
 stay-left t free (a ∷ es) (suc i) lt e = ap (λ xs. a ∷ xs) (stay-left t free es i (omega arith) e)
 
-stay-notes : (t free : ℕ) (es : List Entry) (i : ℕ) → i < length es → halves_at t free es i ≡ None → notes_from t free es (suc i) ≡ notes_from t free es i
+stay-notes : (t free : ℕ) (es : List Entry) (i : ℕ) → i < length es → halves_at t free es i ≡ None → notes_from split_notes (hot_turns t free) es (suc i) ≡ notes_from split_notes (hot_turns t free) es i
 stay-notes t free [] i lt e = absurd (omega arith)
 stay-notes t free (a ∷ es) zero lt e = sym (ap split_notes (turns-stay t free a es e))
 stay-notes t free (a ∷ es) (suc i) lt e = stay-notes t free es i (omega arith) e
@@ -44,12 +37,12 @@ stay-notes t free (a ∷ es) (suc i) lt e = stay-notes t free es i (omega arith)
 abbrev pub two_at : ℕ → Entry × Entry → List Entry → List Entry
 two_at i h es = take i es ++ h.0 ∷ h.1 ∷ drop (suc i) es
 
-split-left : (t free : ℕ) (es : List Entry) (i : ℕ) (h : Entry × Entry) → i < length es → halves_at t free es i ≡ Some h → left_from t (free - 1) (two_at i h es) (suc (suc i)) ≡ left_from t free es i
+split-left : (t free : ℕ) (es : List Entry) (i : ℕ) (h : Entry × Entry) → i < length es → halves_at t free es i ≡ Some h → left_from (hot_turns t (free - 1)) (two_at i h es) (suc (suc i)) ≡ left_from (hot_turns t free) es i
 split-left t free [] i h lt e = absurd (omega arith)
 split-left t free (a ∷ es) zero h lt e = sym (ap entries_left (turns-split t free a h es e))
 split-left t free (a ∷ es) (suc i) h lt e = ap (λ xs. a ∷ xs) (split-left t free es i h (omega arith) e)
 
-split-noted : (t free : ℕ) (es : List Entry) (i : ℕ) (h : Entry × Entry) (e : Entry) → slice_get es i ≡ Some e → halves_at t free es i ≡ Some h → note.Split e.range ∷ notes_from t (free - 1) (two_at i h es) (suc (suc i)) ≡ notes_from t free es i
+split-noted : (t free : ℕ) (es : List Entry) (i : ℕ) (h : Entry × Entry) (e : Entry) → slice_get es i ≡ Some e → halves_at t free es i ≡ Some h → note.Split e.range ∷ notes_from split_notes (hot_turns t (free - 1)) (two_at i h es) (suc (suc i)) ≡ notes_from split_notes (hot_turns t free) es i
 split-noted t free [] i h e at s = absurd (cc)
 split-noted t free (a ∷ es) zero h e at s =
     ap (λ (o : Option Entry). option_map_or (λ x. note.Split x.range ∷ split_notes (hot_turns t (free - 1) es)) o []) (sym at) ∙ sym (ap split_notes (turns-split t free a h es s))
@@ -61,73 +54,36 @@ split-more (a ∷ es) zero h lt = omega arith
 split-more (a ∷ es) (suc i) h lt = omega (arith, split-more es i h (omega arith))
 
 -- where the loop stands: the directory and the log as they are, how much room there is, and how many were split
-pub record IsSplitting (t : ℕ) (first now : DirectoryView) (before notes : List Note) (spare i splits : ℕ) : Type 0 where
-  pub slots : now.slots ≡ first.slots
-  pub most : now.most ≡ first.most
-  pub left : left_from t (first.slots - length now.entries) now.entries i ≡ entries_left (hot_turns_in t first)
-  pub noted : notes ++ notes_from t (first.slots - length now.entries) now.entries i ≡ before ++ split_notes (hot_turns_in t first)
-  pub count : splits + length (notes_from t (first.slots - length now.entries) now.entries i) ≡ length (split_notes (hot_turns_in t first))
-  pub room : length now.entries ≤ spare + i
-  pub few : splits ≤ i
-  pub within : i ≤ length now.entries
-
-pub splitting-start : (t : ℕ) (d : DirectoryView) (notes : List Note) (spare : ℕ) → length d.entries ≤ spare → IsSplitting t d d notes notes spare 0 0
-splitting-start t d notes spare room = record {
-  slots = refl;
-  most = refl;
-  left = refl;
-  noted = refl;
-  count = omega arith;
-  room = omega arith;
-  few = omega arith;
-  within = omega arith;
-}
+abbrev pub IsSplitting : ℕ → DirectoryView → DirectoryView → List Note → List Note → ℕ → ℕ → ℕ → Type 0
+IsSplitting t first now before notes spare i splits =
+    IsWalking (hot_turns t (first.slots - length now.entries)) split_notes (hot_turns_in t first) first now before notes (spare + i) i splits
 
 at-same : (t s : ℕ) (d : DirectoryView) (i : ℕ) (o : Option (Entry × Entry)) → d.slots ≡ s → hot_at t d i ≡ o → halves_at t (s - length d.entries) d.entries i ≡ o
 at-same t s d i o e c = sym (ap (λ (k : ℕ). halves_at t (k - length d.entries) d.entries i) e) ∙ c
 
-pub splitting-stays : (t : ℕ) (first now : DirectoryView) (before notes : List Note) (spare less i splits : ℕ) → IsSplitting t first now before notes spare i splits → i < length now.entries → hot_at t now i ≡ None → spare ≤ less → IsSplitting t first now before notes less (i + 1) splits
+splitting-stays : (t : ℕ) (first now : DirectoryView) (before notes : List Note) (spare less i splits : ℕ) → IsSplitting t first now before notes spare i splits → i < length now.entries → hot_at t now i ≡ None → spare ≤ less → IsSplitting t first now before notes less (i + 1) splits
 splitting-stays t first now before notes spare less i splits h lt none room =
-    let n : suc i ≡ i + 1 = omega arith in
     let free : ℕ = first.slots - length now.entries in
     let at = at-same t first.slots now i None h.slots none in
-    let same : notes_from t free now.entries (suc i) ≡ notes_from t free now.entries i = stay-notes t free now.entries i lt at in
-    subst (λ (k : ℕ). IsSplitting t first now before notes less k splits) n (record {
-      slots = h.slots;
-      most = h.most;
-      left = stay-left t free now.entries i lt at ∙ h.left;
-      noted = ap (λ xs. notes ++ xs) same ∙ h.noted;
-      count = ap (λ xs. splits + length xs) same ∙ h.count;
-      room = omega (arith, h.room, room);
-      few = omega (arith, h.few);
-      within = omega arith;
-    })
+    walking-stays _ _ _ first now before notes (spare + i) (less + (i + 1)) i splits h lt (stay-left t free now.entries i lt at) (stay-notes t free now.entries i lt at) (omega (arith, room))
 
-pub splitting-splits : (t : ℕ) (first now next : DirectoryView) (before notes after : List Note) (spare less i splits : ℕ) (h : Entry × Entry) (e : Entry) → IsSplitting t first now before notes spare i splits → slice_get now.entries i ≡ Some e → i < length now.entries → hot_at t now i ≡ Some h
+splitting-splits : (t : ℕ) (first now next : DirectoryView) (before notes after : List Note) (spare less i splits : ℕ) (h : Entry × Entry) (e : Entry) → IsSplitting t first now before notes spare i splits → slice_get now.entries i ≡ Some e → i < length now.entries → hot_at t now i ≡ Some h
     → next ≡ record now { entries = with_split i (Some h) now.entries } → after ≡ notes ++ note.Split e.range ∷ [] → spare ≤ less + 1 → IsSplitting t first next before after less (i + 1 + 1) (splits + 1)
 splitting-splits t first now next before notes after spare less i splits h e is at lt some f g room =
     let n : suc (suc i) ≡ i + 1 + 1 = omega arith in
     let m : i + 1 ≡ suc i = omega arith in
     let free : ℕ = first.slots - length now.entries in
     let halves = at-same t first.slots now i (Some h) is.slots some in
-    let made : DirectoryView = record now { entries = two_at i h now.entries } in
-    let shown : next ≡ made = f ∙ ap (λ (k : ℕ). record now { entries = take i now.entries ++ h.0 ∷ h.1 ∷ drop k now.entries }) m in
+    let es : List Entry = two_at i h now.entries in
+    let shown : next ≡ record now { entries = es } = f ∙ ap (λ (k : ℕ). record now { entries = take i now.entries ++ h.0 ∷ h.1 ∷ drop k now.entries }) m in
     let more = split-more now.entries i h lt in
-    let freed : first.slots - length (two_at i h now.entries) ≡ free - 1 = omega (arith, more) in
-    let noted : note.Split e.range ∷ notes_from t (first.slots - length (two_at i h now.entries)) (two_at i h now.entries) (suc (suc i)) ≡ notes_from t free now.entries i =
-    ap (λ (k : ℕ). note.Split e.range ∷ notes_from t k (two_at i h now.entries) (suc (suc i))) freed ∙ split-noted t free now.entries i h e at halves in
-    let rest = notes_from t (first.slots - length (two_at i h now.entries)) (two_at i h now.entries) (suc (suc i)) in
+    let freed : first.slots - length es ≡ free - 1 = omega (arith, more) in
     subst (λ (k : ℕ). IsSplitting t first next before after less k (splits + 1)) n
-    (subst (λ (d : DirectoryView). IsSplitting t first d before after less (suc (suc i)) (splits + 1)) (sym shown) (record {
-      slots = is.slots;
-      most = is.most;
-      left = ap (λ (k : ℕ). left_from t k (two_at i h now.entries) (suc (suc i))) freed ∙ split-left t free now.entries i h lt halves ∙ is.left;
-      noted = ap (λ xs. xs ++ rest) g ∙ append_assoc notes (note.Split e.range ∷ []) rest ∙ ap (λ xs. notes ++ xs) noted ∙ is.noted;
-      count = omega (arith, is.count, ap length noted);
-      room = omega (arith, is.room, more);
-      few = omega (arith, is.few);
-      within = omega (arith, more);
-    }))
+    (subst (λ (d : DirectoryView). IsSplitting t first d before after less (suc (suc i)) (splits + 1)) (sym shown)
+    (walking-turns _ (hot_turns t (first.slots - length es)) _ _ first now es before notes after (note.Split e.range) (spare + i) (less + suc (suc i)) i (suc (suc i)) splits is
+    (ap (λ (k : ℕ). left_from (hot_turns t k) es (suc (suc i))) freed ∙ split-left t free now.entries i h lt halves)
+    (ap (λ (k : ℕ). note.Split e.range ∷ notes_from split_notes (hot_turns t k) es (suc (suc i))) freed ∙ split-noted t free now.entries i h e at halves)
+    g (omega (arith, is.room, more)) (omega arith) (omega (arith, more))))
 
 -- one step of the loop
 block-is : (t : ℕ) (d : DirectoryView) (i : ℕ) (e : Entry) → slice_get d.entries i ≡ Some e → hot_block t d i ≡ option_map (λ _. e.range) (hot_at t d i)
@@ -152,24 +108,10 @@ splitting-step t first now next before notes after spare less i splits added h l
       by : (o : Option (Entry × Entry)) → hot_at t now i ≡ o → next ≡ record now { entries = with_split i o now.entries } → after ≡ notes ++ split_noted (option_map (λ _. entry.range) o) → added ≡ length (split_noted (option_map (λ _. entry.range) o))
           → IsSplitting t first next before after less (i + (1 + added)) (splits + added)
       by None s e f n =
-          let none : added ≡ 0 = n in
-          let sum : splits ≡ splits + added = omega arith in
-          let place : i + 1 ≡ i + (1 + added) = omega arith in
-          let here : IsSplitting t first now before notes less (i + 1) splits = splitting-stays t first now before notes spare less i splits h lt s (omega (arith, room, none)) in
-          let counted = subst (λ (k : ℕ). IsSplitting t first now before notes less (i + 1) k) sum here in
-          let placed = subst (λ (k : ℕ). IsSplitting t first now before notes less k (splits + added)) place counted in
-          let logged = subst (λ (xs : List Note). IsSplitting t first now before xs less (i + (1 + added)) (splits + added)) (sym (f ∙ append-nil notes)) placed in
-          subst (λ (d : DirectoryView). IsSplitting t first d before after less (i + (1 + added)) (splits + added)) (sym e) logged
+          let sum : splits + added ≡ splits = omega (arith, n) in
+          let place : i + (1 + added) ≡ i + 1 = omega (arith, n) in
+          rw (e, f, append-nil, sum, place) (splitting-stays t first now before notes spare less i splits h lt s (omega (arith, room, n)))
       by (Some halves) s e f n =
-          let one : added ≡ 1 = n in
-          let sum : splits + 1 ≡ splits + added = omega arith in
-          let place : i + 1 + 1 ≡ i + (1 + added) = omega arith in
-          let done = splitting-splits t first now next before notes after spare less i splits halves entry h found lt s e f (omega arith) in
-          let counted = subst (λ (k : ℕ). IsSplitting t first next before after less (i + 1 + 1) k) sum done in
-          subst (λ (k : ℕ). IsSplitting t first next before after less k (splits + added)) place counted
-
-pub splitting-ends : (t : ℕ) (first now : DirectoryView) (before notes : List Note) (spare i splits : ℕ) → IsSplitting t first now before notes spare i splits → length now.entries ≤ i
-    → (now ≡ record first { entries = entries_left (hot_turns_in t first) }) × (notes ≡ before ++ split_notes (hot_turns_in t first)) × (splits ≡ length (split_notes (hot_turns_in t first)))
-splitting-ends t first now before notes spare i splits h le =
-    ends first now (entries_left (hot_turns_in t first)) before notes (split_notes (hot_turns_in t first)) i splits (λ xs. entries_left (hot_turns t (first.slots - length now.entries) xs)) (λ xs. split_notes (hot_turns t (first.slots - length now.entries) xs))
-    refl refl le h.slots h.most h.left h.noted h.count
+          let sum : splits + added ≡ splits + 1 = omega (arith, n) in
+          let place : i + (1 + added) ≡ i + 1 + 1 = omega (arith, n) in
+          rw (sum, place) (splitting-splits t first now next before notes after spare less i splits halves entry h found lt s e f (omega (arith, room, n)))

@@ -28,21 +28,8 @@ next : (table : TableView) (pools between new_pools : List PoolView) (new_outlie
     Reached table.homes table.slots migrates table.outliers pools → IsBlock range → memory < length table.homes → Plans table pools range memory result → Takes pools result between →
     Ended table.homes result table.outliers between new_outliers new_pools → ArePools table.homes new_pools → IsTable (table_with table.homes table.slots new_outliers) →
     Reached table.homes table.slots (record { range = range; memory = memory; result = result } ∷ migrates) new_outliers new_pools
-next table pools between new_pools new_outliers range memory result migrates r block there planned taken ended one_each is = (
-  table.outliers,
-  pools,
-  r,
-  record {
-    block = block;
-    there = there;
-    planned = planned;
-    between = between;
-    taken = taken;
-    ended = ended;
-    one_each = one_each;
-    table = is;
-  },
-)
+next table pools between new_pools new_outliers range memory result migrates r block there planned taken ended one_each is =
+    (table.outliers, pools, r, record { block = block; there = there; planned = planned; between = between; taken = taken; ended = ended; one_each = one_each; table = is })
 
 -- a migrate that was accepted, and one that was refused
 pub accepted-next : (table new_table : TableView) (pools between new_pools : List PoolView) (range : RangeView) (memory : ℕ) (move : Move) (migrates : List Migrate) →

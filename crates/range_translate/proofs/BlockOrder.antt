@@ -2,6 +2,7 @@
 use Rattle.std.proofs.Common.{◌≡◌, ◌≢◌, ℕ, zero, suc, ◌<◌, ◌≤◌, Bool, true, false, cond, List, [], ◌∷◌, ◌++◌, length, take, drop, get_or, filter, IsTrue, refl, sym, ap, ◌∙◌, arith}
 use Rattle.std.specs.List.{AllByRecursion}
 use Rattle.std.proofs.lemmas.Bool.Decides.{nat_tests}
+use Rattle.std.proofs.lemmas.List.Elements.{All-filter, All-from_recursion, recursion_from_All, filter_passes}
 use Rattle.mind_base.specs.Range.{RangeView, same_range}
 use Rattle.mind_base.proofs.SameRange.{same_range-true}
 use Rattle.range_translate.specs.Block.{comes_before}
@@ -58,27 +59,16 @@ parts_of r (x ∷ xs) (suc i) d ordered apart within first next =
     let rest = parts_of r xs i d ordered.1 apart.1 (omega (arith, within)) (λ k l. first (suc k) (omega arith)) (λ l. next (omega arith)) in
     (ap (λ zs. x ∷ zs) rest.0 ∙ sym (kept (before r) x xs _ here refl), rest.1 ∙ sym (left_out (after r) x xs _ (not_after x.range r here) refl))
 
--- what holds of each outlier holds of those that a filter keeps
-all-filter : (P : Outlier → Type 0) (test : Outlier → Bool) (xs : List Outlier) → AllByRecursion P xs → AllByRecursion P (filter test xs)
-all-filter P test [] h = tt
-all-filter P test (x ∷ xs) h = elim (test x) as (λ b. AllByRecursion P (cond b (x ∷ filter test xs) (filter test xs))) [
-  | true ↦ (h.0, all-filter P test xs h.1)
-  | false ↦ all-filter P test xs h.1
-]
-
 pub ordered-filter : (test : Outlier → Bool) (xs : List Outlier) → IsOrdered xs → IsOrdered (filter test xs)
 ordered-filter test [] h = tt
 ordered-filter test (x ∷ xs) h = elim (test x) as (λ b. IsOrdered (cond b (x ∷ filter test xs) (filter test xs))) [
-  | true ↦ (all-filter (λ p. IsTrue (comes_before x.range p.range)) test xs h.0, ordered-filter test xs h.1)
+  | true ↦ let P : Outlier → Type 0 = λ p. IsTrue (comes_before x.range p.range) in
+      (recursion_from_All P (filter test xs) (All-filter test P xs (All-from_recursion P xs h.0)), ordered-filter test xs h.1)
   | false ↦ ordered-filter test xs h.1
 ]
 
 kept_passes : (test : Outlier → Bool) (xs : List Outlier) → AllByRecursion (λ o. IsTrue (test o)) (filter test xs)
-kept_passes test [] = tt
-kept_passes test (x ∷ xs) = elim (test x) as (λ b. test x ≡ b → AllByRecursion (λ o. IsTrue (test o)) (cond b (x ∷ filter test xs) (filter test xs))) [
-  | true ↦ λ e. (e, kept_passes test xs)
-  | false ↦ λ e. kept_passes test xs
-] refl
+kept_passes test xs = recursion_from_All (λ o. IsTrue (test o)) (filter test xs) (filter_passes test xs)
 
 all_behind : (x : Outlier) (o : Outlier) (xs : List Outlier) → comes_before x.range o.range ≡ true → AllByRecursion (λ p. IsTrue (comes_before o.range p.range)) xs → AllByRecursion (λ p. IsTrue (comes_before x.range p.range)) xs
 all_behind x o [] h all = tt

@@ -2,6 +2,7 @@
 use Rattle.std.proofs.Common.{◌≡◌, ℕ, zero, suc, ◌+◌, ◌<◌, ◌≤◌, Bool, true, false, not, cond, List, [], ◌∷◌, ◌++◌, length, take, drop, get_or, map, filter, insert, remove, refl, sym, ap, ◌∙◌, subst, arith, Some, None, nat_lt, inl, inr}
 use Rattle.std.specs.List.{AllByRecursion, find, position, position_or_len, slice_get}
 use Rattle.std.proofs.lemmas.List.{map-append, take_more, take-map, drop-map, length-map}
+use Rattle.std.proofs.lemmas.List.Elements.{All-filter, All-from_recursion, recursion_from_All}
 use Rattle.std.proofs.lemmas.Option.{none-some, same_Some, slice_get_within, get_or_from_slice_get, cond_some}
 use Rattle.std.proofs.lemmas.Bool.{cases_lt}
 use Rattle.std.proofs.lemmas.Bool.Decides.{nat_tests}
@@ -248,16 +249,10 @@ at_no_key eq same k es e =
     (omega (arith, above, position-requests_of eq same k es, length-map es (λ (x : Wanted × Access). x.0), length-map es request_of))
 
 -- leaving requests out keeps them apart, and makes them no more
-all-filter : (P : Request → Type 0) (test : Request → Bool) (rs : List Request) → AllByRecursion P rs → AllByRecursion P (filter test rs)
-all-filter P test [] h = tt
-all-filter P test (r ∷ rs) h = elim (test r) as (λ b. AllByRecursion P (cond b (r ∷ filter test rs) (filter test rs))) [
-  | true ↦ (h.0, all-filter P test rs h.1)
-  | false ↦ all-filter P test rs h.1
-]
-
 pub apart-filter : (test : Request → Bool) (rs : List Request) → AskOncePerPage rs → AskOncePerPage (filter test rs)
 apart-filter test [] h = tt
 apart-filter test (r ∷ rs) h = elim (test r) as (λ b. AskOncePerPage (cond b (r ∷ filter test rs) (filter test rs))) [
-  | true ↦ (all-filter (λ q. is_of r.blade r.page q ≡ false) test rs h.0, apart-filter test rs h.1)
+  | true ↦ let P : Request → Type 0 = λ q. is_of r.blade r.page q ≡ false in
+      (recursion_from_All P (filter test rs) (All-filter test P rs (All-from_recursion P rs h.0)), apart-filter test rs h.1)
   | false ↦ apart-filter test rs h.1
 ]

@@ -98,27 +98,31 @@ with3 f k a m c ea em =
 abbrev pub Written : List Bool → ℕ → ℕ → Bool → List Bool
 Written marks f k mark = take f marks ++ replicate k mark ++ drop (f + k) marks
 
-pub without_run-pool_of : (pool : PoolView) (marks new : List Bool) (log first : ℕ) → pool_of marks ≡ pool → first + 2 ^ log ≤ length marks → length new ≡ length marks →
-    new ≡ Written marks first (2 ^ log) false → pool_of new ≡ without_run pool log first
-without_run-pool_of pool marks new log first view inside len e =
-    let k = 2 ^ log in
-    let all = without3 first k (take first marks) (take k (drop first marks)) (drop (first + k) marks)
-    (length-take-le first marks (omega arith)) (length-take-le k (drop first marks) (omega (arith, length-drop first marks))) in
-    let places : marked_from 0 new ≡ filter (λ page. not (nat_le first page && nat_lt page (first + k))) (marked_from 0 marks)
-    = ap (λ (zs : List Bool). marked_from 0 zs) e ∙ all ∙ ap (λ (zs : List Bool). filter (λ page. not (nat_le first page && nat_lt page (first + k))) (marked_from 0 zs)) (parts first k marks) in
-    let same : pool_of new ≡ without_run (pool_of marks) log first = cc in
-    same ∙ ap (λ (p : PoolView). without_run p log first) view
+-- a write of this mark to a run does this to the pool
+abbrev pub Does : Bool → (PoolView → ℕ → ℕ → PoolView) → Type 0
+Does mark after = (pool : PoolView) (marks new : List Bool) (log first : ℕ) → pool_of marks ≡ pool → first + 2 ^ log ≤ length marks → new ≡ Written marks first (2 ^ log) mark → pool_of new ≡ after pool log first
 
-pub with_run-pool_of : (pool : PoolView) (marks new : List Bool) (log first : ℕ) → pool_of marks ≡ pool → first + 2 ^ log ≤ length marks → length new ≡ length marks →
-    new ≡ Written marks first (2 ^ log) true → pool_of new ≡ with_run pool log first
-with_run-pool_of pool marks new log first view inside len e =
+-- as it does where the marks are given in three parts
+written-pool_of : (mark : Bool) (after : PoolView → ℕ → ℕ → PoolView)
+    → ((log first : ℕ) (a m c : List Bool) → length a ≡ first → length m ≡ 2 ^ log → pool_of (a ++ replicate (2 ^ log) mark ++ c) ≡ after (pool_of (a ++ m ++ c)) log first) → Does mark after
+written-pool_of mark after three pool marks new log first view inside e =
     let k = 2 ^ log in
-    let all = with3 first k (take first marks) (take k (drop first marks)) (drop (first + k) marks)
-    (length-take-le first marks (omega arith)) (length-take-le k (drop first marks) (omega (arith, length-drop first marks))) in
-    let places : marked_from 0 new ≡ (with_run (pool_of marks) log first).free
-    = ap (λ (zs : List Bool). marked_from 0 zs) e ∙ all ∙ ap (λ (zs : List Bool). filter (λ page. nat_lt page first) (marked_from 0 zs) ++ range_with_len first k ++ filter (λ page. nat_le (first + k) page) (marked_from 0 zs)) (parts first k marks) in
-    let same : pool_of new ≡ with_run (pool_of marks) log first = cc in
-    same ∙ ap (λ (p : PoolView). with_run p log first) view
+    ap pool_of e
+    ∙ three log first (take first marks) (take k (drop first marks)) (drop (first + k) marks) (length-take-le first marks (omega arith)) (length-take-le k (drop first marks) (omega (arith, length-drop first marks)))
+    ∙ ap (λ (ms : List Bool). after (pool_of ms) log first) (parts first k marks)
+    ∙ ap (λ (p : PoolView). after p log first) view
+
+as-many : (k : ℕ) (mark : Bool) (a m c : List Bool) → length m ≡ k → length (a ++ replicate k mark ++ c) ≡ length (a ++ m ++ c)
+as-many k mark a m c em =
+    omega (arith, length-append (a ++ replicate k mark) c, length-append a (replicate k mark), length-replicate k mark, length-append (a ++ m) c, length-append a m)
+
+pub without_run-pool_of : Does false without_run
+without_run-pool_of =
+    written-pool_of false without_run (λ log first a m c ea em. λ i. record { pages = as-many (2 ^ log) false a m c em i; free = without3 first (2 ^ log) a m c ea em i })
+
+pub with_run-pool_of : Does true with_run
+with_run-pool_of =
+    written-pool_of true with_run (λ log first a m c ea em. λ i. record { pages = as-many (2 ^ log) true a m c em i; free = with3 first (2 ^ log) a m c ea em i })
 
 -- A function reads the marks through a slice, and computes the size of a run.
 run_at : (slice marks : List Bool) (size k first : ℕ) → slice ≡ marks → size ≡ k → IsMarkedRun slice size first → IsMarkedRun marks k first

@@ -8,10 +8,9 @@ use Rattle.spare_pool.proofs.pools.Pool.give.Goals as goal
 pub returns-clause-given : goal.returns-clause-given
 returns-clause-given c =
     let len : length c.mark_run.new.marks ≡ c.self.inside.free.len = omega (arith, c.mark_run.auto.marks, c.as_mut_slice.ensures.len) in
-    let whole : length c.mark_run.new.marks ≡ length c.self.inside.free.items = c.mark_run.auto.marks ∙ ap length c.as_mut_slice.ensures.value in
     let inside : c.args.first + 2 ^ c.args.log ≤ length c.self.inside.free.items = omega (arith, c.requires.inside, ap (λ (p : PoolView). p.pages) c.self.view_is) in
     ap pool_of (with_items_is c.self.inside.free c.mark_run.new.marks len)
-    ∙ with_run-pool_of _ c.self.inside.free.items c.mark_run.new.marks c.args.log c.args.first c.self.view_is inside whole
+    ∙ with_run-pool_of _ c.self.inside.free.items c.mark_run.new.marks c.args.log c.args.first c.self.view_is inside
     (Written-seen _ _ _ _ _ _ true c.as_mut_slice.ensures.value c.size_of_run-size.ensures c.mark_run.ensures)
 
 pub returns-clause-pool : goal.returns-clause-pool

@@ -19,10 +19,9 @@ returns-clause-lowest c =
 pub returns-clause-taken : goal.returns-clause-taken
 returns-clause-taken c =
     let len : length c.mark_run.new.marks ≡ c.self.inside.free.len = omega (arith, c.mark_run.auto.marks, c.as_mut_slice.ensures.len) in
-    let whole : length c.mark_run.new.marks ≡ length c.self.inside.free.items = c.mark_run.auto.marks ∙ ap length c.as_mut_slice.ensures.value in
     let inside : c.in-Some.first + 2 ^ c.args.log ≤ length c.self.inside.free.items = omega (arith, c.in-Some.ensures.found.inside, ap length c.as_slice.ensures.value, c.size_of_run-size.ensures) in
     ap pool_of (with_items_is c.self.inside.free c.mark_run.new.marks len)
-    ∙ without_run-pool_of _ c.self.inside.free.items c.mark_run.new.marks c.args.log c.in-Some.first c.self.view_is inside whole
+    ∙ without_run-pool_of _ c.self.inside.free.items c.mark_run.new.marks c.args.log c.in-Some.first c.self.view_is inside
     (Written-seen _ _ _ _ _ _ false c.as_mut_slice.ensures.value c.size_of_run-size.ensures c.mark_run.ensures)
 
 pub returns-clause-pool : goal.returns-clause-pool
