@@ -1,5 +1,6 @@
 -- What an instruction asks, given the registers and the pc.
-use Rattle.std.specs.Prelude.{◌≡◌, ◌≢◌, ℕ, ◌*◌, ◌/◌, ◌%◌, ◌<◌, List, ◌==◌, if◌then◌else◌}
+use Rattle.std.specs.Prelude.{◌≡◌, ◌≢◌, ℕ, ℤ, ◌*◌, ◌/◌, ◌%◌, ◌<◌, List, ◌==◌, if◌then◌else◌}
+use Rattle.rv32_decode.specs.declared.instruction.BranchKind.{BranchKind}
 use Rattle.rv32_decode.specs.declared.instruction.Instr.{Instr}
 use Rattle.rv32_decode.specs.declared.instruction.Instr.TheVariants as instr
 use Rattle.hart_core.specs.declared.outcome.Act.{Act}
@@ -17,6 +18,10 @@ continues rd value pc = Next rd value (word_sum pc 4)
 abbrev pub goes_to : ℕ → ℕ → ℕ → Act
 goes_to rd value target = if target % 4 == 0 then Next rd value target else Jumped target
 
+-- the hart goes on at the offset if the words compare so, and else at the next word
+abbrev pub branches : BranchKind → ℕ → ℕ → ℤ → ℕ → Act
+branches kind a b offset pc = if is_taken kind a b then goes_to 0 0 (word_sum pc (word_from offset)) else continues 0 0 pc
+
 -- bit 0 is cleared
 abbrev pub bit_cleared : ℕ → ℕ
 bit_cleared target = target / 2 * 2
@@ -28,10 +33,7 @@ act_of (instr.Auipc rd imm) regs pc = continues rd (word_sum pc imm) pc
 act_of (instr.Jal rd offset) regs pc = goes_to rd (word_sum pc 4) (word_sum pc (word_from offset))
 act_of (instr.Jalr rd rs1 offset) regs pc =
     goes_to rd (word_sum pc 4) (bit_cleared (word_sum (register regs rs1) (word_from offset)))
-act_of (instr.Branch kind rs1 rs2 offset) regs pc =
-    if is_taken kind (register regs rs1) (register regs rs2)
-    then goes_to 0 0 (word_sum pc (word_from offset))
-    else continues 0 0 pc
+act_of (instr.Branch kind rs1 rs2 offset) regs pc = branches kind (register regs rs1) (register regs rs2) offset pc
 act_of (instr.Load kind rd rs1 offset) regs pc = Load kind rd (word_sum (register regs rs1) (word_from offset))
 act_of (instr.Store kind rs1 rs2 offset) regs pc =
     Store (store_size kind) (word_sum (register regs rs1) (word_from offset)) (register regs rs2)

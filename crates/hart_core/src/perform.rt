@@ -3,13 +3,14 @@
 ghost use Rattle.std.specs.Prelude.{◌≡◌, ◌%◌};
 ghost use Rattle.rv32_decode.specs.Instr.{Fits};
 ghost use Rattle.hart_core.specs.Values.{word_sum, word_from};
-ghost use Rattle.hart_core.specs.Act.{act_of, continues, goes_to, IsWellFormedAct, IsAligned};
+ghost use Rattle.hart_core.specs.Memory.{store_size as store_size_of};
+ghost use Rattle.hart_core.specs.Act.{act_of, branches, continues, goes_to, IsWellFormedAct, IsAligned};
 
 use crate::memory::store_size;
 use crate::outcome::{Act, LockedKind};
 use crate::registers::Regs;
 use crate::values::{op, ordering, register_kind, taken};
-use rv32_decode::Instr;
+use rv32_decode::{BranchKind, Instr, LoadKind, StoreKind};
 
 /// What the instruction asks of a hart with these registers at this pc.
 #[tactic(auto, unfolding(crate::specs::Act::act_of, rv32_decode::specs::Instr::Fits))]
@@ -32,33 +33,19 @@ pub fn act(instr: &Instr, regs: &Regs, pc: u32) -> Act
             rs1,
             rs2,
             offset,
-        } => {
-            if taken(kind, regs.get(rs1), regs.get(rs2)) {
-                jump(0, 0, sum(pc, offset))
-            } else {
-                next(0, 0, pc)
-            }
-        }
+        } => branch(kind, regs.get(rs1), regs.get(rs2), offset, pc),
         Instr::Load {
             kind,
             rd,
             rs1,
             offset,
-        } => Act::Load {
-            kind,
-            rd,
-            address: sum(regs.get(rs1), offset),
-        },
+        } => load(kind, rd, regs.get(rs1), offset),
         Instr::Store {
             kind,
             rs1,
             rs2,
             offset,
-        } => Act::Store {
-            size: store_size(kind),
-            address: sum(regs.get(rs1), offset),
-            value: regs.get(rs2),
-        },
+        } => store(kind, regs.get(rs1), offset, regs.get(rs2)),
         Instr::OpImm { kind, rd, rs1, imm } => {
             let value = op(register_kind(kind), regs.get(rs1), imm.cast_unsigned());
             next(rd, value, pc)
@@ -103,6 +90,40 @@ fn jump(rd: u8, value: u32, target: u32) -> Act
         rd,
         value,
         pc: target,
+    }
+}
+
+/// The hart goes on at the offset if the words compare so, and else at the next word.
+fn branch(kind: BranchKind, a: u32, b: u32, offset: i32, pc: u32) -> Act
+    ensures { result ≡ branches kind a b offset pc }
+{
+    if taken(kind, a, b) {
+        jump(0, 0, sum(pc, offset))
+    } else {
+        next(0, 0, pc)
+    }
+}
+
+/// A register takes the bytes at the offset from a word.
+fn load(kind: LoadKind, rd: u8, word: u32, offset: i32) -> Act
+    ensures { result ≡ Act.Load kind rd (word_sum word (word_from offset)) }
+{
+    Act::Load {
+        kind,
+        rd,
+        address: sum(word, offset),
+    }
+}
+
+/// The low bytes of the value go to the offset from a word.
+fn store(kind: StoreKind, word: u32, offset: i32, value: u32) -> Act
+    ensures store { result ≡ Act.Store (store_size_of kind) (word_sum word (word_from offset)) value }
+    ensures well_formed { IsWellFormedAct result }
+{
+    Act::Store {
+        size: store_size(kind),
+        address: sum(word, offset),
+        value,
     }
 }
 
