@@ -11,17 +11,29 @@ pub enum Keyword {
     Step,
     Drain,
     Evict,
-    Deliver,
-    Lose,
-    Repeat,
+    Frame(Fate),
     Resend,
     Epoch,
     Settle,
+    Ask(CommandWord),
+    Run,
+}
+
+/// What befalls a frame of a wire.
+#[derive(Clone, Copy, Debug, PartialEq, Eq)]
+pub enum Fate {
+    Deliver,
+    Lose,
+    Repeat,
+}
+
+/// Which command the switch is asked for.
+#[derive(Clone, Copy, Debug, PartialEq, Eq)]
+pub enum CommandWord {
     Map,
     Protect,
     Unmap,
     Migrate,
-    Run,
 }
 
 #[tactic(auto, unfolding(crate::specs::Keyword::keyword_of))]
@@ -38,13 +50,13 @@ pub fn keyword_in(word: &[u8]) -> Result<Keyword, LineFault>
         return Ok(Keyword::Evict);
     }
     if word == b"deliver".as_slice() {
-        return Ok(Keyword::Deliver);
+        return Ok(Keyword::Frame(Fate::Deliver));
     }
     if word == b"lose".as_slice() {
-        return Ok(Keyword::Lose);
+        return Ok(Keyword::Frame(Fate::Lose));
     }
     if word == b"repeat".as_slice() {
-        return Ok(Keyword::Repeat);
+        return Ok(Keyword::Frame(Fate::Repeat));
     }
     if word == b"resend".as_slice() {
         return Ok(Keyword::Resend);
@@ -56,16 +68,16 @@ pub fn keyword_in(word: &[u8]) -> Result<Keyword, LineFault>
         return Ok(Keyword::Settle);
     }
     if word == b"map".as_slice() {
-        return Ok(Keyword::Map);
+        return Ok(Keyword::Ask(CommandWord::Map));
     }
     if word == b"protect".as_slice() {
-        return Ok(Keyword::Protect);
+        return Ok(Keyword::Ask(CommandWord::Protect));
     }
     if word == b"unmap".as_slice() {
-        return Ok(Keyword::Unmap);
+        return Ok(Keyword::Ask(CommandWord::Unmap));
     }
     if word == b"migrate".as_slice() {
-        return Ok(Keyword::Migrate);
+        return Ok(Keyword::Ask(CommandWord::Migrate));
     }
     if word == b"run".as_slice() {
         return Ok(Keyword::Run);
@@ -80,8 +92,8 @@ pub fn words_wanted(keyword: Keyword) -> usize
     match keyword {
         Keyword::Epoch | Keyword::Settle => 1,
         Keyword::Step | Keyword::Drain | Keyword::Resend | Keyword::Run => 2,
-        Keyword::Deliver | Keyword::Lose | Keyword::Repeat => 3,
-        Keyword::Evict | Keyword::Unmap => 4,
-        Keyword::Map | Keyword::Protect | Keyword::Migrate => 5,
+        Keyword::Frame(_) => 3,
+        Keyword::Evict | Keyword::Ask(CommandWord::Unmap) => 4,
+        Keyword::Ask(CommandWord::Map | CommandWord::Protect | CommandWord::Migrate) => 5,
     }
 }
