@@ -1,7 +1,5 @@
 -- What a line says.
 use Rattle.std.specs.Prelude.{ℕ, ◌||◌, ◌==◌, not, List, length, slice_index, Result, Ok, Err, if◌then◌else◌}
-use Rattle.mind_base.specs.declared.links.LinkName.{LinkName}
-use Rattle.mind_base.specs.declared.links.Side.{Side}
 use Rattle.mind_base.specs.declared.events.Event.{Event}
 use Rattle.mind_base.specs.declared.events.Event.TheVariants as events
 use Rattle.mind_base.specs.declared.commands.Perm.{Perm}
@@ -12,8 +10,7 @@ use Rattle.schedule_text.specs.declared.faults.LineFault.{LineFault}
 use Rattle.schedule_text.specs.declared.faults.LineFault.TheVariants as faults
 use Rattle.schedule_text.specs.declared.keywords.Keyword.{Keyword}
 use Rattle.schedule_text.specs.declared.keywords.Keyword.TheVariants as keywords
-use Rattle.schedule_text.specs.declared.keywords.Fate.{Fate}
-use Rattle.schedule_text.specs.declared.keywords.Fate.TheVariants as fates
+use Rattle.schedule_text.specs.declared.fates.Fate.{Fate}
 use Rattle.schedule_text.specs.declared.keywords.CommandWord.{CommandWord}
 use Rattle.schedule_text.specs.declared.keywords.CommandWord.TheVariants as words
 use Rattle.schedule_text.specs.declared.entries.Entry.{Entry}
@@ -25,14 +22,9 @@ use Rattle.schedule_text.specs.Word.{words_of, word_numbered}
 use Rattle.schedule_text.specs.Argument.{number_up_to, number_below, perm_named, page_on, span_on, range_on}
 use Rattle.schedule_text.specs.Link.{link_named, wire_named}
 use Rattle.schedule_text.specs.Keyword.{keyword_of, words_wanted}
+use Rattle.schedule_text.specs.Fate.{befalls}
 
--- what befalls a frame of a wire: the wire's link and side, and the frame's number
-abbrev pub befalls : Fate → LinkName → Side → ℕ → Event
-befalls fates.Deliver link side k = events.Deliver link side k
-befalls fates.Lose link side k = events.Lose link side k
-befalls fates.Repeat link side k = events.Repeat link side k
-
--- a wire and the number of a frame
+-- a wire, and the number of a frame on it
 unfoldable pub frame_event : Sizes → Fate → List ℕ → Result Event LineFault
 frame_event sizes fate line = do
   wire ← wire_named sizes (word_numbered 1 line)

@@ -5,7 +5,7 @@ use Rattle.schedule_text.specs.declared.faults.LineFault.{LineFault}
 use Rattle.schedule_text.specs.declared.faults.LineFault.TheVariants as faults
 use Rattle.schedule_text.specs.declared.keywords.Keyword.{Keyword}
 use Rattle.schedule_text.specs.declared.keywords.Keyword.TheVariants.{Step, Drain, Evict, Frame, Resend, Epoch, Settle, Ask, Run}
-use Rattle.schedule_text.specs.declared.keywords.Fate.TheVariants.{Deliver, Lose, Repeat}
+use Rattle.schedule_text.specs.declared.fates.Fate.TheVariants.{Deliver, Lose, Repeat}
 use Rattle.schedule_text.specs.declared.keywords.CommandWord.TheVariants.{Map, Protect, Unmap, Migrate}
 
 unfoldable pub keyword_of : List ℕ → Result Keyword LineFault

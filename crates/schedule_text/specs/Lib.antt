@@ -2,6 +2,7 @@ pub mod Argument
 pub mod Asked
 pub mod Entry
 pub mod Event
+pub mod Fate
 pub mod Keyword
 pub mod Link
 pub mod Refusal

@@ -5,8 +5,9 @@ ghost use Rattle.schedule_text.specs.Event.{IsCommandIn, IsEventIn, IsEntryIn};
 ghost use Rattle.schedule_text.specs.Entry.{entry_of, worded, said, frame_event, command_on, permission_on};
 
 use crate::arguments::{below, page, perm, range, span, up_to};
+use crate::fates::{Fate, befalls};
 use crate::faults::LineFault;
-use crate::keywords::{CommandWord, Fate, Keyword, keyword_in, words_wanted};
+use crate::keywords::{CommandWord, Keyword, keyword_in, words_wanted};
 use crate::links::{link, wire};
 use crate::sizes::Sizes;
 use crate::words::{word, word_count};
@@ -96,11 +97,7 @@ fn frame_event(sizes: Sizes, fate: Fate, line: &[u8]) -> Result<Event, LineFault
 {
     let (link, side) = wire(sizes, word(line, 1))?;
     let k = up_to(u32::MAX, word(line, 2))?;
-    match fate {
-        Fate::Deliver => Ok(Event::Deliver { link, side, k }),
-        Fate::Lose => Ok(Event::Lose { link, side, k }),
-        Fate::Repeat => Ok(Event::Repeat { link, side, k }),
-    }
+    Ok(befalls(fate, link, side, k))
 }
 
 /// The command that a line asks the switch for.

@@ -3,6 +3,7 @@
 ghost use Rattle.std.specs.Prelude.{◌≡◌};
 ghost use Rattle.schedule_text.specs.Keyword.{keyword_of, words_wanted};
 
+use crate::fates::Fate;
 use crate::faults::LineFault;
 
 /// The first word of a line that says something.
@@ -17,14 +18,6 @@ pub enum Keyword {
     Settle,
     Ask(CommandWord),
     Run,
-}
-
-/// What befalls a frame of a wire.
-#[derive(Clone, Copy, Debug, PartialEq, Eq)]
-pub enum Fate {
-    Deliver,
-    Lose,
-    Repeat,
 }
 
 /// Which command the switch is asked for.

@@ -4,6 +4,7 @@
 mod arguments;
 mod asked;
 mod entries;
+mod fates;
 mod faults;
 mod keywords;
 mod links;
@@ -13,6 +14,7 @@ mod sizes;
 mod words;
 
 pub use asked::commands_of;
+pub use fates::{Fate, befalls};
 pub use faults::LineFault;
 pub use plain_text::LineRefusal;
 pub use schedules::schedule_of;
