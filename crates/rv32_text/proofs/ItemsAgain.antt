@@ -17,6 +17,7 @@ use Rattle.rv32_decode.specs.Instr.{Fits, IsSigned, IsEven, FitsImmediate}
 use Rattle.rv32_text.specs.declared.items.Item.TheVariants as item
 use Rattle.rv32_text.specs.declared.rows.Atomic.TheVariants as atomic
 use Rattle.rv32_text.specs.declared.rows.Row.TheVariants as row
+use Rattle.rv32_text.specs.declared.writing.Operands.TheVariants as operands
 use Rattle.plain_text.specs.Reading.{◌>>=◌}
 use Rattle.rv32_text.specs.Blank.{trimmed}
 use Rattle.rv32_text.specs.Number.{greatest_word, up_to, signed_within}
@@ -24,7 +25,7 @@ use Rattle.rv32_text.specs.Name.{number_names, register_name, set_name, row_name
 use Rattle.rv32_text.specs.Label.{is_label}
 use Rattle.rv32_text.specs.Operand.{based_in, target_in, third_operand, pair_at, upper_at, jump_at, branch_at, based_at, immediate_within, immediate_at, registers_at, sets_at, address_at, exchange_at, plain_at}
 use Rattle.rv32_text.specs.Statement.{item_at, store_at, atomic_at}
-use Rattle.rv32_text.specs.Written.{has_text, based_text, address_text, word_text, instr_text, item_text, with_two, fence_text}
+use Rattle.rv32_text.specs.Written.{has_text, based_text, address_text, word_text, instr_text, item_text, row_text, fence_row, instr_row}
 use Rattle.rv32_text.proofs.Clean.{Lacks, all_join, all_weaken, cut_before, cut_behind, Starts, starts, kept}
 use Rattle.rv32_text.proofs.NamesAgain.{is_clean, IsPiece, piece, at_most, register_again, set_again}
 use Rattle.rv32_text.proofs.Numerals.{IsShort, number_again, decimal_piece, signed_piece, signed_size, is_numeral_byte, signed_bytes, decimal_digits, up_to_again, signed_again, even_again, short_from, word_again, word_piece}
@@ -202,7 +203,7 @@ plain_again w small =
 -- ---- items
 
 fence_of : (mode : Bool) (fm pred succ : ℕ) → (fm == 0) ≡ mode → pred < 16 → succ < 16 → (mode || (fm == 8 && pred == 3 && succ == 3)) ≡ true
-    → IsRead (cond mode (with_two row.Fence (set_name pred) (set_name succ)) (row_name row.FenceTso)) (item.Instr (instr.Fence fm pred succ 0 0))
+    → IsRead (row_text (cond mode (row.Fence, operands.Sets pred succ) (row.FenceTso, operands.Bare))) (item.Instr (instr.Fence fm pred succ 0 0))
 unfolding item_at
 fence_of true fm pred succ e p s told =
     rw (eqb-true fm 0 e) (two_read row.Fence (set_name pred) (set_name succ) _ (set_piece pred p) (set_piece succ s) refl (λ labels items. rw (sets_again pred succ p s) refl))
@@ -211,14 +212,14 @@ fence_of false fm pred succ e p s told =
     let front = and_parts (fm == 8) (pred == 3) parts.0 in
     rw (eqb-true fm 8 front.0, eqb-true pred 3 front.1, eqb-true succ 3 parts.1) (bare_read row.FenceTso _ refl (λ labels items. refl))
 
-fence_read : (fm pred succ rd rs1 : ℕ) → pred < 16 → succ < 16 → has_text (instr.Fence fm pred succ rd rs1) ≡ true → IsRead (fence_text fm pred succ) (item.Instr (instr.Fence fm pred succ rd rs1))
+fence_read : (fm pred succ rd rs1 : ℕ) → pred < 16 → succ < 16 → has_text (instr.Fence fm pred succ rd rs1) ≡ true → IsRead (row_text (fence_row fm pred succ)) (item.Instr (instr.Fence fm pred succ rd rs1))
 fence_read fm pred succ rd rs1 p s told =
     let parts = and_parts (rd == 0 && rs1 == 0) (fm == 0 || (fm == 8 && pred == 3 && succ == 3)) told in
     let zeros = and_parts (rd == 0) (rs1 == 0) parts.0 in
     rw (eqb-true rd 0 zeros.0, eqb-true rs1 0 zeros.1) (fence_of (fm == 0) fm pred succ refl p s parts.1)
 
 pub instr_read : (i : Instr) → Fits i → has_text i ≡ true → IsRead (instr_text i) (item.Instr i)
-unfolding instr_text Fits item_at store_at atomic_at
+unfolding instr_text instr_row Fits item_at store_at atomic_at
 instr_read (instr.Lui rd imm) fits told = two_read row.Lui _ _ _ (reg_piece rd fits.0) (decimal_piece (imm / 2 ^ 12) (omega arith)) refl (λ labels items. rw (upper_again rd imm fits.0 fits.1 fits.2) refl)
 instr_read (instr.Auipc rd imm) fits told = two_read row.Auipc _ _ _ (reg_piece rd fits.0) (decimal_piece (imm / 2 ^ 12) (omega arith)) refl (λ labels items. rw (upper_again rd imm fits.0 fits.1 fits.2) refl)
 instr_read (instr.Jal rd z) fits told = two_read row.Jal _ _ _ (reg_piece rd fits.0) (signed_piece z (short_from (2 ^ 20) z (omega arith) fits.1)) refl (λ labels items. rw (jump_again labels items rd z fits.0 fits.1 fits.2) refl)

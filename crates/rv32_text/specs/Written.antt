@@ -12,7 +12,14 @@ use Rattle.rv32_text.specs.declared.rows.Row.{Row}
 use Rattle.rv32_text.specs.declared.rows.Row.TheVariants as row
 use Rattle.rv32_text.specs.declared.writing.Last.{Last}
 use Rattle.rv32_text.specs.declared.writing.Last.TheVariants as last
+use Rattle.rv32_text.specs.declared.writing.Operands.{Operands}
+use Rattle.rv32_text.specs.declared.writing.Operands.TheVariants as operands
 use Rattle.rv32_text.specs.Name.{register_name, set_name, row_name}
+
+-- the fence of total store order, whatever its registers
+abbrev pub is_tso : Instr → Bool
+is_tso (instr.Fence fm pred succ rd rs1) = fm == 8 && pred == 3 && succ == 3
+is_tso _ = false
 
 -- A fence has a text where its registers are x0 and it is fence.tso, or has no mode. Every other instruction has one.
 abbrev pub has_text : Instr → Bool
@@ -71,25 +78,44 @@ with_two r a b = row_name r ++ codes " " ++ a ++ codes ", " ++ b
 abbrev pub with_three : Row → List ℕ → List ℕ → List ℕ → List ℕ
 with_three r a b c = row_name r ++ codes " " ++ a ++ codes ", " ++ b ++ codes ", " ++ c
 
-abbrev pub fence_text : ℕ → ℕ → ℕ → List ℕ
-fence_text fm pred succ = if fm == 0 then with_two row.Fence (set_name pred) (set_name succ) else row_name row.FenceTso
+-- the registers and sets of the operands are there
+abbrev pub FitsOperands : Operands → Type 0
+FitsOperands operands.Bare = Unit {0}
+FitsOperands (operands.Sets pred succ) = (pred < 16) × (succ < 16)
+FitsOperands (operands.Two a last) = (a < 32) × FitsLast last
+FitsOperands (operands.Three a b last) = (a < 32) × (b < 32) × FitsLast last
+
+-- a row with its operands
+abbrev pub row_text : Row × Operands → List ℕ
+row_text (r, operands.Bare) = row_name r
+row_text (r, operands.Sets pred succ) = with_two r (set_name pred) (set_name succ)
+row_text (r, operands.Two a last) = with_two r (register_name a) (last_text last)
+row_text (r, operands.Three a b last) = with_three r (register_name a) (register_name b) (last_text last)
+
+-- the row and the operands of a fence with this mode
+abbrev pub fence_row : ℕ → ℕ → ℕ → Row × Operands
+fence_row fm pred succ = if fm == 0 then (row.Fence, operands.Sets pred succ) else (row.FenceTso, operands.Bare)
+
+-- the row and the operands of an instruction
+unfoldable pub instr_row : Instr → Row × Operands
+instr_row (instr.Lui rd imm) = (row.Lui, operands.Two rd (last.Unsigned (imm / 2 ^ 12)))
+instr_row (instr.Auipc rd imm) = (row.Auipc, operands.Two rd (last.Unsigned (imm / 2 ^ 12)))
+instr_row (instr.Jal rd offset) = (row.Jal, operands.Two rd (last.Signed offset))
+instr_row (instr.Jalr rd rs1 offset) = (row.Jalr, operands.Two rd (last.Based offset rs1))
+instr_row (instr.Branch kind rs1 rs2 offset) = (row.Branch kind, operands.Three rs1 rs2 (last.Signed offset))
+instr_row (instr.Load kind rd rs1 offset) = (row.Load kind, operands.Two rd (last.Based offset rs1))
+instr_row (instr.Store kind rs1 rs2 offset) = (row.Store kind, operands.Two rs2 (last.Based offset rs1))
+instr_row (instr.OpImm kind rd rs1 imm) = (row.OpImm kind, operands.Three rd rs1 (last.Signed imm))
+instr_row (instr.Op kind rd rs1 rs2) = (row.Op kind, operands.Three rd rs1 (last.Register rs2))
+instr_row (instr.Fence fm pred succ rd rs1) = fence_row fm pred succ
+instr_row instr.Ecall = (row.Ecall, operands.Bare)
+instr_row instr.Ebreak = (row.Ebreak, operands.Bare)
+instr_row (instr.Lr rd rs1 aq rl) = (row.Atomic atomic.Lr aq rl, operands.Two rd (last.Address rs1))
+instr_row (instr.Sc rd rs1 rs2 aq rl) = (row.Atomic atomic.Sc aq rl, operands.Three rd rs2 (last.Address rs1))
+instr_row (instr.Amo kind rd rs1 rs2 aq rl) = (row.Atomic (atomic.Amo kind) aq rl, operands.Three rd rs2 (last.Address rs1))
 
 unfoldable pub instr_text : Instr → List ℕ
-instr_text (instr.Lui rd imm) = with_two row.Lui (register_name rd) (decimal (imm / 2 ^ 12))
-instr_text (instr.Auipc rd imm) = with_two row.Auipc (register_name rd) (decimal (imm / 2 ^ 12))
-instr_text (instr.Jal rd offset) = with_two row.Jal (register_name rd) (signed_decimal offset)
-instr_text (instr.Jalr rd rs1 offset) = with_two row.Jalr (register_name rd) (based_text offset rs1)
-instr_text (instr.Branch kind rs1 rs2 offset) = with_three (row.Branch kind) (register_name rs1) (register_name rs2) (signed_decimal offset)
-instr_text (instr.Load kind rd rs1 offset) = with_two (row.Load kind) (register_name rd) (based_text offset rs1)
-instr_text (instr.Store kind rs1 rs2 offset) = with_two (row.Store kind) (register_name rs2) (based_text offset rs1)
-instr_text (instr.OpImm kind rd rs1 imm) = with_three (row.OpImm kind) (register_name rd) (register_name rs1) (signed_decimal imm)
-instr_text (instr.Op kind rd rs1 rs2) = with_three (row.Op kind) (register_name rd) (register_name rs1) (register_name rs2)
-instr_text (instr.Fence fm pred succ rd rs1) = fence_text fm pred succ
-instr_text instr.Ecall = row_name row.Ecall
-instr_text instr.Ebreak = row_name row.Ebreak
-instr_text (instr.Lr rd rs1 aq rl) = with_two (row.Atomic atomic.Lr aq rl) (register_name rd) (address_text rs1)
-instr_text (instr.Sc rd rs1 rs2 aq rl) = with_three (row.Atomic atomic.Sc aq rl) (register_name rd) (register_name rs2) (address_text rs1)
-instr_text (instr.Amo kind rd rs1 rs2 aq rl) = with_three (row.Atomic (atomic.Amo kind) aq rl) (register_name rd) (register_name rs2) (address_text rs1)
+instr_text i = row_text (instr_row i)
 
 unfoldable pub item_text : Item → List ℕ
 item_text (item.Instr instr) = instr_text instr

@@ -6,7 +6,7 @@ ghost use Rattle.rv32_decode.specs.Instr.{Fits};
 ghost use Rattle.rv32_text.specs.Name.{register_name as register_name_of, set_name as set_name_of, row_name as row_name_of};
 ghost use Rattle.rv32_text.specs.declared.rows.Row.TheVariants as row;
 ghost use Rattle.rv32_text.specs.Statement.{FitsItem};
-ghost use Rattle.rv32_text.specs.Written.{has_text as has_text_of, based_text, address_text, last_text, FitsLast, hex_glyph, word_text, with_one, with_two, with_three, fence_text, instr_text, item_text};
+ghost use Rattle.rv32_text.specs.Written.{has_text as has_text_of, is_tso as is_tso_of, based_text, address_text, last_text, FitsLast, hex_glyph, word_text, with_one, with_two, with_three, FitsOperands, row_text, instr_row, instr_text, item_text};
 
 use crate::items::Item;
 use crate::names::{base_name, ending_name, register_name, set_name};
@@ -28,32 +28,35 @@ pub enum Last {
     Based(i32, u8),
 }
 
+/// The operands of an instruction, as they are written.
+#[derive(Clone, Copy)]
+pub enum Operands {
+    Bare,
+    /// Two sets of accesses.
+    Sets(u8, u8),
+    /// A register and a last operand.
+    Two(u8, Last),
+    /// Two registers and a last operand.
+    Three(u8, u8, Last),
+}
+
 /// Whether an instruction has a text: every one but the fences whose fields are not all told by theirs.
 pub fn has_text(instr: &Instr) -> bool
     ensures { result ≡ has_text_of instr.now }
 {
     match *instr {
-        Instr::Fence {
-            fm,
-            pred,
-            succ,
-            rd,
-            rs1,
-        } => rd == 0 && rs1 == 0 && (fm == 0 || (fm == 8 && pred == 3 && succ == 3)),
-        Instr::Lui { .. }
-        | Instr::Auipc { .. }
-        | Instr::Jal { .. }
-        | Instr::Jalr { .. }
-        | Instr::Branch { .. }
-        | Instr::Load { .. }
-        | Instr::Store { .. }
-        | Instr::OpImm { .. }
-        | Instr::Op { .. }
-        | Instr::Ecall
-        | Instr::Ebreak
-        | Instr::Lr { .. }
-        | Instr::Sc { .. }
-        | Instr::Amo { .. } => true,
+        Instr::Fence { fm, rd, rs1, .. } => rd == 0 && rs1 == 0 && (fm == 0 || is_tso(instr)),
+        _ => true,
+    }
+}
+
+/// Whether an instruction is the fence of total store order, whatever its registers.
+fn is_tso(instr: &Instr) -> bool
+    ensures { result ≡ is_tso_of instr.now }
+{
+    match *instr {
+        Instr::Fence { fm, pred, succ, .. } => fm == 8 && pred == 3 && succ == 3,
+        _ => false,
     }
 }
 
@@ -155,15 +158,13 @@ fn put_three(
     put_last(alloc, out, last)
 }
 
-fn put_fence(out: &mut Vec<u8>, fm: u8, pred: u8, succ: u8) -> Result<(), NoMemory>
+/// A row and two sets of accesses.
+fn put_sets(out: &mut Vec<u8>, row: Row, pred: u8, succ: u8) -> Result<(), NoMemory>
     requires pred { pred < 16 }
     requires succ { succ < 16 }
-    ensures { OnOk result (out.new.items ≡ out.old.items ++ fence_text fm pred succ) }
+    ensures { OnOk result (out.new.items ≡ out.old.items ++ with_two row (set_name_of pred) (set_name_of succ)) }
 {
-    if fm != 0 {
-        return put_row(out, Row::FenceTso);
-    }
-    put_row(out, Row::Fence)?;
+    put_row(out, row)?;
     out.extend_from_slice(b" ")?;
     out.extend_from_slice(set_name(pred))?;
     out.extend_from_slice(b", ")?;
@@ -171,81 +172,108 @@ fn put_fence(out: &mut Vec<u8>, fm: u8, pred: u8, succ: u8) -> Result<(), NoMemo
     Ok(())
 }
 
-#[tactic(auto, unfolding(crate::specs::Written::instr_text, rv32_decode::specs::Instr::Fits))]
+/// A row and its operands.
+fn put_operands(
+    alloc: Global,
+    out: &mut Vec<u8>,
+    row: Row,
+    operands: Operands,
+) -> Result<(), NoMemory>
+    requires { FitsOperands operands }
+    ensures { OnOk result (out.new.items ≡ out.old.items ++ row_text (row, operands)) }
+{
+    match operands {
+        Operands::Bare => put_row(out, row),
+        Operands::Sets(pred, succ) => put_sets(out, row, pred, succ),
+        Operands::Two(register, last) => put_two(alloc, out, row, register, last),
+        Operands::Three(first, second, last) => put_three(alloc, out, row, first, second, last),
+    }
+}
+
+/// The row of an instruction.
+#[tactic(auto, unfolding(crate::specs::Written::instr_row))]
+fn row_of(instr: &Instr) -> Row
+    ensures { result ≡ (instr_row instr.now).0 }
+{
+    match *instr {
+        Instr::Lui { .. } => Row::Lui,
+        Instr::Auipc { .. } => Row::Auipc,
+        Instr::Jal { .. } => Row::Jal,
+        Instr::Jalr { .. } => Row::Jalr,
+        Instr::Branch { kind, .. } => Row::Branch(kind),
+        Instr::Load { kind, .. } => Row::Load(kind),
+        Instr::Store { kind, .. } => Row::Store(kind),
+        Instr::OpImm { kind, .. } => Row::OpImm(kind),
+        Instr::Op { kind, .. } => Row::Op(kind),
+        Instr::Fence { fm: 0, .. } => Row::Fence,
+        Instr::Fence { .. } => Row::FenceTso,
+        Instr::Ecall => Row::Ecall,
+        Instr::Ebreak => Row::Ebreak,
+        Instr::Lr { aq, rl, .. } => atomic(Atomic::Lr, aq, rl),
+        Instr::Sc { aq, rl, .. } => atomic(Atomic::Sc, aq, rl),
+        Instr::Amo { kind, aq, rl, .. } => atomic(Atomic::Amo(kind), aq, rl),
+    }
+}
+
+fn atomic(kind: Atomic, aq: bool, rl: bool) -> Row
+    ensures { result ≡ row.Atomic kind aq rl }
+{
+    Row::Atomic { kind, aq, rl }
+}
+
+/// The operands of an instruction.
+#[tactic(auto, unfolding(crate::specs::Written::instr_row, rv32_decode::specs::Instr::Fits))]
+fn operands_of(instr: &Instr) -> Operands
+    requires { Fits instr.now }
+    ensures form { result ≡ (instr_row instr.now).1 }
+    ensures fits { FitsOperands result }
+{
+    match *instr {
+        Instr::Lui { rd, imm } | Instr::Auipc { rd, imm } => {
+            Operands::Two(rd, Last::Unsigned(imm >> 12))
+        }
+        Instr::Jal { rd, offset } => Operands::Two(rd, Last::Signed(offset)),
+        Instr::Jalr { rd, rs1, offset }
+        | Instr::Load {
+            rd,
+            rs1,
+            offset,
+            ..
+        } => { Operands::Two(rd, Last::Based(offset, rs1)) }
+        Instr::Branch {
+            rs1,
+            rs2,
+            offset,
+            ..
+        } => { Operands::Three(rs1, rs2, Last::Signed(offset)) }
+        Instr::Store {
+            rs1,
+            rs2,
+            offset,
+            ..
+        } => Operands::Two(rs2, Last::Based(offset, rs1)),
+        Instr::OpImm { rd, rs1, imm, .. } => Operands::Three(rd, rs1, Last::Signed(imm)),
+        Instr::Op { rd, rs1, rs2, .. } => Operands::Three(rd, rs1, Last::Register(rs2)),
+        Instr::Fence {
+            fm: 0,
+            pred,
+            succ,
+            ..
+        } => Operands::Sets(pred, succ),
+        Instr::Fence { .. } | Instr::Ecall | Instr::Ebreak => Operands::Bare,
+        Instr::Lr { rd, rs1, .. } => Operands::Two(rd, Last::Address(rs1)),
+        Instr::Sc { rd, rs1, rs2, .. } | Instr::Amo { rd, rs1, rs2, .. } => {
+            Operands::Three(rd, rs2, Last::Address(rs1))
+        }
+    }
+}
+
+#[tactic(auto, unfolding(crate::specs::Written::instr_text))]
 fn put_instr(alloc: Global, out: &mut Vec<u8>, instr: &Instr) -> Result<(), NoMemory>
     requires { Fits instr.now }
     ensures { OnOk result (out.new.items ≡ out.old.items ++ instr_text instr.now) }
 {
-    match *instr {
-        Instr::Lui { rd, imm } => put_two(alloc, out, Row::Lui, rd, Last::Unsigned(imm >> 12)),
-        Instr::Auipc { rd, imm } => put_two(alloc, out, Row::Auipc, rd, Last::Unsigned(imm >> 12)),
-        Instr::Jal { rd, offset } => put_two(alloc, out, Row::Jal, rd, Last::Signed(offset)),
-        Instr::Jalr { rd, rs1, offset } => {
-            put_two(alloc, out, Row::Jalr, rd, Last::Based(offset, rs1))
-        }
-        Instr::Branch {
-            kind,
-            rs1,
-            rs2,
-            offset,
-        } => put_three(
-            alloc,
-            out,
-            Row::Branch(kind),
-            rs1,
-            rs2,
-            Last::Signed(offset),
-        ),
-        Instr::Load {
-            kind,
-            rd,
-            rs1,
-            offset,
-        } => put_two(alloc, out, Row::Load(kind), rd, Last::Based(offset, rs1)),
-        Instr::Store {
-            kind,
-            rs1,
-            rs2,
-            offset,
-        } => put_two(alloc, out, Row::Store(kind), rs2, Last::Based(offset, rs1)),
-        Instr::OpImm { kind, rd, rs1, imm } => {
-            put_three(alloc, out, Row::OpImm(kind), rd, rs1, Last::Signed(imm))
-        }
-        Instr::Op { kind, rd, rs1, rs2 } => {
-            put_three(alloc, out, Row::Op(kind), rd, rs1, Last::Register(rs2))
-        }
-        Instr::Fence { fm, pred, succ, .. } => put_fence(out, fm, pred, succ),
-        Instr::Ecall => put_row(out, Row::Ecall),
-        Instr::Ebreak => put_row(out, Row::Ebreak),
-        Instr::Lr { aq, rl, rd, rs1 } => {
-            let kind = Atomic::Lr;
-            let row = Row::Atomic { kind, aq, rl };
-            put_two(alloc, out, row, rd, Last::Address(rs1))
-        }
-        Instr::Sc {
-            aq,
-            rl,
-            rd,
-            rs1,
-            rs2,
-        } => {
-            let kind = Atomic::Sc;
-            let row = Row::Atomic { kind, aq, rl };
-            put_three(alloc, out, row, rd, rs2, Last::Address(rs1))
-        }
-        Instr::Amo {
-            kind,
-            aq,
-            rl,
-            rd,
-            rs1,
-            rs2,
-        } => {
-            let kind = Atomic::Amo(kind);
-            let row = Row::Atomic { kind, aq, rl };
-            put_three(alloc, out, row, rd, rs2, Last::Address(rs1))
-        }
-    }
+    put_operands(alloc, out, row_of(instr), operands_of(instr))
 }
 
 /// The hexadecimal digit of a word at a place, counted from the lowest.
