@@ -166,3 +166,14 @@ pub rack_resumes : (answer : Answer) (images : List Image) (rack : RackView) (c 
     → slice_get rack.blades c ≡ Some blade → request_for page blade.requests ≡ Some asked → asked.waits ≡ Step → IsResumed answer images asked (with_frames blade entries)
 rack_resumes answer images rack c blade page asked entries safe all there out step =
     resumes answer images (permission_at rack.switch.protect) blade page asked entries (safe.sound.blades c blade there) (all c blade there) out step
+
+pub rack_fills : (images : List Image) (rack : RackView) (c : ℕ) (blade : BladeView) (page : PageView) (asked : Asked) (perm : Perm) (writable : Bool) (content : PageImageView) → IsSafe rack → AreNeeded images rack
+    → slice_get rack.blades c ≡ Some blade → request_for page blade.requests ≡ Some asked → asked.waits ≡ Step
+    → labels (after_message images (Fill page perm writable content) blade).noted ≡ label.Exec asked.hart ∷ []
+rack_fills images rack c blade page asked perm writable content safe all there out step =
+    fill_performs images (permission_at rack.switch.protect) blade page perm writable content asked (safe.sound.blades c blade there) (all c blade there) out step
+
+pub rack_denies : (images : List Image) (rack : RackView) (c : ℕ) (blade : BladeView) (page : PageView) (asked : Asked) → IsSafe rack → AreNeeded images rack
+    → slice_get rack.blades c ≡ Some blade → request_for page blade.requests ≡ Some asked → asked.waits ≡ Step → labels (after_message images (Deny page) blade).noted ≡ label.Exec asked.hart ∷ []
+rack_denies images rack c blade page asked safe all there out step =
+    deny_refuses images (permission_at rack.switch.protect) blade page asked (safe.sound.blades c blade there) (all c blade there) out step

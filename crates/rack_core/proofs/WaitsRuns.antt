@@ -4,6 +4,7 @@ use Rattle.std.specs.Prelude.{if◌then◌else◌}
 use Rattle.std.specs.List.{range_with_len}
 use Rattle.std.proofs.lemmas.Bool.{eqb-true}
 use Rattle.std.proofs.lemmas.Option.{same_Some}
+use Rattle.mind_base.specs.Fit.{IsFit}
 use Rattle.mind_base.specs.Page.{PageView}
 use Rattle.mind_base.specs.declared.events.Event.{Event}
 use Rattle.mind_base.specs.declared.events.Event.TheVariants.{Step, Drain, Evict, Deliver, Lose, Repeat, Resend, Epoch, Ask, Settle}
@@ -35,6 +36,7 @@ use Rattle.rack_core.specs.Waits.{IsNeeded, AreNeeded, IsQueueOf}
 use Rattle.rack_core.proofs.BladeHanded.{did, blade_handed, handed_may_come}
 use Rattle.rack_core.proofs.Delivering.{gave_on}
 use Rattle.rack_core.proofs.Lookups.{slice_get-set, slice_get-set_other}
+use Rattle.rack_core.proofs.Starting.{starts}
 use Rattle.rack_core.proofs.WaitsMessages.{firm, evict_keeps, message_keeps}
 use Rattle.rack_core.proofs.WaitsSteps.{step_keeps, drain_keeps}
 use Rattle.rack_core.proofs.Whole.{event_keeps}
@@ -157,3 +159,9 @@ first_needs images plan (number ∷ numbers) (suc c) blade e = first_needs image
 pub start_needs : (images : List Image) (plan : RackPlan) (rack : RackView) → IsStart plan rack → AreNeeded images rack
 start_needs images plan rack start c blade e =
     first_needs images plan (range_with_len 0 (length plan.frames)) c blade (ap (λ (blades : List BladeView). slice_get blades c) (sym start.blades) ∙ e)
+
+-- along every run from it
+pub reached_needs : (images : List Image) (plan : RackPlan) (first last : RackView) (events : List Event) (noted : List Note) → IsFit plan → IsStart plan first → AreOfRack events
+    → Reaches images events first last noted → AreNeeded images last
+reached_needs images plan first last events noted fit start of reaches =
+    run_needs images events first last noted of (starts plan first fit start) reaches (start_needs images plan first start)
