@@ -2,5 +2,4 @@
 
 mod racks_one_to_five;
 mod racks_six_to_ten;
-mod runs;
 mod waiting;

@@ -6,5 +6,4 @@ mod memory_rows;
 mod messages;
 mod orders_of_stores;
 mod racks;
-mod reports;
 mod store_buffering;

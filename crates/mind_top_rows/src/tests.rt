@@ -8,5 +8,4 @@ mod forms;
 mod journals;
 mod made;
 mod orders;
-mod recorders;
 mod runs;

@@ -1,11 +1,11 @@
 //! Small racks, programs and schedules made at random, the first five of them, as under `examples/deliveries`; reports and
 //! journals are those of a model outside the repository.
-use crate::tests::runs::{Row, all_run};
+use sample_runs::{JournalRow, all_journal};
 use std::test::Fail;
 
-static RACKS: [Row; 5] = [
+static RACKS: [JournalRow; 5] = [
     // examples/deliveries/01.
-    Row {
+    JournalRow {
         rack: "format = 1\nslots = 2\nprotect = 6\noutliers = 0\nregion = 0\nmost = 0\nthreshold = 0\n[[blade]]\nframes = 2\n[[blade]]\nframes = 2\n[[memory]]\nspare = 8\nhomes = [{ domain = 0, page = 0, pages = 2 }, { domain = 0, page = 2, pages = 4 }, { domain = 0, page = 6, pages = 1 }, { domain = 0, page = 7, pages = 1 }, { domain = 1, page = 5, pages = 2 }]\n[[memory]]\nspare = 2\nhomes = [{ domain = 0, page = 8, pages = 2 }, { domain = 1, page = 4, pages = 1 }, { domain = 1, page = 7, pages = 1 }, { domain = 2, page = 1, pages = 2 }, { domain = 2, page = 3, pages = 4 }]\n[[image]]\nname = \"p0.bin\"\nat = 0\n[[image]]\nname = \"p1.bin\"\nat = 0\n[[image]]\nname = \"p2.bin\"\nat = 2147483648\n[[thread]]\nblade = 1\ndomain = 2\nimage = 0\nqueue = 3\n[[thread]]\nblade = 1\ndomain = 1\nimage = 1\nqueue = 2\n[[thread]]\nblade = 1\ndomain = 0\nimage = 2\nqueue = 1\n[[map]]\ndomain = 0\npage = 0\npages = 3\nperm = \"rw\"\n[[map]]\ndomain = 1\npage = 5\npages = 3\nperm = \"rw\"\n[[map]]\ndomain = 2\npage = 4\npages = 3\nperm = \"r\"\n",
         programs: &[
             "000042b7 fff00793 00100513 00005437 7c02c503 00157e93 00ce9e93 008e8eb3 7c0ea783 7cf2a223 00370713 00150513 00a484b3 0084de93 009eceb3 001efe93 00ce9e93 008e8eb3 7c0ea683 fc5ff06f",
@@ -17,7 +17,7 @@ static RACKS: [Row; 5] = [
         journal: "mind journal 1\ne 0\nx 1\ne 1\nx 1\ne 2\nx 1\ne 3\nx 1\ne 4\nx 1\ne 5\nx 0\ne 6\nx 0\ne 7\nx 0\ne 8\ne 9\nx 0\ne 10\ne 11\ne 12\nr 2 4 0 i\nr 2 4 0 s 2\ne 13\nx 2\ne 14\nr 1 7 0 i\nr 1 7 0 m 1\ne 15\ne 16\ne 17\nx 2\ne 18\ne 19\ne 20\ne 21\nt 1 2 4 r\nx 0\ne 22\ne 23\nt 1 1 7 w\nx 1\ne 24\ne 25\ne 26\ne 27\nd 1\ne 28\nx 2\ne 29\nx 2\ne 30\nx 2\ne 31\ne 32\ne 33\ne 34\nx 0\ne 35\nx 0\ne 36\nx 0\ne 37\ne 38\ne 39\ne 40\ne 41\ne 42\nx 1\ne 43\ne 44\ng 1 1 7\ne 45\ne 46\nx 1\ne 47\ne 48\ne 49\nx 1\ne 50\nr 1 7 0 i\no 1 7 0\nr 0 0 0 i\nr 0 0 0 m 1\ne 51\ne 52\ne 53\ng 1 2 4\ne 54\ne 55\ne 56\nr 2 4 0 i\no 2 4 0\nr 2 5 0 i\nr 2 5 0 s 2\ne 57\nx 1\ne 58\nt 1 0 0 w\nx 2\ne 59\nx 2\ne 60\ne 61\nx 1\ne 62\nx 2\ne 63\ne 64\nx 2\ne 65\nt 1 2 5 r\nx 0\ne 66\nx 1\ne 67\ne 68\nx 2\ne 69\nx 2\ne 70\ne 71\ne 72\ne 73\ne 74\ng 1 0 0\ne 75\ne 76\nr 0 0 0 i\no 0 0 0\nr 1 5 0 i\nr 1 5 0 s 2\ne 77\ne 78\ne 79\ng 1 2 5\ne 80\nx 0\ne 81\ne 82\nr 2 5 0 i\no 2 5 0\nr 0 1 0 i\nr 0 1 0 s 2\ne 83\ne 84\ne 85\nt 1 1 5 r\nx 1\ne 86\ne 87\ne 88\ne 89\ne 90\ne 91\ne 92\ne 93\ne 94\nt 1 0 1 r\nx 2\ne 95\nx 2\ne 96\ne 97\ne 98\ne 99\ne 100\nx 2\ne 101\nx 2\ne 102\nx 2\ne 103\nx 2\ne 104\ne 105\ne 106\ne 107\ne 108\ne 109\ne 110\ne 111\nx 2\ne 112\nx 2\ne 113\ne 114\ne 115\nx 2\ne 116\ne 117\ne 118\ne 119\n",
     },
     // examples/deliveries/02.
-    Row {
+    JournalRow {
         rack: "format = 1\nslots = 2\nprotect = 6\noutliers = 1\nregion = 0\nmost = 3\nthreshold = 0\n[[blade]]\nframes = 1\n[[blade]]\nframes = 4\n[[blade]]\nframes = 4\n[[memory]]\nspare = 2\nhomes = [{ domain = 0, page = 100, pages = 1 }]\n[[memory]]\nspare = 2\nhomes = [{ domain = 0, page = 8, pages = 3 }]\n[[image]]\nname = \"p0.bin\"\nat = 0\n[[thread]]\nblade = 0\ndomain = 0\nimage = 0\nqueue = 3\n[[thread]]\nblade = 1\ndomain = 0\nimage = 0\nqueue = 2\n[[thread]]\nblade = 1\ndomain = 0\nimage = 0\nqueue = 2\n[[map]]\ndomain = 0\npage = 9\npages = 2\nperm = \"rw\"\n",
         programs: &[
             "0000a2b7 0000a337 000093b7 00009437 00a3a023 00028e13 0cfe27af 0017fe93 00ce9e93 008e8eb3 000ea683 00150513 00378793 00a484b3 0014fe93 00ce9e93 008e8eb3 000ea503 fc9ff06f",
@@ -27,7 +27,7 @@ static RACKS: [Row; 5] = [
         journal: "mind journal 1\ne 0\ne 1\nx 1\ne 2\nx 1\ne 3\nx 0\ne 4\nx 0\ne 5\nx 0\ne 6\nx 2\ne 7\nx 2\ne 8\nx 2\ne 9\nx 2\ne 10\ne 11\nr 0 9 0 i\nr 0 9 0 m 1\ne 12\ne 13\ne 14\nx 0\ne 15\nt 1 0 9 w\nx 2\ne 16\ne 17\ne 18\nx 1\ne 19\nd 2\ne 20\ng 1 0 9\ne 21\ne 22\ne 23\nx 1\ne 24\ne 25\nx 2\ne 26\ne 27\nr 0 9 0 i\nr 0 9 0 m 0\ne 28\ne 29\ne 30\ne 31\ne 32\nr 0 10 0 i\nr 0 10 0 m 1\ne 33\ne 34\ne 35\nt 1 0 10 w\nx 2\ne 36\nx 2\ne 37\nx 2\ne 38\nx 2\ne 39\nt 0 0 9 w\nx 0\ne 40\ne 41\ng 0 0 9\ne 42\nr 0 9 0 i\nr 0 9 0 m 1\ne 43\ne 44\ne 45\ne 46\ne 47\nt 1 0 9 w\nx 1\ne 48\nx 2\ne 49\nd 1\ne 50\ne 51\nx 2\ne 52\nx 2\ne 53\ne 54\nx 2\ne 55\ne 56\ne 57\ne 58\ne 59\nx 2\ne 60\ne 61\nx 2\ne 62\nx 2\ne 63\ng 1 0 9\ne 64\nx 2\ne 65\nx 1\ne 66\ne 67\nx 0\ne 68\ne 69\nx 2\ne 70\ne 71\nr 0 9 0 i\nr 0 9 0 m 0\ne 72\nx 1\ne 73\ne 74\nx 1\ne 75\ne 76\ne 77\nx 1\ne 78\ne 79\nt 0 0 9 w\nd 0\ne 80\ng 0 0 9\ne 81\ne 82\ne 83\nx 1\ne 84\nr 0 9 0 i\nr 0 9 0 m 1\ne 85\ne 86\ne 87\ne 88\ng 1 0 10\ne 89\ne 90\ne 91\ne 92\nr 0 10 0 i\nr 0 10 0 m 0\ne 93\ne 94\ne 95\ne 96\ne 97\ne 98\ne 99\ne 100\nt 1 0 9 w\nx 2\ne 101\nx 2\ne 102\nd 2\ne 103\ne 104\ne 105\nx 1\ne 106\nx 1\ne 107\ne 108\ne 109\ne 110\nx 1\ne 111\nx 1\ne 112\nx 1\ne 113\ne 114\ne 115\ne 116\n",
     },
     // examples/deliveries/03.
-    Row {
+    JournalRow {
         rack: "format = 1\nslots = 2\nprotect = 6\noutliers = 2\nregion = 0\nmost = 2\nthreshold = 1\n[[blade]]\nframes = 2\n[[blade]]\nframes = 3\n[[blade]]\nframes = 4\n[[blade]]\nframes = 1\n[[memory]]\nspare = 8\nhomes = [{ domain = 0, page = 8, pages = 2 }]\n[[memory]]\nspare = 2\nhomes = [{ domain = 0, page = 10, pages = 1 }]\n[[image]]\nname = \"p0.bin\"\nat = 0\n[[image]]\nname = \"p1.bin\"\nat = 0\n[[thread]]\nblade = 0\ndomain = 0\nimage = 0\nqueue = 3\n[[thread]]\nblade = 1\ndomain = 0\nimage = 1\nqueue = 2\n[[map]]\ndomain = 0\npage = 9\npages = 2\nperm = \"rw\"\n",
         programs: &[
             "000092b7 00009337 00200693 00009437 0017fe93 006e9e93 006e8eb3 00dea023 04d2a023 04a281a3 04f30123 04d30123 04029503 00100893 00000073 00178793 00150513 00d484b3 0014fe93 00ce9e93 008e8eb3 040ea783 fb9ff06f",
@@ -38,7 +38,7 @@ static RACKS: [Row; 5] = [
         journal: "mind journal 1\ne 0\nx 0\ne 1\nx 1\ne 2\nx 0\ne 3\nx 0\ne 4\nx 0\ne 5\nx 1\ne 6\nx 1\ne 7\nx 1\ne 8\nx 0\ne 9\nx 0\ne 10\nx 0\ne 11\ne 12\nr 0 9 0 i\nr 0 9 0 m 0\ne 13\ne 14\ne 15\nt 0 0 9 w\nx 0\ne 16\nx 0\ne 17\nd 0\ne 18\nd 0\ne 19\nx 0\ne 20\nd 0\ne 21\nx 0\ne 22\nd 0\ne 23\ne 24\ne 25\nl 0 0 9\ne 26\ne 27\ne 28\ne 29\nx 0\ne 30\nr 0 9 0 s 1\nr 0 9 0 s 3\ne 31\ne 32\ne 33\nt 1 0 9 r\nx 1\ne 34\nx 0\ne 35\nx 1\ne 36\ne 37\nx 0\ne 38\ne 39\ne 40\ng 1 0 9\ne 41\nr 0 10 0 i\nr 0 10 0 s 2\ne 42\nx 0\ne 43\ne 44\ne 45\nt 1 0 10 r\nx 1\ne 46\nx 0\ne 47\nr 0 9 0 s 1\nr 0 9 0 m 0\ne 48\ne 49\ne 50\nt 0 0 9 w\nd 0\ne 51\ne 52\nx 0\ne 53\ne 54\nx 1\ne 55\nx 0\ne 56\ne 57\nx 0\ne 58\nx 0\ne 59\nx 0\ne 60\nx 0\ne 61\ne 62\nx 1\ne 63\nx 1\ne 64\nx 1\ne 65\nx 0\ne 66\nx 0\ne 67\ne 68\nx 0\ne 69\ne 70\nx 0\ne 71\ne 72\nx 0\ne 73\nx 0\ne 74\nx 0\ne 75\nd 0\ne 76\nx 0\ne 77\nd 0\ne 78\nx 0\ne 79\nx 1\ne 80\nx 1\ne 81\nx 1\ne 82\nd 0\ne 83\nx 1\ne 84\nd 0\ne 85\nd 0\ne 86\nx 1\ne 87\nx 1\ne 88\nx 1\ne 89\nx 1\ne 90\nx 1\ne 91\nx 1\ne 92\nx 0\ne 93\nx 0\ne 94\nx 0\ne 95\nx 1\ne 96\nx 1\ne 97\nx 0\ne 98\nx 0\ne 99\nx 1\ne 100\nx 1\ne 101\nx 0\ne 102\ne 103\nx 0\ne 104\ne 105\nx 0\ne 106\nx 0\ne 107\ne 108\nx 0\ne 109\nx 0\ne 110\nx 1\ne 111\nx 0\ne 112\nx 0\ne 113\ne 114\nx 0\ne 115\ne 116\nx 1\ne 117\nx 0\ne 118\nx 0\ne 119\nd 0\n",
     },
     // examples/deliveries/04.
-    Row {
+    JournalRow {
         rack: "format = 1\nslots = 3\nprotect = 2\noutliers = 3\nregion = 1\nmost = 4\nthreshold = 0\n[[blade]]\nframes = 3\n[[blade]]\nframes = 1\n[[memory]]\nspare = 1\nhomes = [{ domain = 0, page = 0, pages = 2 }, { domain = 0, page = 2, pages = 2 }, { domain = 0, page = 4, pages = 2 }, { domain = 1, page = 1, pages = 1 }, { domain = 1, page = 2, pages = 2 }, { domain = 2, page = 4, pages = 2 }, { domain = 2, page = 6, pages = 2 }]\n[[image]]\nname = \"p0.bin\"\nat = 0\n[[image]]\nname = \"p1.bin\"\nat = 2147483648\n[[image]]\nname = \"p2.bin\"\nat = 0\n[[image]]\nname = \"p3.bin\"\nat = 0\n[[image]]\nname = \"p4.bin\"\nat = 0\n[[thread]]\nblade = 0\ndomain = 0\nimage = 0\nqueue = 2\n[[thread]]\nblade = 1\ndomain = 0\nimage = 1\nqueue = 3\n[[thread]]\nblade = 0\ndomain = 1\nimage = 2\nqueue = 1\n[[thread]]\nblade = 1\ndomain = 0\nimage = 0\nqueue = 3\n[[thread]]\nblade = 1\ndomain = 0\nimage = 3\nqueue = 2\n[[thread]]\nblade = 1\ndomain = 0\nimage = 4\nqueue = 1\n[[map]]\ndomain = 0\npage = 0\npages = 6\nperm = \"rw\"\n",
         programs: &[
             "000012b7 00003337 00000393 00100513 00300713 00002437 fff68693 04834503 00350513 00368693 00d484b3 0014fe93 00ce9e93 008e8eb3 040ea783 fddff06f",
@@ -52,7 +52,7 @@ static RACKS: [Row; 5] = [
         journal: "mind journal 1\ne 0\nx 3\ne 1\nx 3\ne 2\nx 4\ne 3\nx 5\ne 4\nx 1\ne 5\nx 1\ne 6\nx 1\ne 7\nx 2\ne 8\ne 9\nx 5\ne 10\nx 5\ne 11\nx 5\ne 12\nx 5\ne 13\ne 14\nr 0 4 1 i\nr 0 4 1 s 2\ne 15\ne 16\nx 4\ne 17\ne 18\nt 1 0 5 r\nx 5\ne 19\ne 20\nx 5\ne 21\ne 22\nr 0 4 1 m 1\ne 23\ne 24\ne 25\ne 26\nx 1\ne 27\nx 2\ne 28\nx 2\ne 29\ne 30\ne 31\ne 32\ng 1 0 5\nt 1 0 4 w\nx 4\ne 33\nx 2\ne 34\ne 35\nx 3\ne 36\nd 4\ne 37\nx 3\ne 38\nx 3\ne 39\ne 40\nx 3\ne 41\ng 1 0 4\nt 1 0 5 w\nx 5\ne 42\nx 0\ne 43\nx 0\ne 44\ne 45\ne 46\nx 0\ne 47\nx 3\ne 48\nx 5\ne 49\nx 0\ne 50\nx 5\ne 51\nx 5\ne 52\nx 0\ne 53\nx 0\ne 54\nx 0\ne 55\ne 56\ne 57\ne 58\ne 59\ne 60\ne 61\ne 62\nx 1\ne 63\ne 64\nr 0 2 1 i\nr 0 2 1 s 2\ne 65\nx 1\ne 66\ne 67\ne 68\ne 69\ne 70\ne 71\ne 72\ne 73\ne 74\ne 75\ne 76\ne 77\ne 78\ne 79\ne 80\ne 81\ne 82\ne 83\nr 0 2 1 s 3\ne 84\ne 85\ne 86\ne 87\ng 1 0 5\nt 1 0 4 r\nx 4\ne 88\ne 89\ne 90\nx 4\ne 91\ne 92\ne 93\ne 94\ne 95\ne 96\ne 97\ng 1 0 4\nt 1 0 3 r\nx 3\ne 98\ne 99\ne 100\ne 101\ne 102\ne 103\ne 104\ne 105\ne 106\ne 107\ne 108\ne 109\ne 110\ne 111\ne 112\nx 3\ne 113\ne 114\ne 115\ne 116\ne 117\ne 118\n",
     },
     // examples/deliveries/05.
-    Row {
+    JournalRow {
         rack: "format = 1\nslots = 2\nprotect = 2\noutliers = 3\nregion = 2\nmost = 4\nthreshold = 3\n[[blade]]\nframes = 2\n[[blade]]\nframes = 3\n[[blade]]\nframes = 2\n[[memory]]\nspare = 5\nhomes = [{ domain = 0, page = 10, pages = 1 }]\n[[memory]]\nspare = 4\nhomes = [{ domain = 0, page = 8, pages = 2 }, { domain = 0, page = 11, pages = 1 }, { domain = 0, page = 12, pages = 1 }]\n[[image]]\nname = \"p0.bin\"\nat = 0\n[[image]]\nname = \"p1.bin\"\nat = 0\n[[image]]\nname = \"p2.bin\"\nat = 0\n[[image]]\nname = \"p3.bin\"\nat = 0\n[[thread]]\nblade = 0\ndomain = 0\nimage = 0\nqueue = 1\n[[thread]]\nblade = 1\ndomain = 0\nimage = 0\nqueue = 1\n[[thread]]\nblade = 2\ndomain = 0\nimage = 1\nqueue = 2\n[[thread]]\nblade = 0\ndomain = 0\nimage = 2\nqueue = 2\n[[thread]]\nblade = 0\ndomain = 0\nimage = 3\nqueue = 1\n[[thread]]\nblade = 2\ndomain = 0\nimage = 3\nqueue = 1\n[[map]]\ndomain = 0\npage = 10\npages = 3\nperm = \"rw\"\n",
         programs: &[
             "0000a2b7 0000b337 0000a3b7 0000a437 0ff0000f 08e3a023 0802c683 0016fe93 00ce9e93 008e8eb3 080ea783 00750793 00168693 00178793 fd9ff06f",
@@ -68,5 +68,5 @@ static RACKS: [Row; 5] = [
 
 #[test]
 fn the_first_five_racks(rt: HostRuntime) -> Result<(), Fail> {
-    all_run(&rt, &RACKS)
+    all_journal(rt.alloc(), &RACKS)
 }

@@ -1,11 +1,11 @@
 //! Small racks, programs and schedules made at random, the other five of them, as under `examples/deliveries`; reports and
 //! journals are those of a model outside the repository.
-use crate::tests::runs::{Row, all_run};
+use sample_runs::{JournalRow, all_journal};
 use std::test::Fail;
 
-static RACKS: [Row; 5] = [
+static RACKS: [JournalRow; 5] = [
     // examples/deliveries/06.
-    Row {
+    JournalRow {
         rack: "format = 1\nslots = 1\nprotect = 8\noutliers = 0\nregion = 0\nmost = 2\nthreshold = 2\n[[blade]]\nframes = 1\n[[blade]]\nframes = 1\n[[memory]]\nspare = 0\nhomes = [{ domain = 0, page = 0, pages = 2 }]\n[[memory]]\nspare = 1\nhomes = [{ domain = 0, page = 101, pages = 1 }]\n[[image]]\nname = \"p0.bin\"\nat = 2147483648\n[[image]]\nname = \"p1.bin\"\nat = 4096\n[[thread]]\nblade = 0\ndomain = 0\nimage = 0\nqueue = 2\n[[thread]]\nblade = 1\ndomain = 0\nimage = 1\nqueue = 3\n[[map]]\ndomain = 0\npage = 0\npages = 2\nperm = \"rw\"\n[[map]]\ndomain = 0\npage = 101\npages = 1\nperm = \"rw\"\n",
         programs: &[
             "000012b7 00000313 00000413 08030e13 120e272f 08e28423 08030e13 18de26af 0016fe93 00ce9e93 008e8eb3 080ea703 0a032e23 00178793 00168693 00f484b3 00e4c4b3 0014de93 009eceb3 001efe93 00ce9e93 008e8eb3 080ea703",
@@ -16,7 +16,7 @@ static RACKS: [Row; 5] = [
         journal: "mind journal 1\ne 0\nx 0\ne 1\nx 0\ne 2\nx 1\ne 3\nx 1\ne 4\nx 0\ne 5\nx 0\ne 6\ne 7\nr 0 0 0 i\nr 0 0 0 s 1\ne 8\ne 9\ne 10\nt 0 0 0 r\nx 0\ne 11\ne 12\ne 13\ng 0 0 0\ne 14\nr 0 0 0 i\no 0 0 0\nr 0 1 0 i\nr 0 1 0 m 0\ne 15\ne 16\ne 17\ne 18\nt 0 0 1 w\nx 0\ne 19\ne 20\ne 21\nx 0\ne 22\nd 0\ne 23\ne 24\ne 25\nx 1\ne 26\ng 0 0 1\ne 27\ne 28\ne 29\nr 0 1 0 i\no 0 1 0\nr 0 0 0 i\nr 0 0 0 m 0\ne 30\ne 31\ne 32\nt 0 0 0 w\nx 0\ne 33\ne 34\ne 35\ne 36\ne 37\ne 38\ne 39\nl 0 0 0\ne 40\ne 41\ne 42\ne 43\ne 44\ne 45\ne 46\ne 47\nx 0\ne 48\ne 49\ne 50\ne 51\nx 0\ne 52\nx 0\ne 53\nx 0\ne 54\nr 0 0 0 s 1\nr 0 0 0 s 3\ne 55\ne 56\ne 57\ne 58\ne 59\ne 60\nx 0\ne 61\nx 0\ne 62\ne 63\ne 64\ne 65\ne 66\ne 67\nx 0\ne 68\ne 69\nx 0\ne 70\nx 0\ne 71\ne 72\ne 73\ne 74\ne 75\ne 76\ne 77\ne 78\ne 79\ne 80\ne 81\ne 82\ne 83\ne 84\nt 1 0 0 r\nx 1\ne 85\ng 0 0 0\ne 86\nx 0\ne 87\ne 88\ne 89\ne 90\nx 0\ne 91\nx 0\ne 92\ne 93\ne 94\ne 95\ne 96\ne 97\ne 98\ne 99\ng 1 0 0\ne 100\ne 101\ne 102\ne 103\nx 0\ne 104\nx 0\ne 105\n",
     },
     // examples/deliveries/07.
-    Row {
+    JournalRow {
         rack: "format = 1\nslots = 2\nprotect = 6\noutliers = 1\nregion = 0\nmost = 3\nthreshold = 0\n[[blade]]\nframes = 4\n[[blade]]\nframes = 4\n[[blade]]\nframes = 3\n[[memory]]\nspare = 5\nhomes = [{ domain = 0, page = 1048568, pages = 1 }, { domain = 0, page = 1048571, pages = 2 }]\n[[memory]]\nspare = 0\nhomes = [{ domain = 0, page = 1048569, pages = 1 }, { domain = 1, page = 4, pages = 2 }]\n[[memory]]\nspare = 8\nhomes = [{ domain = 0, page = 1048570, pages = 1 }, { domain = 0, page = 1048573, pages = 1 }, { domain = 0, page = 1048574, pages = 2 }, { domain = 1, page = 6, pages = 2 }]\n[[image]]\nname = \"p0.bin\"\nat = 0\n[[image]]\nname = \"p1.bin\"\nat = 4096\n[[thread]]\nblade = 2\ndomain = 0\nimage = 0\nqueue = 2\n[[thread]]\nblade = 2\ndomain = 1\nimage = 1\nqueue = 2\n[[thread]]\nblade = 2\ndomain = 1\nimage = 1\nqueue = 2\n[[thread]]\nblade = 2\ndomain = 1\nimage = 1\nqueue = 3\n[[map]]\ndomain = 1\npage = 5\npages = 3\nperm = \"rw\"\n",
         programs: &[
             "00000293 00000313 00000393 fff00693 00300793 0402c703 0402a503 00050463 04e3a023 0403a023 04028703 04032703 00e79463 04a30023 00150513 00370713 fd5ff06f",
@@ -27,7 +27,7 @@ static RACKS: [Row; 5] = [
         journal: "mind journal 1\ne 0\nx 1\ne 1\nx 2\ne 2\nx 2\ne 3\nx 1\ne 4\ne 5\ne 6\nx 0\ne 7\nx 0\ne 8\nx 0\ne 9\nx 1\ne 10\nx 2\ne 11\nx 3\ne 12\nx 3\ne 13\nx 3\ne 14\nx 1\ne 15\nx 1\ne 16\nx 3\ne 17\ne 18\nx 0\ne 19\nx 3\ne 20\nx 3\ne 21\ne 22\nr 1 5 0 i\nr 1 5 0 s 4\ne 23\nx 1\ne 24\ne 25\ne 26\ne 27\nt 2 1 5 r\nx 3\ne 28\nx 0\ne 29\ne 30\ne 31\nx 0\ne 32\nx 2\ne 33\ne 34\nx 2\ne 35\ne 36\nx 2\ne 37\nx 2\ne 38\ne 39\nx 1\ne 40\ne 41\nx 2\ne 42\ne 43\ne 44\nx 3\ne 45\nr 1 5 0 m 2\ne 46\nx 1\ne 47\ne 48\ne 49\nt 2 1 5 w\nx 2\ne 50\ne 51\ne 52\ne 53\nx 1\ne 54\nx 1\ne 55\nx 2\ne 56\ng 2 1 5\ne 57\ne 58\ne 59\nx 1\ne 60\nx 1\ne 61\ne 62\ne 63\ne 64\ne 65\nt 2 1 5 w\nx 3\ne 66\nx 3\ne 67\ne 68\nx 3\ne 69\ne 70\nx 3\ne 71\ne 72\nr 1 7 0 i\nr 1 7 0 s 4\ne 73\ne 74\ne 75\nt 2 1 7 r\nx 3\ne 76\ne 77\ne 78\ne 79\nx 2\ne 80\ne 81\ng 2 1 5\ne 82\nr 1 5 0 i\no 1 5 0\nr 1 6 0 i\nr 1 6 0 m 2\ne 83\ne 84\ne 85\nt 2 1 6 w\nx 3\ne 86\nx 2\ne 87\ng 2 1 6\ne 88\ne 89\ne 90\ne 91\ne 92\ne 93\nt 2 1 6 r\nx 2\ne 94\nx 3\ne 95\ne 96\nx 3\ne 97\nx 1\ne 98\nx 3\ne 99\ne 100\nx 3\ne 101\nx 3\ne 102\nx 3\n",
     },
     // examples/deliveries/08.
-    Row {
+    JournalRow {
         rack: "format = 1\nslots = 1\nprotect = 4\noutliers = 0\nregion = 0\nmost = 3\nthreshold = 0\n[[blade]]\nframes = 1\n[[memory]]\nspare = 1\nhomes = [{ domain = 0, page = 4, pages = 1 }, { domain = 0, page = 5, pages = 2 }, { domain = 0, page = 7, pages = 2 }, { domain = 0, page = 9, pages = 1 }]\n[[image]]\nname = \"p0.bin\"\nat = 4096\n[[image]]\nname = \"p1.bin\"\nat = 0\n[[image]]\nname = \"p2.bin\"\nat = 0\n[[thread]]\nblade = 0\ndomain = 0\nimage = 0\nqueue = 3\n[[thread]]\nblade = 0\ndomain = 0\nimage = 0\nqueue = 2\n[[thread]]\nblade = 0\ndomain = 0\nimage = 0\nqueue = 1\n[[thread]]\nblade = 0\ndomain = 0\nimage = 1\nqueue = 1\n[[thread]]\nblade = 0\ndomain = 0\nimage = 2\nqueue = 1\n[[map]]\ndomain = 0\npage = 8\npages = 2\nperm = \"rw\"\n",
         programs: &[
             "000082b7 00009337 00008437 7ee32e23 00200f13 7e02ae23 ffff0f13 fe0f1ce3 00378793 00368693 00e484b3 00f4c4b3 0104de93 009eceb3 001efe93 00ce9e93 008e8eb3 7c0ea703 fc5ff06f",
@@ -39,7 +39,7 @@ static RACKS: [Row; 5] = [
         journal: "mind journal 1\ne 0\nx 3\ne 1\nx 3\ne 2\ne 3\nx 3\ne 4\nx 3\ne 5\nx 3\ne 6\nx 0\ne 7\nx 0\ne 8\nx 0\ne 9\ne 10\nr 0 9 0 i\nr 0 9 0 m 0\ne 11\ne 12\ne 13\nt 0 0 9 w\nx 0\ne 14\ne 15\ne 16\ng 0 0 9\ne 17\ne 18\ne 19\ne 20\nx 0\ne 21\ne 22\ne 23\ne 24\ne 25\ne 26\nx 1\ne 27\ne 28\ne 29\nx 1\ne 30\nx 1\ne 31\nt 0 0 9 w\nd 0\ne 32\ne 33\nx 1\ne 34\nx 1\ne 35\nx 2\ne 36\ne 37\nx 2\ne 38\ng 0 0 9\ne 39\ne 40\ne 41\ne 42\nx 2\ne 43\ne 44\ne 45\nr 0 9 0 i\no 0 9 0\nr 0 8 0 i\nr 0 8 0 m 0\ne 46\ne 47\nx 4\ne 48\nx 4\ne 49\ne 50\ne 51\ne 52\ne 53\ne 54\ne 55\ne 56\ne 57\ne 58\ne 59\ne 60\ne 61\nt 0 0 8 w\nx 0\ne 62\ne 63\ne 64\ne 65\ne 66\ne 67\ne 68\ne 69\nx 3\ne 70\ne 71\ne 72\nx 0\ne 73\ne 74\ne 75\ne 76\ng 0 0 8\ne 77\nr 0 8 0 i\no 0 8 0\nr 0 9 0 i\nr 0 9 0 m 0\ne 78\ne 79\ne 80\nx 0\ne 81\ne 82\ne 83\ne 84\nt 0 0 9 w\nx 2\ne 85\ne 86\ne 87\ne 88\ne 89\ne 90\nx 4\ne 91\ne 92\nx 3\ne 93\ne 94\ne 95\ne 96\ng 0 0 9\ne 97\ne 98\nr 0 9 0 i\no 0 9 0\nr 0 8 0 i\nr 0 8 0 m 0\ne 99\ne 100\ne 101\ne 102\ne 103\ne 104\nx 2\ne 105\ne 106\ne 107\ne 108\ne 109\nt 0 0 8 w\nx 0\ne 110\ne 111\n",
     },
     // examples/deliveries/09.
-    Row {
+    JournalRow {
         rack: "format = 1\nslots = 3\nprotect = 1\noutliers = 3\nregion = 2\nmost = 4\nthreshold = 2\npolicy = \"threshold\"\n[[blade]]\nframes = 5\n[[blade]]\nframes = 3\n[[memory]]\nspare = 0\nhomes = [{ domain = 5, page = 8, pages = 2 }, { domain = 5, page = 12, pages = 2 }, { domain = 12, page = 6, pages = 2 }, { domain = 12, page = 10, pages = 1 }, { domain = 13, page = 4, pages = 4 }, { domain = 13, page = 8, pages = 2 }]\n[[memory]]\nspare = 1\nhomes = [{ domain = 5, page = 10, pages = 2 }, { domain = 12, page = 4, pages = 2 }, { domain = 12, page = 8, pages = 2 }, { domain = 12, page = 11, pages = 3 }]\n[[image]]\nname = \"p0.bin\"\nat = 2147483648\n[[image]]\nname = \"p1.bin\"\nat = 2147483648\n[[image]]\nname = \"p2.bin\"\nat = 0\n[[image]]\nname = \"p3.bin\"\nat = 0\n[[thread]]\nblade = 0\ndomain = 5\nimage = 0\nqueue = 3\n[[thread]]\nblade = 1\ndomain = 13\nimage = 1\nqueue = 1\n[[thread]]\nblade = 0\ndomain = 13\nimage = 2\nqueue = 1\n[[thread]]\nblade = 1\ndomain = 13\nimage = 3\nqueue = 2\n[[map]]\ndomain = 13\npage = 8\npages = 2\nperm = \"rw\"\n",
         programs: &[
             "00000293 00000313 00032503 1202a52f 04f2a423 1af2a52f 00778793 00168693 00170713 fe5ff06f",
@@ -52,7 +52,7 @@ static RACKS: [Row; 5] = [
         journal: "mind journal 1\ne 0\nx 0\ne 1\nx 2\ne 2\nx 2\ne 3\nx 2\ne 4\nx 2\ne 5\ne 6\nr 13 8 2 i\nr 13 8 2 s 1\ne 7\ne 8\ne 9\nt 0 13 9 r\nx 2\ne 10\ne 11\ne 12\ne 13\nr 13 8 2 m 0\ne 14\ne 15\ne 16\nx 3\ne 17\nx 3\ne 18\nt 0 13 9 w\nx 2\ne 19\nx 3\ne 20\ne 21\nx 0\ne 22\ne 23\ne 24\nx 0\ne 25\ne 26\ne 27\nx 1\ne 28\ne 29\nx 3\ne 30\ne 31\ne 32\ne 33\ng 0 13 9\ne 34\nx 1\ne 35\ne 36\nx 1\ne 37\nx 1\ne 38\nx 1\ne 39\nr 13 8 2 i\nr 13 8 2 m 1\ne 40\ne 41\ne 42\ne 43\ne 44\nt 1 13 8 w\nx 3\ne 45\nx 1\ne 46\ne 47\ne 48\ne 49\ne 50\nt 1 13 9 w\nx 1\ne 51\nx 1\ne 52\nx 2\ne 53\nx 2\ne 54\ne 55\ne 56\nx 2\ne 57\nx 3\ne 58\nd 3\ne 59\nx 3\ne 60\nx 1\ne 61\nx 1\ne 62\nd 3\ne 63\nx 1\ne 64\ne 65\ne 66\nx 1\ne 67\nx 2\ne 68\nx 2\ne 69\nx 2\ne 70\nx 2\ne 71\nx 2\ne 72\ne 73\ne 74\nx 1\ne 75\nx 3\ne 76\nl 1 13 9\nl 1 13 8\ne 77\nx 3\ne 78\ne 79\nx 3\ne 80\nx 3\ne 81\nx 3\ne 82\nx 3\ne 83\ne 84\nx 1\ne 85\nx 1\ne 86\nx 1\ne 87\nx 1\ne 88\nx 1\ne 89\ne 90\ne 91\ne 92\nx 1\ne 93\nx 1\ne 94\nx 1\ne 95\nr 13 8 2 s 2\nr 13 8 2 s 3\ne 96\ne 97\ne 98\ne 99\ne 100\ne 101\ne 102\nx 1\ne 103\ne 104\ne 105\ne 106\ne 107\ne 108\ne 109\ne 110\ne 111\ne 112\nx 3\ne 113\n",
     },
     // examples/deliveries/10.
-    Row {
+    JournalRow {
         rack: "format = 1\nslots = 1\nprotect = 6\noutliers = 3\nregion = 3\nmost = 3\nthreshold = 0\n[[blade]]\nframes = 3\n[[blade]]\nframes = 4\n[[blade]]\nframes = 4\n[[blade]]\nframes = 4\n[[memory]]\nspare = 8\nhomes = [{ domain = 0, page = 4, pages = 2 }]\n[[memory]]\nspare = 4\nhomes = [{ domain = 0, page = 101, pages = 1 }]\n[[memory]]\nspare = 0\nhomes = [{ domain = 0, page = 6, pages = 2 }, { domain = 0, page = 8, pages = 2 }]\n[[image]]\nname = \"p0.bin\"\nat = 4096\n[[image]]\nname = \"p1.bin\"\nat = 0\n[[image]]\nname = \"p2.bin\"\nat = 0\n[[thread]]\nblade = 0\ndomain = 0\nimage = 0\nqueue = 2\n[[thread]]\nblade = 1\ndomain = 0\nimage = 1\nqueue = 1\n[[thread]]\nblade = 2\ndomain = 0\nimage = 2\nqueue = 1\n[[map]]\ndomain = 0\npage = 101\npages = 1\nperm = \"rw\"\n[[map]]\ndomain = 0\npage = 8\npages = 2\nperm = \"rw\"\n[[map]]\ndomain = 0\npage = 6\npages = 2\nperm = \"rw\"\n",
         programs: &[
             "000062b7 00100513 00200793 00008437 00370713 04e28023 04a28023 04028e13 120e272f 04028e13 1aae272f 00177e93 00ce9e93 008e8eb3 040ea783 00170713 04e2a023 04e2a023 04028e13 08de252f 00157e93 00ce9e93 008e8eb3 040ea503 04e2a023 04e2a023 04028e13 0cfe272f 00177e93 00ce9e93 008e8eb3 040ea783 00d484b3 00e4c4b3 0014fe93 00ce9e93 008e8eb3 040ea703 00150513 00168693 f71ff06f",
@@ -67,5 +67,5 @@ static RACKS: [Row; 5] = [
 
 #[test]
 fn the_other_five_racks(rt: HostRuntime) -> Result<(), Fail> {
-    all_run(&rt, &RACKS)
+    all_journal(rt.alloc(), &RACKS)
 }

@@ -1,18 +1,6 @@
 //! Accesses that wait for their page, frames that are lost and repeated, pages that are given up and taken away.
-use crate::tests::runs::{Row, all_run};
+use sample_runs::{JournalRow, ONE, ONE_SLOT, TWO, all_journal};
 use std::test::Fail;
-
-/// One thread.
-const ONE: &str =
-    "format = 1\nslots = 4\nprotect = 8\noutliers = 2\nregion = 0\nmost = 9\nthreshold = 0\n[[blade]]\nframes = 2\n[[blade]]\nframes = 2\n[[memory]]\nspare = 4\nhomes = [{ domain = 0, page = 0, pages = 16 }]\n[[memory]]\nspare = 4\nhomes = [{ domain = 0, page = 16, pages = 16 }]\n[[image]]\nname = \"p0.bin\"\nat = 0\n[[thread]]\nblade = 0\ndomain = 0\nimage = 0\nqueue = 2\n[[map]]\ndomain = 0\npage = 1\npages = 2\nperm = \"rw\"\n";
-
-/// Two threads, each on a blade of its own.
-const TWO: &str =
-    "format = 1\nslots = 4\nprotect = 8\noutliers = 2\nregion = 0\nmost = 9\nthreshold = 0\n[[blade]]\nframes = 2\n[[blade]]\nframes = 2\n[[memory]]\nspare = 4\nhomes = [{ domain = 0, page = 0, pages = 16 }]\n[[memory]]\nspare = 4\nhomes = [{ domain = 0, page = 16, pages = 16 }]\n[[image]]\nname = \"p0.bin\"\nat = 0\n[[image]]\nname = \"p1.bin\"\nat = 0\n[[thread]]\nblade = 0\ndomain = 0\nimage = 0\nqueue = 2\n[[thread]]\nblade = 1\ndomain = 0\nimage = 1\nqueue = 2\n[[map]]\ndomain = 0\npage = 1\npages = 2\nperm = \"rw\"\n";
-
-/// The same with one entry in the directory.
-const ONE_SLOT: &str =
-    "format = 1\nslots = 1\nprotect = 8\noutliers = 2\nregion = 0\nmost = 9\nthreshold = 0\n[[blade]]\nframes = 2\n[[blade]]\nframes = 2\n[[memory]]\nspare = 4\nhomes = [{ domain = 0, page = 0, pages = 16 }]\n[[memory]]\nspare = 4\nhomes = [{ domain = 0, page = 16, pages = 16 }]\n[[image]]\nname = \"p0.bin\"\nat = 0\n[[image]]\nname = \"p1.bin\"\nat = 0\n[[thread]]\nblade = 0\ndomain = 0\nimage = 0\nqueue = 2\n[[thread]]\nblade = 1\ndomain = 0\nimage = 1\nqueue = 2\n[[map]]\ndomain = 0\npage = 1\npages = 2\nperm = \"rw\"\n";
 
 /// One thread that may use three pages, and a blade of two frames.
 const THREE_PAGES: &str =
@@ -22,9 +10,9 @@ const THREE_PAGES: &str =
 const ONE_BLADE: &str =
     "format = 1\nslots = 4\nprotect = 8\noutliers = 2\nregion = 0\nmost = 9\nthreshold = 0\n[[blade]]\nframes = 2\n[[blade]]\nframes = 2\n[[memory]]\nspare = 4\nhomes = [{ domain = 0, page = 0, pages = 16 }]\n[[memory]]\nspare = 4\nhomes = [{ domain = 0, page = 16, pages = 16 }]\n[[image]]\nname = \"p0.bin\"\nat = 0\n[[image]]\nname = \"p1.bin\"\nat = 0\n[[thread]]\nblade = 0\ndomain = 0\nimage = 0\nqueue = 2\n[[thread]]\nblade = 0\ndomain = 0\nimage = 1\nqueue = 2\n[[map]]\ndomain = 0\npage = 1\npages = 2\nperm = \"rw\"\n";
 
-static WAITING: [Row; 10] = [
+static WAITING: [JournalRow; 10] = [
     // A load waits for its page; the load behind it finds the page there.
-    Row {
+    JournalRow {
         rack: ONE,
         programs: &["000012b7 0002a503 0002a503"],
         schedule: "step 0\nstep 0\ndeliver u0 0\ndeliver t0 0\ndeliver f0 0\ndeliver d0 0\nstep 0\n",
@@ -32,7 +20,7 @@ static WAITING: [Row; 10] = [
         journal: "mind journal 1\ne 0\nx 0\ne 1\ne 2\nr 0 1 0 i\nr 0 1 0 s 1\ne 3\ne 4\ne 5\nt 0 0 1 r\nx 0\ne 6\nx 0\n",
     },
     // A store waits for its page, and drains into it.
-    Row {
+    JournalRow {
         rack: ONE,
         programs: &["000012b7 0002a023"],
         schedule: "step 0\nstep 0\ndeliver u0 0\ndeliver t0 0\ndeliver f0 0\ndeliver d0 0\ndrain 0\n",
@@ -40,7 +28,7 @@ static WAITING: [Row; 10] = [
         journal: "mind journal 1\ne 0\nx 0\ne 1\ne 2\nr 0 1 0 i\nr 0 1 0 m 0\ne 3\ne 4\ne 5\nt 0 0 1 w\nx 0\ne 6\nd 0\n",
     },
     // A load shares a page; a store of another blade takes it away, and drains.
-    Row {
+    JournalRow {
         rack: TWO,
         programs: &["000012b7 0002a503 0002a503", "000012b7 0002a023"],
         schedule: "step 0\nstep 0\ndeliver u0 0\ndeliver t0 0\ndeliver f0 0\ndeliver d0 0\nstep 1\nstep 1\ndeliver u1 0\ndeliver d0 0\ndeliver u0 0\ndeliver t0 0\ndeliver f0 0\ndeliver d1 0\ndrain 1\n",
@@ -48,7 +36,7 @@ static WAITING: [Row; 10] = [
         journal: "mind journal 1\ne 0\nx 0\ne 1\ne 2\nr 0 1 0 i\nr 0 1 0 s 1\ne 3\ne 4\ne 5\nt 0 0 1 r\nx 0\ne 6\nx 1\ne 7\ne 8\ne 9\ng 0 0 1\ne 10\nr 0 1 0 i\nr 0 1 0 m 1\ne 11\ne 12\ne 13\nt 1 0 1 w\nx 1\ne 14\nd 1\n",
     },
     // The frame of a request is lost, the wire is empty, and the request is sent again.
-    Row {
+    JournalRow {
         rack: ONE,
         programs: &["000012b7 0002a503 0002a503"],
         schedule: "step 0\nstep 0\nlose u0 0\ndeliver u0 0\nresend u0\ndeliver u0 0\ndeliver u0a 0\ndeliver t0 0\ndeliver t0a 0\ndeliver f0 0\ndeliver d0 0\ndeliver d0a 0\ndeliver f0a 0\nstep 0\n",
@@ -56,7 +44,7 @@ static WAITING: [Row; 10] = [
         journal: "mind journal 1\ne 0\nx 0\ne 1\ne 2\ne 3\ne 4\ne 5\nr 0 1 0 i\nr 0 1 0 s 1\ne 6\ne 7\ne 8\ne 9\ne 10\nt 0 0 1 r\nx 0\ne 11\ne 12\ne 13\nx 0\n",
     },
     // A message is passed over repeated frames: a copy is handed over first, and the frame behind it is dropped.
-    Row {
+    JournalRow {
         rack: TWO,
         programs: &[
             "000012b7 00002337 00100393 0072a023 00732023",
@@ -67,7 +55,7 @@ static WAITING: [Row; 10] = [
         journal: "mind journal 1\ne 0\nx 1\ne 1\nx 1\ne 2\ne 3\nr 0 1 0 i\nr 0 1 0 s 2\ne 4\ne 5\ne 6\ne 7\ne 8\nt 1 0 1 r\nx 1\ne 9\ne 10\ne 11\nx 0\ne 12\nx 0\ne 13\nx 0\ne 14\ne 15\ne 16\ne 17\ne 18\ne 19\ng 1 0 1\ne 20\nr 0 1 0 i\nr 0 1 0 m 0\ne 21\ne 22\ne 23\ne 24\ne 25\ne 26\ne 27\ne 28\ne 29\ne 30\nt 0 0 1 w\nx 0\ne 31\ne 32\ne 33\nd 0\ne 34\ne 35\nr 0 2 0 i\nr 0 2 0 m 0\ne 36\ne 37\ne 38\ne 39\ne 40\nt 0 0 2 w\nx 0\ne 41\ne 42\ne 43\nd 0\ne 44\ne 45\ne 46\nl 0 0 2\ne 47\ne 48\nr 0 2 0 s 1\nr 0 2 0 s 3\ne 49\ne 50\ne 51\ne 52\ne 53\ne 54\ne 55\ne 56\ne 57\ne 58\nt 1 0 2 r\nx 1\ne 59\ne 60\ne 61\nx 1\ne 62\nx 1\ne 63\ne 64\ne 65\nl 0 0 1\ne 66\ne 67\nr 0 1 0 s 1\nr 0 1 0 s 3\ne 68\ne 69\ne 70\ne 71\ne 72\ne 73\ne 74\ne 75\ne 76\ne 77\nt 1 0 1 r\nx 1\ne 78\ne 79\ne 80\nx 1\n",
     },
     // A store of another blade between LR and SC: SC gives 1.
-    Row {
+    JournalRow {
         rack: TWO,
         programs: &[
             "000012b7 1002a3af 1872a52f 00100893 00000073",
@@ -78,7 +66,7 @@ static WAITING: [Row; 10] = [
         journal: "mind journal 1\ne 0\nx 0\ne 1\ne 2\nr 0 1 0 i\nr 0 1 0 s 1\ne 3\ne 4\ne 5\ne 6\ne 7\nt 0 0 1 r\nx 0\ne 8\ne 9\ne 10\nx 1\ne 11\ne 12\ne 13\ng 0 0 1\ne 14\nr 0 1 0 i\nr 0 1 0 m 1\ne 15\ne 16\ne 17\ne 18\ne 19\ne 20\ne 21\nt 1 0 1 w\nx 1\ne 22\ne 23\ne 24\nd 1\ne 25\ne 26\ne 27\ne 28\ng 1 0 1\ne 29\ne 30\nr 0 1 0 i\nr 0 1 0 m 0\ne 31\ne 32\ne 33\ne 34\ne 35\ne 36\ne 37\ne 38\ne 39\nt 0 0 1 w\nx 0\ne 40\ne 41\ne 42\nx 0\ne 43\nx 0\n",
     },
     // The page is given up between LR and SC, and comes back as it was: SC gives 0.
-    Row {
+    JournalRow {
         rack: ONE,
         programs: &["000012b7 1002a3af 1872a52f 00100893 00000073"],
         schedule: "step 0\nstep 0\ndeliver u0 0\ndeliver u0a 0\ndeliver t0 0\ndeliver t0a 0\ndeliver f0 0\ndeliver d0 0\ndeliver d0a 0\ndeliver f0a 0\nevict 0 0 1\nstep 0\ndeliver u0 0\ndeliver u0a 0\ndeliver t0 0\ndeliver t0a 0\ndeliver f0 0\ndeliver d0 0\ndeliver d0a 0\ndeliver f0a 0\nstep 0\nstep 0\n",
@@ -87,7 +75,7 @@ static WAITING: [Row; 10] = [
     },
     // Two requests are lost and sent again. The second comes first, and is dropped; the first is handed over and
     // acknowledged, and then the second alone is sent again.
-    Row {
+    JournalRow {
         rack: ONE_BLADE,
         programs: &["000012b7 0002a503 0002a503", "000022b7 0002a503 0002a503"],
         schedule: "step 0\nstep 0\nstep 1\nstep 1\nlose u0 1\nlose u0 0\nresend u0\ndeliver u0 1\ndeliver u0 0\ndeliver u0a 0\ndeliver u0a 0\nresend u0\ndeliver u0 0\ndeliver t0 0\ndeliver t0 0\ndeliver f0 0\ndeliver f0 0\ndeliver d0 0\ndeliver d0 0\nstep 0\nstep 1\n",
@@ -95,7 +83,7 @@ static WAITING: [Row; 10] = [
         journal: "mind journal 1\ne 0\nx 0\ne 1\ne 2\nx 1\ne 3\ne 4\ne 5\ne 6\ne 7\ne 8\nr 0 1 0 i\nr 0 1 0 s 1\ne 9\ne 10\ne 11\ne 12\nr 0 2 0 i\nr 0 2 0 s 1\ne 13\ne 14\ne 15\ne 16\ne 17\nt 0 0 1 r\nx 0\ne 18\nt 0 0 2 r\nx 1\ne 19\nx 0\ne 20\nx 1\n",
     },
     // Two frames and three pages: the least recently used page makes room, and comes back as it was written.
-    Row {
+    JournalRow {
         rack: THREE_PAGES,
         programs: &[
             "000012b7 00002337 000033b7 04100413 00832023 0002a483 00032483 0003a483 0002a483 00032503 00100893 00000073",
@@ -105,7 +93,7 @@ static WAITING: [Row; 10] = [
         journal: "mind journal 1\ne 0\nx 0\ne 1\nx 0\ne 2\nx 0\ne 3\nx 0\ne 4\ne 5\nr 0 2 0 i\nr 0 2 0 m 0\ne 6\ne 7\ne 8\nt 0 0 2 w\nx 0\ne 9\nd 0\ne 10\ne 11\nr 0 1 0 i\nr 0 1 0 s 1\ne 12\ne 13\ne 14\nt 0 0 1 r\nx 0\ne 15\nx 0\ne 16\ne 17\nr 0 3 0 i\nr 0 3 0 s 1\ne 18\ne 19\ne 20\ng 0 0 1\nt 0 0 3 r\nx 0\ne 21\ne 22\ne 23\ne 24\ne 25\ng 0 0 2\nt 0 0 1 r\nx 0\ne 26\ne 27\ne 28\ne 29\ne 30\ne 31\ne 32\ng 0 0 3\nt 0 0 2 r\nx 0\ne 33\nx 0\ne 34\nx 0\n",
     },
     // A directory of one entry: each page takes the place of the other.
-    Row {
+    JournalRow {
         rack: ONE_SLOT,
         programs: &["000012b7 0002a503 0002a503", "000022b7 0002a503 0002a503"],
         schedule: "step 0\nstep 0\ndeliver u0 0\ndeliver u0a 0\ndeliver t0 0\ndeliver t0a 0\ndeliver f0 0\ndeliver d0 0\ndeliver d0a 0\ndeliver f0a 0\nstep 1\nstep 1\ndeliver u1 0\ndeliver d0 0\ndeliver u0 0\ndeliver u0a 0\ndeliver d0a 0\ndeliver u1a 0\ndeliver t0 0\ndeliver t0a 0\ndeliver f0 0\ndeliver d1 0\ndeliver d1a 0\ndeliver f0a 0\nstep 0\ndeliver u0 0\ndeliver u0a 0\ndeliver d1 0\ndeliver u1 0\ndeliver u1a 0\ndeliver d1a 0\ndeliver t0 0\ndeliver t0a 0\ndeliver f0 0\ndeliver d0 0\ndeliver d0a 0\ndeliver f0a 0\nstep 1\ndeliver u1 0\ndeliver d0 0\ndeliver u0 0\ndeliver u0a 0\ndeliver d0a 0\ndeliver u1a 0\ndeliver t0 0\ndeliver t0a 0\ndeliver f0 0\ndeliver d1 0\ndeliver d1a 0\ndeliver f0a 0\n",
@@ -116,5 +104,5 @@ static WAITING: [Row; 10] = [
 
 #[test]
 fn accesses_wait_for_their_pages(rt: HostRuntime) -> Result<(), Fail> {
-    all_run(&rt, &WAITING)
+    all_journal(rt.alloc(), &WAITING)
 }

@@ -1,7 +1,7 @@
 //! Journals that are checked, and texts that are none.
-use crate::tests::calls::{CHECK, EMPTY, SIX_NOTED, SIX_STEPS, expect, files_with};
-use mind_base::MemStore;
+use crate::tests::calls::{EMPTY, SIX_NOTED, SIX_STEPS, expect, files_with};
 use mind_top::Status;
+use sample_runs::CHECK;
 use std::process::Abort;
 use std::test::Fail;
 
@@ -72,9 +72,8 @@ fn checks<R: Abort + AllocGlobal>(
     status: Status,
     text: &str,
 ) -> Result<(), Fail> {
-    let files = files_with(rt, schedule, journal)?;
-    let mut store = MemStore::new(files, Vec::new(rt.alloc()));
-    let log = expect(rt, &CHECK, &mut store, room, status, text)?;
+    let files = files_with(rt.alloc(), schedule, journal)?;
+    let log = expect(rt, &CHECK, files, room, status, text)?;
     assert!(rt; log.len() == 0);
     Ok(())
 }

@@ -1,8 +1,7 @@
 //! Which calls leave a rack, and a log.
-use crate::tests::calls::{CHECK, JOURNAL, RUN, SIX_NOTED, SIX_STEPS, files_with, words_of};
-use mind_base::{Log, MemSink, MemStore};
-use mind_top::{Status, mind};
-use rack_core::Rack;
+use crate::tests::calls::{SIX_NOTED, SIX_STEPS, files_with};
+use mind_top::Status;
+use sample_runs::{CHECK, JOURNAL, RUN, call};
 use std::process::Abort;
 use std::test::Fail;
 
@@ -78,24 +77,11 @@ static ENDINGS: [Ending; 8] = [
 ];
 
 fn ends<R: Abort + AllocGlobal>(rt: &R, row: &Ending) -> Result<(), Fail> {
-    let alloc = rt.alloc();
-    let words = words_of(rt, row.words)?;
-    let files = files_with(rt, row.schedule, SIX_NOTED)?;
-    let mut store = MemStore::new(files, Vec::new(alloc));
-    let mut sink = MemSink::new(alloc, row.room)?;
-    let mut log = Log::new(alloc);
-    let mut end: Option<Rack> = None;
-    let status = mind(
-        alloc,
-        words.as_slice(),
-        &mut store,
-        &mut sink,
-        &mut log,
-        &mut end,
-    );
-    assert!(rt; status == row.status);
-    assert!(rt; end.is_some() == row.ran);
-    assert!(rt; (log.len() > 0) == row.ran);
+    let files = files_with(rt.alloc(), row.schedule, SIX_NOTED)?;
+    let ran = call(rt.alloc(), row.words, files, row.room)?;
+    assert!(rt; ran.status == row.status);
+    assert!(rt; ran.has_rack == row.ran);
+    assert!(rt; (ran.log.len() > 0) == row.ran);
     Ok(())
 }
 

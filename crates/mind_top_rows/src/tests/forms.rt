@@ -1,6 +1,5 @@
 //! Words of no form.
 use crate::tests::calls::{EMPTY, expect, files_with};
-use mind_base::MemStore;
 use mind_top::Status;
 use std::test::Fail;
 
@@ -59,8 +58,8 @@ const USAGE: &str =
 #[test]
 fn words_of_no_form(rt: HostRuntime) -> Result<(), Fail> {
     for row in &NO_FORMS {
-        let mut store = MemStore::new(files_with(&rt, "", EMPTY)?, Vec::new(rt.alloc()));
-        let _log = expect(&rt, row.words, &mut store, 256, Status::Usage, USAGE)?;
+        let files = files_with(rt.alloc(), "", EMPTY)?;
+        let _log = expect(&rt, row.words, files, 256, Status::Usage, USAGE)?;
     }
     Ok(())
 }

@@ -1,7 +1,7 @@
 //! Journals of runs.
-use crate::tests::calls::{EMPTY, JOURNAL, PUTS_A, RACK, SIX_NOTED, SIX_STEPS, expect, files_of};
-use mind_base::MemStore;
+use crate::tests::calls::{EMPTY, PUTS_A, RACK, SIX_NOTED, SIX_STEPS, expect, files_of};
 use mind_top::Status;
+use sample_runs::JOURNAL;
 use std::test::Fail;
 
 /// A schedule of the program that puts a byte, and its journal.
@@ -50,9 +50,8 @@ static JOURNALS: [Journal; 6] = [
 #[test]
 fn journals_of_runs(rt: HostRuntime) -> Result<(), Fail> {
     for row in &JOURNALS {
-        let files = files_of(&rt, RACK, PUTS_A, row.schedule)?;
-        let mut store = MemStore::new(files, Vec::new(rt.alloc()));
-        let _log = expect(&rt, &JOURNAL, &mut store, 4096, row.status, row.text)?;
+        let files = files_of(rt.alloc(), RACK, PUTS_A, row.schedule)?;
+        let _log = expect(&rt, &JOURNAL, files, 4096, row.status, row.text)?;
     }
     Ok(())
 }

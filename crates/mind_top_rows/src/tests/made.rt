@@ -1,10 +1,9 @@
 //! Schedules that the generator makes, and their runs.
-use crate::tests::calls::{PUTS_A, RUN, expect, files_of, words_of};
+use crate::tests::calls::{PUTS_A, expect, files_of};
 use crate::tests::runs::TWO_THREADS;
-use mind_base::{Log, MemSink, MemStore};
-use mind_top::{Status, mind};
-use rack_core::Rack;
-use std::process::Abort;
+use mind_top::Status;
+use sample_runs::{RUN, written};
+use std::alloc::Global;
 use std::test::Fail;
 
 /// The words, and what is written.
@@ -52,41 +51,26 @@ static ROWS: [Row; 5] = [
 
 #[test]
 fn schedules_are_made_and_run(rt: HostRuntime) -> Result<(), Fail> {
-    let alloc = rt.alloc();
     for row in &ROWS {
-        let files = files_of(&rt, row.rack, PUTS_A, "")?;
-        let mut store = MemStore::new(files, Vec::new(alloc));
-        let _log = expect(&rt, row.words, &mut store, 512, row.status, row.text)?;
+        let files = files_of(rt.alloc(), row.rack, PUTS_A, "")?;
+        let _log = expect(&rt, row.words, files, 512, row.status, row.text)?;
     }
     Ok(())
 }
 
 /// What these words write, over files of which one is this schedule.
-fn written<R: Abort + AllocGlobal>(rt: &R, words: &[&str], schedule: &str) -> Result<String, Fail> {
-    let alloc = rt.alloc();
-    let words = words_of(rt, words)?;
-    let files = files_of(rt, TWO_THREADS, PUTS_A, schedule)?;
-    let mut store = MemStore::new(files, Vec::new(alloc));
-    let mut sink = MemSink::new(alloc, 65536)?;
-    let mut log = Log::new(alloc);
-    let mut end: Option<Rack> = None;
-    let ended = mind(
-        alloc,
-        words.as_slice(),
-        &mut store,
-        &mut sink,
-        &mut log,
-        &mut end,
-    );
-    assert!(rt; ended == Status::Done);
-    Ok(String::from_utf8_lossy(alloc, sink.written())?)
+fn text_of(alloc: Global, words: &[&str], schedule: &str) -> Result<String, Fail> {
+    let files = files_of(alloc, TWO_THREADS, PUTS_A, schedule)?;
+    let text = written(alloc, words, files)?;
+    Ok(String::from_utf8_lossy(alloc, text.as_slice())?)
 }
 
 #[test]
 fn a_run_of_what_is_made_writes_the_same(rt: HostRuntime) -> Result<(), Fail> {
-    let schedule = written(&rt, &["make", "r.toml", "200", "7"], "")?;
-    let ran = written(&rt, &RUN, schedule.as_str())?;
-    let loaded = written(&rt, &["load", "r.toml", "200", "7"], "")?;
+    let alloc = rt.alloc();
+    let schedule = text_of(alloc, &["make", "r.toml", "200", "7"], "")?;
+    let ran = text_of(alloc, &RUN, schedule.as_str())?;
+    let loaded = text_of(alloc, &["load", "r.toml", "200", "7"], "")?;
     assert!(rt; ran == loaded, "{ran}");
     Ok(())
 }

@@ -1,9 +1,7 @@
 //! Which files are read, in which order, and in how many pieces the text is written.
-use crate::tests::calls::{CHECK, JOURNAL, PUTS_A, RUN, put, words_of};
-use crate::tests::recorders::{AskedStore, PieceSink};
-use mind_base::{Log, MemSink, MemStore, Name};
-use mind_top::mind;
-use rack_core::Rack;
+use crate::tests::calls::PUTS_A;
+use sample_runs::{CHECK, Files, JOURNAL, RUN, call};
+use std::alloc::Global;
 use std::process::Abort;
 use std::test::Fail;
 
@@ -181,69 +179,33 @@ static ROWS: [Row; 13] = [
     },
 ];
 
-fn put_unless<R: AllocGlobal>(
-    rt: &R,
-    files: &mut Vec<(Name, Vec<u8>)>,
-    left_out: &str,
-    name: &str,
-    bytes: &[u8],
-) -> Result<(), Fail> {
+fn put_unless(files: &mut Files, left_out: &str, name: &str, bytes: &[u8]) -> Result<(), Fail> {
     if name == left_out {
         return Ok(());
     }
-    put(rt, files, name, bytes)
+    files.put(name, bytes)
 }
 
-fn store_of<R: AllocGlobal>(rt: &R, row: &Row) -> Result<AskedStore, Fail> {
-    let mut files = Vec::new(rt.alloc());
-    put_unless(rt, &mut files, row.left_out, "r.toml", row.rack.as_bytes())?;
-    put_unless(rt, &mut files, row.left_out, "a.bin", row.image)?;
-    put_unless(rt, &mut files, row.left_out, "b.bin", row.image)?;
-    put_unless(
-        rt,
-        &mut files,
-        row.left_out,
-        "s.txt",
-        row.schedule.as_bytes(),
-    )?;
-    put_unless(
-        rt,
-        &mut files,
-        row.left_out,
-        "j.txt",
-        row.journal.as_bytes(),
-    )?;
-    Ok(AskedStore {
-        files: MemStore::new(files, Vec::new(rt.alloc())),
-        asked: Vec::new(rt.alloc()),
-    })
+fn files_of(alloc: Global, row: &Row) -> Result<Files, Fail> {
+    let mut files = Files::new(alloc);
+    put_unless(&mut files, row.left_out, "r.toml", row.rack.as_bytes())?;
+    put_unless(&mut files, row.left_out, "a.bin", row.image)?;
+    put_unless(&mut files, row.left_out, "b.bin", row.image)?;
+    put_unless(&mut files, row.left_out, "s.txt", row.schedule.as_bytes())?;
+    put_unless(&mut files, row.left_out, "j.txt", row.journal.as_bytes())?;
+    Ok(files)
 }
 
 fn asks<R: Abort + AllocGlobal>(rt: &R, row: &Row) -> Result<(), Fail> {
-    let alloc = rt.alloc();
-    let words = words_of(rt, row.words)?;
-    let mut store = store_of(rt, row)?;
-    let mut sink = PieceSink {
-        bytes: MemSink::new(alloc, 4096)?,
-        pieces: 0,
-    };
-    let mut log = Log::new(alloc);
-    let mut end: Option<Rack> = None;
-    let _status = mind(
-        alloc,
-        words.as_slice(),
-        &mut store,
-        &mut sink,
-        &mut log,
-        &mut end,
-    );
+    let files = files_of(rt.alloc(), row)?;
+    let ran = call(rt.alloc(), row.words, files, 4096)?;
     assert!(rt;
-        store.asked.as_slice() == row.asked.as_bytes(),
+        ran.asked.as_slice() == row.asked.as_bytes(),
         "{}",
         row.asked
     );
-    assert!(rt; sink.bytes.written() == row.text.as_bytes(), "{}", row.text);
-    assert!(rt; sink.pieces == row.pieces);
+    assert!(rt; ran.text.as_slice() == row.text.as_bytes(), "{}", row.text);
+    assert!(rt; ran.pieces == row.pieces);
     Ok(())
 }
 

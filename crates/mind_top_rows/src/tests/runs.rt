@@ -1,7 +1,8 @@
 //! Runs and their reports, and inputs that are refused.
-use crate::tests::calls::{PUTS_A, RACK, RUN, SIX_STEPS, expect, files_of};
-use mind_base::{MemStore, Note};
+use crate::tests::calls::{PUTS_A, RACK, SIX_STEPS, expect, files_of};
+use mind_base::Note;
 use mind_top::Status;
+use sample_runs::RUN;
 use std::process::Abort;
 use std::test::Fail;
 
@@ -152,9 +153,8 @@ static REFUSALS: [Row; 8] = [
 ];
 
 fn runs<R: Abort + AllocGlobal>(rt: &R, row: &Row) -> Result<(), Fail> {
-    let files = files_of(rt, row.rack, row.image, row.schedule)?;
-    let mut store = MemStore::new(files, Vec::new(rt.alloc()));
-    let _log = expect(rt, &RUN, &mut store, 4096, row.status, row.text)?;
+    let files = files_of(rt.alloc(), row.rack, row.image, row.schedule)?;
+    let _log = expect(rt, &RUN, files, 4096, row.status, row.text)?;
     Ok(())
 }
 
@@ -176,11 +176,8 @@ fn refused_inputs(rt: HostRuntime) -> Result<(), Fail> {
 
 #[test]
 fn the_log_of_a_run(rt: HostRuntime) -> Result<(), Fail> {
-    let mut store = MemStore::new(
-        files_of(&rt, RACK, PUTS_A, "step 0\n")?,
-        Vec::new(rt.alloc()),
-    );
-    let log = expect(&rt, &RUN, &mut store, 4096, Status::Done, ONE_STEP)?;
+    let files = files_of(rt.alloc(), RACK, PUTS_A, "step 0\n")?;
+    let log = expect(&rt, &RUN, files, 4096, Status::Done, ONE_STEP)?;
     assert!(rt; log.len() == 2);
     assert!(rt; log.get(0) == Note::Event { index: 0 });
     assert!(rt; log.get(1) == Note::Exec { hart: 0 });

@@ -1,13 +1,13 @@
 //! Frames that are lost and repeated before the rack settles: what waits is performed once, and a second `settle` finds
 //! nothing under way.
-use crate::tests::racks::{ONE, TWO};
-use crate::tests::runs::{Row, all_run, all_settle_once};
+use crate::tests::settled::all_settle_once;
+use sample_runs::{JournalRow, ONE, TWO, all_journal};
 use std::test::Fail;
 
-static LOST_AND_REPEATED: [Row; 2] = [
+static LOST_AND_REPEATED: [JournalRow; 2] = [
     // A request is put twice on its wire and lost once, what is read at the memory blade is lost, and so is an
     // acknowledgement; the request is sent again, and dropped.
-    Row {
+    JournalRow {
         rack: ONE,
         programs: &["000012b7 0002a503 0002a503"],
         schedule: "step 0\nstep 0\nrepeat u0 0\nlose u0 0\ndeliver u0 0\nlose t0 0\nlose u0a 0\nresend u0\nsettle\nsettle\nstep 0\n",
@@ -16,7 +16,7 @@ static LOST_AND_REPEATED: [Row; 2] = [
     },
     // A store takes a page away: the request is handed over once of twice, the order to give the page up is lost, sent again
     // and repeated, and the answer is lost.
-    Row {
+    JournalRow {
         rack: TWO,
         programs: &["000012b7 0002a503 0002a503", "000012b7 0002a023"],
         schedule: "step 0\nstep 0\nsettle\nstep 1\nstep 1\nrepeat u1 0\ndeliver u1 0\ndeliver u1 0\nlose d0 0\nresend d0\nrepeat d0 0\ndeliver d0 0\nlose u0 0\nsettle\nsettle\ndrain 1\nsettle\n",
@@ -27,6 +27,6 @@ static LOST_AND_REPEATED: [Row; 2] = [
 
 #[test]
 fn what_is_lost_comes_when_the_rack_settles(rt: HostRuntime) -> Result<(), Fail> {
-    all_run(&rt, &LOST_AND_REPEATED)?;
+    all_journal(rt.alloc(), &LOST_AND_REPEATED)?;
     all_settle_once(&rt, &LOST_AND_REPEATED)
 }

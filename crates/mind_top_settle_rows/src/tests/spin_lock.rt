@@ -1,5 +1,5 @@
 //! Eight threads at a spin lock, each of which adds 25 to a counter, as under `examples/spin`.
-use crate::tests::files::{Files, RUN, written};
+use sample_runs::{RUN, row_files, written};
 use std::test::Fail;
 
 /// Eight threads on four blades.
@@ -15,13 +15,10 @@ const REPORT: &str =
 
 #[test]
 fn eight_threads_count_to_two_hundred(rt: HostRuntime) -> Result<(), Fail> {
-    let files = Files {
-        rack: SPIN,
-        programs: &[PROGRAM],
-        schedule: b"run 900\nepoch\nsettle\nrun 900\n",
-        journal: b"",
-    };
-    let report = written(&rt, &files, &RUN)?;
+    let alloc = rt.alloc();
+    let schedule = b"run 900\nepoch\nsettle\nrun 900\n";
+    let files = row_files(alloc, SPIN, &[PROGRAM], schedule, b"")?;
+    let report = written(alloc, &RUN, files)?;
     assert!(rt; report.as_slice() == REPORT.as_bytes());
     Ok(())
 }

@@ -2,14 +2,24 @@
 ghost use Rattle.std.specs.Prelude.{Some};
 ghost use Rattle.mind_base.specs.Store.{file_map};
 
-use mind_base::{MemSink, MemStore, ReadError, Sink, Store, WriteError};
+use crate::Files;
+use mind_base::{MemSink, MemStore, NoMemory, ReadError, Sink, Store, WriteError};
 use std::alloc::Global;
 
 /// Files in memory. Each read adds a line: the name that was asked for, and the limit.
-#[derive(Debug, Drop)]
+#[derive(Drop)]
 pub struct AskedStore {
-    pub files: MemStore,
+    files: MemStore,
     pub asked: Vec<u8>,
+}
+
+impl AskedStore {
+    pub fn new(alloc: Global, files: Files) -> AskedStore {
+        AskedStore {
+            files: MemStore::new(files.named, files.failing),
+            asked: Vec::new(alloc),
+        }
+    }
 }
 
 impl Store for AskedStore {
@@ -32,10 +42,23 @@ impl Store for AskedStore {
 }
 
 /// Bytes in memory, and how many pieces they came in.
-#[derive(Debug, Drop)]
+#[derive(Drop)]
 pub struct PieceSink {
-    pub bytes: MemSink,
+    bytes: MemSink,
     pub pieces: u32,
+}
+
+impl PieceSink {
+    /// A sink for `room` bytes.
+    pub fn new(alloc: Global, room: u32) -> Result<PieceSink, NoMemory> {
+        let bytes = MemSink::new(alloc, room)?;
+        Ok(PieceSink { bytes, pieces: 0 })
+    }
+
+    /// The bytes that it took.
+    pub fn written(&self) -> &[u8] {
+        self.bytes.written()
+    }
 }
 
 impl Sink for PieceSink {
