@@ -14,6 +14,3 @@ pub use instruction::{AmoKind, BranchKind, Instr, LoadKind, OpImmKind, OpKind, S
 pub use laws::one_word_one_meaning;
 pub use reading::decode;
 pub use writing::encode;
-
-#[cfg(test)]
-mod tests;

@@ -5,7 +5,7 @@
 //! (`riscv64-unknown-elf-as -march=rv32ia -mabi=ilp32`; `.insn` where the assembler has no spelling). The text
 //! of a row was made from the assembly by a small script, and not by this crate.
 
-use super::*;
+use rv32_decode::{decode, encode, one_word_one_meaning};
 use std::alloc::Global;
 use std::process::Abort;
 use std::test::Fail;
