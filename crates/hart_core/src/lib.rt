@@ -12,6 +12,3 @@ pub use memory::{amo, extend, load_size};
 pub use outcome::{Act, LockedKind};
 pub use perform::act;
 pub use registers::Regs;
-
-#[cfg(test)]
-mod tests;

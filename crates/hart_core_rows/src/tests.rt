@@ -3,7 +3,7 @@
 //! The words are those of GNU binutils 2.40 for the assembly of each row, and the fences' by their fields; the
 //! answers were worked out from the RISC-V manual's text by a small script that knows nothing of this crate.
 
-use super::*;
+use hart_core::{Act, Regs, act, amo, extend, load_size};
 use rv32_decode::{AmoKind, LoadKind, decode};
 use std::alloc::Global;
 use std::test::Fail;
