@@ -3,7 +3,7 @@ use Rattle.std.proofs.Common.{◌≡◌, ℕ, ◌∙◌, ap, sym, refl, subst, B
 use Rattle.std.specs.List.{slice_get}
 use Rattle.std.specs.Option.{option_and_then}
 use Rattle.std.proofs.Math.Path.{fun_ext}
-use Rattle.control_plane.specs.Outcome.{outcome_of, permissions_after}
+use Rattle.control_plane.specs.Outcome.{setting_of, permissions_with, permissions_after, outcome_of}
 use Rattle.flat_memory.specs.FlatMemory.{byte_in, zeroed}
 use Rattle.mind_base.specs.Page.{PageView}
 use Rattle.mind_base.specs.Span.{SpanView, in_span}
@@ -14,10 +14,10 @@ use Rattle.mind_base.specs.declared.commands.Command.{Command}
 use Rattle.mind_base.specs.declared.commands.Command.TheVariants.{Map, Unmap, Protect, Migrate}
 use Rattle.mind_base.specs.declared.commands.Outcome.{Outcome}
 use Rattle.mind_base.specs.declared.plans.MapPlan.{MapPlan}
-use Rattle.protect_table.specs.Protect.{permission_at, changed}
+use Rattle.protect_table.specs.Protect.{permission_at}
 use Rattle.tso_machine.specs.State.{State, Write, Zeros, Taken}
 use Rattle.tso_machine.specs.Memory.{byte_of}
-use Rattle.tso_machine.specs.Commands.{next_command, is_held_up, threads_after, writes_after, perms_after, is_fine, taken_as, outcome_in_state, taken_unless_held_up, after_command}
+use Rattle.tso_machine.specs.Commands.{next_command, is_held_up, threads_after, writes_after, perms_with, perms_after, is_fine, taken_as, outcome_in_state, taken_unless_held_up, after_command}
 use Rattle.tso_machine.specs.Queue.{CommandQueueView, command_if_next, bytes_after}
 use Rattle.tso_machine.specs.Machine.{MachineView, StandsFor, StepLeadsTo}
 use Rattle.tso_machine.proofs.Writing.{byte_from-append}
@@ -28,17 +28,12 @@ permission_from-append : (perm : Perm) (xs ys : List MapPlan) (page : PageView) 
 permission_from-append perm [] ys page = refl
 permission_from-append perm (x ∷ xs) ys page = permission_from-append (if in_span x.span page then x.perm else perm) xs ys page
 
-changed-is : (perms : List MapPlan) (span : SpanView) (perm : Perm) → changed (permission_of perms) span perm ≡ permission_of (perms ++ record { span = span; perm = perm } ∷ [])
-changed-is perms span perm = fun_ext (λ page. sym (permission_from-append No perms (record { span = span; perm = perm } ∷ []) page))
+perms-with : (setting : Option MapPlan) (perms : List MapPlan) → permissions_with setting (permission_of perms) ≡ permission_of (perms_with setting perms)
+perms-with None perms = refl
+perms-with (Some setting) perms = fun_ext (λ page. sym (permission_from-append No perms (setting ∷ []) page))
 
 zeroed-is : (writes : List Write) (span : SpanView) → zeroed (byte_of writes) span ≡ byte_of (writes ++ Zeros span ∷ [])
 zeroed-is writes span = fun_ext (λ d. fun_ext (λ a. sym (byte_from-append 0 writes (Zeros span ∷ []) d a)))
-
-perms-is : (command : Command) (perms : List MapPlan) → permissions_after command (permission_of perms) ≡ permission_of (perms_after command perms)
-perms-is (Map span perm) perms = changed-is perms span perm
-perms-is (Unmap span) perms = changed-is perms span No
-perms-is (Protect span perm) perms = changed-is perms span perm
-perms-is (Migrate range memory) perms = refl
 
 bytes-is : (command : Command) (writes : List Write) → bytes_after command (byte_of writes) ≡ byte_of (writes_after command writes)
 bytes-is (Map span perm) writes = zeroed-is writes span
@@ -49,7 +44,7 @@ bytes-is (Migrate range memory) writes = refl
 -- where it ended fine or did not
 perms-by : (fine : Bool) (command : Command) (perms : List MapPlan)
     → (if fine then permissions_after command (permission_of perms) else permission_of perms) ≡ permission_of (if fine then perms_after command perms else perms)
-perms-by true command perms = perms-is command perms
+perms-by true command perms = perms-with (setting_of command) perms
 perms-by false command perms = refl
 
 bytes-by : (fine : Bool) (command : Command) (writes : List Write)

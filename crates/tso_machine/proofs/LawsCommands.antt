@@ -16,8 +16,9 @@ use Rattle.hart_effect.specs.Thread.{Thread}
 use Rattle.tso_machine.specs.State.{Setup, State, Write, Taken}
 use Rattle.tso_machine.specs.Commands.{threads_outside, threads_after, writes_after, is_fine, is_held_up, taken_as, outcome_in_state, taken_unless_held_up, next_command}
 use Rattle.tso_machine.specs.Step.{after}
-use Rattle.tso_machine.specs.Orders.{Zeroed, mapped_span, zeroed_in_state, zeroes, spans_of, accepted_span, accepted_spans, writes_of}
+use Rattle.tso_machine.specs.Orders.{Zeroed, mapped_span, zeroed_in_state, zeroes, span_if, spans_of, accepted_span, accepted_spans, writes_of}
 use Rattle.tso_machine.specs.declared.labels.Label.TheVariants as label
+use Rattle.tso_machine.proofs.LawsLists.{made-picked}
 
 -- a command is taken by a label
 pub record Commanded (u : Setup) (s m : State) (index : ℕ) : Type 0 where
@@ -89,14 +90,12 @@ entry_of u s index command = record { index = index; outcome = outcome_in_state 
 pub command-taken : {u : Setup} {s m : State} {index : ℕ} (c : Commanded u s m index) → m.taken ≡ s.taken ++ entry_of u s index c.command ∷ []
 command-taken c = ap (λ x. x.taken) (sym c.leads)
 
-zeroed-span : (o : Option SpanView) → spans_of (option_to_list (option_map Zeroed o)) ≡ option_to_list o
-zeroed-span None = refl
-zeroed-span (Some span) = refl
-
 -- what it makes zero is its span where it is an accepted map
 pub command-spans : {u : Setup} {s m : State} {index : ℕ} (c : Commanded u s m index)
     → spans_of (option_to_list (option_map Zeroed (zeroes u s index))) ≡ accepted_spans u.commands (entry_of u s index c.command ∷ [])
-command-spans {u = u} {s = s} {index = index} c = zeroed-span (zeroes u s index) ∙ ap option_to_list c.zeroed
+command-spans {u = u} {s = s} {index = index} c =
+    made-picked span_if Zeroed (λ span. refl) (zeroes u s index)
+    ∙ ap option_to_list c.zeroed
     ∙ sym (ap (λ o. option_to_list (cond (is_fine (outcome_in_state u s c.command)) (option_and_then mapped_span o) None)) c.named)
     ∙ alone (accepted_span u.commands (entry_of u s index c.command)) where
       alone : (o : Option SpanView) → option_to_list o ≡ cons_option o []

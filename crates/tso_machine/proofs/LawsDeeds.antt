@@ -23,7 +23,7 @@ use Rattle.mind_base.specs.Place.{place_of, granule_at}
 use Rattle.hart_effect.specs.Access.{Around, read_denied, write_denied}
 use Rattle.hart_effect.specs.Deed.{Deed, Alone, Storing, faulted, continued, put_out, unless_denied, called, locked_done, holds_reservation, stored_if, acted, must_wait, holds_stores, found, carried_out, executed_at, executed, drained_of, drain_deed}
 use Rattle.tso_machine.specs.Step.{around_in, done_by, after}
-use Rattle.tso_machine.specs.Orders.{store_event, effect_of, scene_with, scene_of, in_effect, unless_refused, store_by, store_upon, store_at, executes, performs}
+use Rattle.tso_machine.specs.Orders.{store_event, effect_of, in_effect, unless_refused, store_by, store_upon, store_at, executes, performs}
 use Rattle.hart_effect.specs.declared.finds.Found.{Found}
 use Rattle.hart_effect.specs.declared.finds.Found.TheVariants.{Outside, Unknown, Asks}
 use Rattle.tso_machine.specs.declared.labels.Label.{Label}
@@ -118,7 +118,7 @@ upon-changes (Asks asked) around pc thread deed e = by_wait (must_wait asked thr
       subst P (same_Some _ _ e) (acted-changes asked around pc thread is)
 
 exec-changes : (end : End) (image : Image) (around : Around) (thread : Thread) (deed : Deed) → executed_at end image around thread ≡ Some deed
-    → Changes thread.buffer deed (store_at end (scene_with image around thread))
+    → Changes thread.buffer deed (store_at end image around thread)
 exec-changes (Running pc) image around thread deed e = upon-changes (found image thread.regs pc) around pc thread deed e
 exec-changes (Exit value) image around thread deed e = absurd (none-some _ e)
 exec-changes (Fault kind value pc) image around thread deed e = absurd (none-some _ e)
@@ -180,11 +180,10 @@ stepped-exec u s m hart e =
     option_and_then_some _ (slice_get u.images plan.image) m g (λ image found i.
     option_and_then_some _ (slice_get s.threads hart) m i (λ thread there k.
     let around = around_in s hart plan.domain in
-    let stands : scene_of u s hart ≡ Some (scene_with image around thread) = rw (planned, found, there) refl in
-    stepped-by u s m (label.Exec hart) hart plan thread (executed image around thread) (store_at thread.end (scene_with image around thread)) planned there k
+    stepped-by u s m (label.Exec hart) hart plan thread (executed image around thread) (store_at thread.end image around thread) planned there k
     (exec-changes thread.end image around thread)
-    (rw stands refl)
-    (λ deed does. rw stands (ap (λ o. option_map (effect_of hart plan.domain) (option_and_then in_effect o)) does)))))
+    (rw (planned, found, there) refl)
+    (λ deed does. rw (planned, found, there) (ap (λ o. option_map (effect_of hart plan.domain) (option_and_then in_effect o)) does)))))
 
 pub stepped-drain : (u : Setup) (s m : State) (hart : ℕ) → after u s (label.Drain hart) ≡ Some m → Stepped u s m (label.Drain hart) hart
 stepped-drain u s m hart e =

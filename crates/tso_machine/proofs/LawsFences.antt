@@ -1,7 +1,7 @@
 -- A locked operation and an ordering fence: all that the thread executed is in memory.
 use Rattle.std.proofs.Common.{◌≡◌, ℕ, ◌∙◌, ap, sym, refl, subst, Bool, true, false, cond, ◌&&◌, IsTrue, List, [], ◌∷◌, ◌++◌, Some, None, append-nil}
 use Rattle.std.specs.List.{slice_get}
-use Rattle.std.specs.Option.{option_map, option_and_then}
+use Rattle.std.specs.Option.{option_map}
 use Rattle.std.proofs.lemmas.Bool.{false≢true}
 use Rattle.std.proofs.lemmas.Option.{same_Some, none-some, option_and_then_some, slice_get_within}
 use Rattle.hart_core.specs.declared.outcome.Act.{Act}
@@ -15,7 +15,7 @@ use Rattle.hart_effect.specs.Access.{Around}
 use Rattle.hart_effect.specs.Deed.{Deed, acted, must_wait, wants_empty, holds_stores, carried_out, executed_at, executed}
 use Rattle.tso_machine.specs.Step.{around_in, done_by, after}
 use Rattle.tso_machine.specs.Laws.{RunsTo, AllInMemory, FencedIsEmpty}
-use Rattle.tso_machine.specs.Orders.{scene_with, scene_of, upon, comes_upon, memory_order, effects_of}
+use Rattle.tso_machine.specs.Orders.{upon, comes_upon, memory_order, effects_of}
 use Rattle.hart_effect.specs.declared.finds.Found.{Found}
 use Rattle.hart_effect.specs.declared.finds.Found.TheVariants.{Asks}
 use Rattle.tso_machine.specs.declared.labels.Label.{Label}
@@ -54,7 +54,7 @@ asked-empty asked around pc thread deed wants e = by_wait (must_wait asked threa
       (empty, ap (λ d. (thread_of d).buffer) (sym (same_Some _ _ e)) ∙ acted-buffer asked around pc thread wants ∙ empty)
 
 exec-empty : (end : End) (image : Image) (around : Around) (thread : Thread) (deed : Deed) (asked : Act) → executed_at end image around thread ≡ Some deed
-    → upon end (scene_with image around thread) ≡ Some (Asks asked) → IsTrue (wants_empty asked) → EmptyAround thread deed
+    → upon end image thread ≡ Some (Asks asked) → IsTrue (wants_empty asked) → EmptyAround thread deed
 exec-empty (Running pc) image around thread deed asked e comes wants =
     let P : Found → Type 0 = λ f. carried_out f around pc thread ≡ Some deed in
     asked-empty asked around pc thread deed wants (subst P (same_Some _ _ comes) e)
@@ -71,9 +71,8 @@ label-empty u s m hart asked e comes wants =
     option_and_then_some _ (slice_get s.threads hart) m i (λ thread there k.
     let around = around_in s hart plan.domain in
     let d = mapped-some (done_by hart plan.domain s) (executed image around thread) m k in
-    let stands : scene_of u s hart ≡ Some (scene_with image around thread) = rw (planned, found, there) refl in
-    let next = sym (ap (option_and_then (λ here. upon here.thread.end here)) stands) ∙ comes in
-    let empty = exec-empty thread.end image around thread d.0 asked d.1 next wants in (
+    let next : comes_upon u s hart ≡ upon thread.end image thread = rw (planned, found, there) refl in
+    let empty = exec-empty thread.end image around thread d.0 asked d.1 (sym next ∙ comes) wants in (
       ap (option_map (λ t. t.buffer)) there ∙ ap Some empty.0,
       ap (λ x. buffer_at x.threads hart) (sym d.2) ∙ done-own hart plan.domain s d.0 (slice_get_within s.threads hart thread there) ∙ ap Some empty.1,
     ))))

@@ -1,6 +1,7 @@
 -- The elements of lists.
 use Rattle.std.proofs.Common.{◌≡◌, ◌<◌, ◌∙◌, ap, refl, arith, List, [], ◌∷◌, Option, Some, None, inl, inr, ◌⊎◌}
 use Rattle.std.specs.List.{Contains, cons_option, filter_map, flat_map}
+use Rattle.std.specs.Option.{option_map, option_to_list}
 use Rattle.std.proofs.lemmas.List.Elements.{Contains-append_cases, Contains-append_left, Contains-append_right, Contains-push, Contains-push_cases}
 
 -- an element of a list is its head or an element of its tail
@@ -45,3 +46,14 @@ contains-filter_map {X = X} {Y = Y} f (x ∷ xs) y has = by_given (f x) refl (co
       → Contains (cons_option o (filter_map f xs)) y → (z : X) × Contains (x ∷ xs) z × (f z ≡ Some y)
   by_given None is later h = behind (later h)
   by_given (Some w) is later h = by_part w is later (contains-cons w (filter_map f xs) y h)
+
+-- what is picked of the one that may be made of another: that other, or nothing
+pub made-picked : {X Y : Type 0} (pick : Y → Option X) (make : X → Y) → ((x : X) → pick (make x) ≡ Some x) → (o : Option X)
+    → filter_map pick (option_to_list (option_map make o)) ≡ option_to_list o
+made-picked pick make is None = refl
+made-picked pick make is (Some x) = rw (is x) refl
+
+pub made-passed : {X Y Z : Type 0} (pick : Y → Option Z) (make : X → Y) → ((x : X) → pick (make x) ≡ None) → (o : Option X)
+    → filter_map pick (option_to_list (option_map make o)) ≡ []
+made-passed pick make is None = refl
+made-passed pick make is (Some x) = rw (is x) refl

@@ -118,21 +118,14 @@ has-source state domain thread address =
 
 -- ---- memory right after a store took effect
 
--- its bytes from number i on leave what lies below them
-bytes-below : (byte domain at value i left address : ℕ) → address < at + i → byte_from byte (bytes_from domain at value i left) domain address ≡ byte
-bytes-below byte domain at value i zero address low = refl
-bytes-below byte domain at value i (suc left) address low =
+-- its bytes from number i on leave what lies beside them
+bytes-beside : (byte domain at value i left address : ℕ) → ((k : ℕ) → k < left → at + i + k ≢ address)
+    → byte_from byte (bytes_from domain at value i left) domain address ≡ byte
+bytes-beside byte domain at value i zero address beside = refl
+bytes-beside byte domain at value i (suc left) address beside =
     ap (λ b. byte_from (cond b (byte_number value i) byte) (bytes_from domain at value (suc i) left) domain address)
-    (and_right (eqb domain domain) (eqb (at + i) address) (ne_eqb (at + i) address (λ e. omega arith)))
-    ∙ bytes-below byte domain at value (suc i) left address (omega arith)
-
--- and what lies above them
-bytes-above : (byte domain at value i left address : ℕ) → at + i + left ≤ address → byte_from byte (bytes_from domain at value i left) domain address ≡ byte
-bytes-above byte domain at value i zero address high = refl
-bytes-above byte domain at value i (suc left) address high =
-    ap (λ b. byte_from (cond b (byte_number value i) byte) (bytes_from domain at value (suc i) left) domain address)
-    (and_right (eqb domain domain) (eqb (at + i) address) (ne_eqb (at + i) address (λ e. omega arith)))
-    ∙ bytes-above byte domain at value (suc i) left address (omega arith)
+    (and_right (eqb domain domain) (eqb (at + i) address) (ne_eqb (at + i) address (λ e. beside 0 (omega arith) (omega (arith, e)))))
+    ∙ bytes-beside byte domain at value (suc i) left address (λ k in_left e. beside (suc k) (omega arith) (omega (arith, e)))
 
 -- what they cover is theirs
 bytes-within : (byte domain at value i left address : ℕ) → at + i ≤ address → address < at + i + left
@@ -147,7 +140,7 @@ bytes-within byte domain at value i (suc left) address low high =
           → (at + suc i ≤ address → byte_from byte (bytes_from domain at value (suc i) left) domain address ≡ byte_number value (address - at))
           → byte_from byte (bytes_from domain at value i (suc left)) domain address ≡ byte_number value (address - at)
       by_place (inl same) later = ap head (and_from (eqb domain domain) (eqb (at + i) address) (eq-eqb domain domain refl) same.0)
-          ∙ bytes-below (byte_number value i) domain at value (suc i) left address (omega (arith, same.1))
+          ∙ bytes-beside (byte_number value i) domain at value (suc i) left address (λ k in_left e. omega (arith, same.1))
           ∙ ap (byte_number value) (omega (arith, same.1))
       by_place (inr apart) later = ap head (and_right (eqb domain domain) (eqb (at + i) address) apart.0) ∙ later (omega (arith, apart.1))
 
@@ -165,10 +158,11 @@ stored-covered byte domain s address covered =
 
 -- and it leaves what it does not cover
 stored-apart : (byte domain : ℕ) (s : PendingView) (address : ℕ) → IsFalse (covers s address) → byte_from byte (bytes_of domain s) domain address ≡ byte
-stored-apart byte domain s address apart = by_side (and_cases (leb s.address address) (ltb address (s.address + s.size)) apart) where
-  by_side : (leb s.address address ≡ false) ⊎ (ltb address (s.address + s.size) ≡ false) → byte_from byte (bytes_of domain s) domain address ≡ byte
-  by_side (inl low) = let h = leb-false s.address address low in bytes-below byte domain s.address s.value 0 s.size address (omega (arith, h))
-  by_side (inr high) = let h = ltb-false address (s.address + s.size) high in bytes-above byte domain s.address s.value 0 s.size address (omega (arith, h))
+stored-apart byte domain s address apart = bytes-beside byte domain s.address s.value 0 s.size address (λ k in_size e.
+    elim (and_cases (leb s.address address) (ltb address (s.address + s.size)) apart) [
+      | inl low ↦ let h = leb-false s.address address low in omega (arith, h)
+      | inr high ↦ let h = ltb-false address (s.address + s.size) high in omega (arith, h)
+    ])
 
 pub byte-stored : (writes : List Write) (domain : ℕ) (s : PendingView) (address : ℕ) → IsTrue (covers s address)
     → byte_of (writes ++ bytes_of domain s) domain address ≡ byte_at s address

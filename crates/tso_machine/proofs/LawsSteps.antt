@@ -1,20 +1,20 @@
 -- What a step does: what it writes, what it does to each thread's buffer, and which command it takes.
-use Rattle.std.proofs.Common.{◌≡◌, ◌≢◌, ℕ, zero, suc, ◌<◌, true, false, eqb, eq-eqb, set, ◌∙◌, ap, sym, refl, subst, List, [], ◌∷◌, ◌++◌, length, Option, Some, None, inl, inr, ◌⊎◌, arith, append-nil}
+use Rattle.std.proofs.Common.{◌≡◌, ◌≢◌, ℕ, zero, suc, ◌<◌, true, false, eqb, eq-eqb, set, ◌∙◌, ap, sym, refl, subst, List, [], ◌∷◌, ◌++◌, length, Option, Some, inl, inr, ◌⊎◌, arith, append-nil}
 use Rattle.std.specs.List.{flat_map}
 use Rattle.std.specs.Option.{option_map, option_to_list}
 use Rattle.std.proofs.lemmas.Option.{same_Some, slice_get_within}
 use Rattle.std.proofs.lemmas.Bool.Decides.{eqb_tells}
 use Rattle.mind_base.specs.Pending.{PendingView}
-use Rattle.mind_base.specs.Span.{SpanView}
 use Rattle.hart_effect.specs.Thread.{Thread}
 use Rattle.tso_machine.specs.State.{Setup, State, Taken}
 use Rattle.mind_base.specs.Place.{Granule, place_of, granule_at}
 use Rattle.hart_effect.specs.Deed.{Deed, Alone, Storing}
 use Rattle.tso_machine.specs.Step.{done_by, bytes_of, threads_off, after}
-use Rattle.tso_machine.specs.Orders.{Zeroed, store_event, effect_of, in_effect, executes, zeroes, performs, stores_of, effects_of, spans_of, accepted_spans, writes_of}
+use Rattle.tso_machine.specs.Orders.{Zeroed, store_event, effect_of, in_effect, executes, zeroes, performs, store_if, stores_of, effect_if, effects_of, span_if, spans_of, accepted_spans, writes_of}
 use Rattle.tso_machine.specs.declared.labels.Label.{Label}
 use Rattle.tso_machine.specs.declared.labels.Label.TheVariants as label
 use Rattle.tso_machine.proofs.LawsDeeds.{thread_of, Changes, Stays, Waits, AtOnce, Drains, Stepped, stepped-exec, stepped-drain}
+use Rattle.tso_machine.proofs.LawsLists.{made-picked, made-passed}
 use Rattle.tso_machine.proofs.LawsCommands.{Commanded, commanded, buffer_at, command-kept, command-writes, entry_of, command-taken, command-spans}
 
 -- ---- labels
@@ -90,25 +90,17 @@ changes-kept buffer deed store (Drains s none effect split) = rw (none, effect) 
 
 -- the stores of one thread among that of a step
 pub own-event : (hart domain : ℕ) (o : Option PendingView) → stores_of hart (option_to_list (option_map (store_event hart domain) o)) ≡ option_to_list o
-own-event hart domain None = refl
-own-event hart domain (Some store) = rw (eq-eqb hart hart refl) refl
+own-event hart domain o = made-picked (store_if hart) (store_event hart domain) (λ store. rw (eq-eqb hart hart refl) refl) o
 
 other-event : (hart other domain : ℕ) (o : Option PendingView) → eqb hart other ≡ false → stores_of other (option_to_list (option_map (store_event hart domain) o)) ≡ []
-other-event hart other domain None e = refl
-other-event hart other domain (Some store) e = rw e refl
+other-event hart other domain o e = made-passed (store_if other) (store_event hart domain) (λ store. rw e refl) o
 
 -- and among what takes effect
 pub own-effect : (hart domain : ℕ) (o : Option PendingView) → effects_of hart (option_to_list (option_map (effect_of hart domain) o)) ≡ option_to_list o
-own-effect hart domain None = refl
-own-effect hart domain (Some store) = rw (eq-eqb hart hart refl) refl
+own-effect hart domain o = made-picked (effect_if hart) (effect_of hart domain) (λ store. rw (eq-eqb hart hart refl) refl) o
 
 other-effect : (hart other domain : ℕ) (o : Option PendingView) → eqb hart other ≡ false → effects_of other (option_to_list (option_map (effect_of hart domain) o)) ≡ []
-other-effect hart other domain None e = refl
-other-effect hart other domain (Some store) e = rw e refl
-
-no-effect : (hart : ℕ) (o : Option SpanView) → effects_of hart (option_to_list (option_map Zeroed o)) ≡ []
-no-effect hart None = refl
-no-effect hart (Some span) = refl
+other-effect hart other domain o e = made-passed (effect_if other) (effect_of hart domain) (λ store. rw e refl) o
 
 -- what a step does to the buffer of thread number hart: the store that the thread executed goes in at its end,
 -- and the one that takes effect comes out at its head
@@ -140,7 +132,7 @@ command-keeps : (u : Setup) (s m : State) (index : ℕ) → Commanded u s m inde
 command-keeps u s m index c hart first has = record {
   next = first;
   gets = command-kept c hart ∙ has;
-  kept = append-nil first ∙ ap (λ xs. xs ++ first) (sym (no-effect hart (zeroes u s index)));
+  kept = append-nil first ∙ ap (λ xs. xs ++ first) (sym (made-passed (effect_if hart) Zeroed (λ span. refl) (zeroes u s index)));
 }
 
 pub step-keeps : (u : Setup) (s m : State) (l : Label) → after u s l ≡ Some m → (hart : ℕ) (first : List PendingView) → buffer_at s.threads hart ≡ Some first
@@ -168,10 +160,6 @@ done-taken : (hart domain : ℕ) (s : State) (deed : Deed) → (done_by hart dom
 done-taken hart domain s (Alone thread) = refl
 done-taken hart domain s (Storing thread store) = refl
 
-no-span : (hart domain : ℕ) (o : Option PendingView) → spans_of (option_to_list (option_map (effect_of hart domain) o)) ≡ []
-no-span hart domain None = refl
-no-span hart domain (Some store) = refl
-
 pub step-takes : (u : Setup) (s m : State) (l : Label) → after u s l ≡ Some m → Takes u s m l
 step-takes u s m l e = by_label (cause_of u s m l e) where
   by_command : (index : ℕ) → Commanded u s m index → Takes u s m (label.Command index)
@@ -181,6 +169,6 @@ step-takes u s m l e = by_label (cause_of u s m l e) where
   by_label (ByThread hart st) = record {
     later = [];
     taken = ap (λ x. x.taken) (sym st.leads) ∙ done-taken hart st.plan.domain s st.deed ∙ sym (append-nil s.taken);
-    zeroed = ap (λ o. spans_of (option_to_list o)) st.performed ∙ no-span hart st.plan.domain (in_effect st.deed);
+    zeroed = ap (λ o. spans_of (option_to_list o)) st.performed ∙ made-passed span_if (effect_of hart st.plan.domain) (λ store. refl) (in_effect st.deed);
   }
   by_label (ByCommand index is c) = let P : Label → Type 0 = λ x. Takes u s m x in subst P (sym is) (by_command index c)

@@ -8,7 +8,6 @@ use Rattle.std.proofs.lemmas.List.{take_more_set, get_or-take, get_or_past, leng
 use Rattle.std.proofs.lemmas.Option.{slice_get_read, get_or_from_slice_get}
 use Rattle.control_plane.specs.Outcome.{IsChange}
 use Rattle.mind_base.specs.declared.commands.Command.{Command}
-use Rattle.mind_base.specs.declared.commands.Command.TheVariants.{Map, Unmap, Protect, Migrate}
 use Rattle.mind_base.specs.declared.commands.Outcome.{Outcome}
 use Rattle.tso_machine.specs.State.{Taken}
 use Rattle.tso_machine.specs.Commands.{is_change, outcome_at, next_from, next_command}
@@ -102,17 +101,11 @@ pub not-next : (cs : List Command) (os : List (Option Outcome)) (next index : �
     → None ≡ command_if_next (record { commands = cs; taken = taken_commands 0 (take next os) }) index
 not-next cs os next index q h = rw (next-is cs os next q) (none-at cs next index (drop next cs) (λ e. omega (arith, length-drop next cs, h e)))
 
-change : (c : Command) → is_change c ≡ true → IsChange c
-change (Map span perm) e = refl
-change (Unmap span) e = refl
-change (Protect span perm) e = refl
-change (Migrate range memory) e = absurd (cc)
-
 -- and it is a change
 pub next-changes : (cs : List Command) (os : List (Option Outcome)) (next : ℕ) (command : Command) → IsQueue cs os next → next < length cs → command ≡ get_or cs next command → IsChange command
 next-changes cs os next command q within is =
     let stands : is_change (get_or cs next command) ≡ true = subst StartsWithChange (drop-cons cs next command within) q.stands in
-    change command (ap is_change is ∙ stands)
+    ap is_change is ∙ stands
 
 -- ---- the outcomes that are kept
 
@@ -125,7 +118,7 @@ marked-at : (os : List (Option Outcome)) (cs : List Command) (k : ℕ) → AreMa
 marked-at [] cs k marked = tt
 marked-at (o ∷ os) [] k marked = absurd marked
 marked-at (None ∷ os) (c ∷ cs) zero marked = tt
-marked-at (Some o ∷ os) (c ∷ cs) zero marked = change c (sym marked.0)
+marked-at (Some o ∷ os) (c ∷ cs) zero marked = sym marked.0
 marked-at (o ∷ os) (c ∷ cs) (suc k) marked = marked-at os cs k marked.1
 
 pub outcome-changes : (cs : List Command) (os : List (Option Outcome)) (next index : ℕ) (o : Option Outcome) → IsQueue cs os next → index < next → index < length os → o ≡ get_or os index o

@@ -1,13 +1,12 @@
 -- Which command is taken next, whether a buffered store holds it up, and what it does.
 use Rattle.std.specs.Prelude.{ℕ, suc, Bool, true, false, ◌==◌, ◌&&◌, ◌||◌, not, List, [], ◌∷◌, ◌++◌, map, slice_get, Option, Some, None, is_some, option_and_then, if◌then◌else◌}
 use Rattle.std.specs.List.{list_any}
-use Rattle.control_plane.specs.Outcome.{outcome_of}
+use Rattle.control_plane.specs.Outcome.{setting_of, outcome_of}
 use Rattle.mind_base.specs.Pending.{PendingView}
 use Rattle.mind_base.specs.Permission.{permission_of}
 use Rattle.mind_base.specs.Span.{SpanView, in_span}
-use Rattle.mind_base.specs.declared.commands.Perm.TheVariants.{No}
 use Rattle.mind_base.specs.declared.commands.Command.{Command}
-use Rattle.mind_base.specs.declared.commands.Command.TheVariants.{Map, Unmap, Protect, Migrate}
+use Rattle.mind_base.specs.declared.commands.Command.TheVariants.{Map, Unmap}
 use Rattle.mind_base.specs.declared.commands.Outcome.{Outcome}
 use Rattle.mind_base.specs.declared.commands.Outcome.TheVariants as outcome
 use Rattle.mind_base.specs.declared.plans.MapPlan.{MapPlan}
@@ -20,8 +19,7 @@ use Rattle.mind_base.specs.Place.{Granule, place_of, page_at, page_with}
 
 -- a map, an unmap or a protect; a migrate moves pages, of which the machine sees nothing
 abbrev pub is_change : Command → Bool
-is_change (Migrate range memory) = false
-is_change command = true
+is_change command = is_some (setting_of command)
 
 -- how the command with this number ended, if it was taken
 abbrev pub outcome_at : List Taken → ℕ → Option Outcome
@@ -55,11 +53,12 @@ is_buffered span (plan ∷ plans) [] = false
 is_buffered span (plan ∷ plans) (thread ∷ threads) = buffers_in span plan.domain thread || is_buffered span plans threads
 
 -- the command must wait for a buffered store in its span
+abbrev pub is_held_up_with : Option MapPlan → List ThreadPlan → List Thread → Bool
+is_held_up_with None plans threads = false
+is_held_up_with (Some setting) plans threads = is_buffered setting.span plans threads
+
 abbrev pub is_held_up : Command → List ThreadPlan → List Thread → Bool
-is_held_up (Map span perm) plans threads = is_buffered span plans threads
-is_held_up (Unmap span) plans threads = is_buffered span plans threads
-is_held_up (Protect span perm) plans threads = is_buffered span plans threads
-is_held_up (Migrate range memory) plans threads = false
+is_held_up command plans threads = is_held_up_with (setting_of command) plans threads
 
 -- ---- what it does
 
@@ -87,11 +86,12 @@ writes_after (Map span perm) writes = writes ++ Zeros span ∷ []
 writes_after command writes = writes
 
 -- an accepted command gives its span a permission, none by an unmap
+abbrev pub perms_with : Option MapPlan → List MapPlan → List MapPlan
+perms_with None perms = perms
+perms_with (Some setting) perms = perms ++ setting ∷ []
+
 abbrev pub perms_after : Command → List MapPlan → List MapPlan
-perms_after (Map span perm) perms = perms ++ record { span = span; perm = perm } ∷ []
-perms_after (Unmap span) perms = perms ++ record { span = span; perm = No } ∷ []
-perms_after (Protect span perm) perms = perms ++ record { span = span; perm = perm } ∷ []
-perms_after (Migrate range memory) perms = perms
+perms_after command perms = perms_with (setting_of command) perms
 
 abbrev pub is_fine : Outcome → Bool
 is_fine outcome.Fine = true

@@ -42,29 +42,20 @@ effect_of hart domain store = Stored (store_event hart domain store)
 
 -- ---- what a thread comes upon
 
--- what the step of a thread rests on: its image, what it finds around it, and itself
-pub record Scene : Type 0 where
-  pub image : Image
-  pub around : Around
-  pub thread : Thread
-
-abbrev pub scene_with : Image → Around → Thread → Scene
-scene_with image around thread = record { image = image; around = around; thread = thread }
-
--- that of thread number hart of a state, if there is one
-abbrev pub scene_of : Setup → State → ℕ → Option Scene
-scene_of setup state hart =
-    option_and_then (λ plan. option_and_then (λ image. option_map (scene_with image (around_in state hart plan.domain))
+-- what is told of thread number hart of a state, if there is one, by its image, what it finds around it, and itself
+abbrev pub of_thread : {A : Type 0} → (Image → Around → Thread → Option A) → Setup → State → ℕ → Option A
+of_thread told setup state hart =
+    option_and_then (λ plan. option_and_then (λ image. option_and_then (told image (around_in state hart plan.domain))
     (slice_get state.threads hart)) (slice_get setup.images plan.image)) (slice_get setup.plan.threads hart)
 
 -- what a thread comes upon next, if it runs
-abbrev pub upon : End → Scene → Option Found
-upon (Running pc) here = Some (found here.image here.thread.regs pc)
-upon (Exit value) here = None
-upon (Fault kind value pc) here = None
+abbrev pub upon : End → Image → Thread → Option Found
+upon (Running pc) image thread = Some (found image thread.regs pc)
+upon (Exit value) image thread = None
+upon (Fault kind value pc) image thread = None
 
 abbrev pub comes_upon : Setup → State → ℕ → Option Found
-comes_upon setup state hart = option_and_then (λ here. upon here.thread.end here) (scene_of setup state hart)
+comes_upon setup state hart = of_thread (λ image around thread. upon thread.end image thread) setup state hart
 
 -- ---- the store of a label
 
@@ -94,15 +85,15 @@ store_upon Outside around pc thread = None
 store_upon (Unknown word) around pc thread = None
 store_upon (Asks asked) around pc thread = store_by asked around pc thread
 
-abbrev pub store_at : End → Scene → Option PendingView
-store_at (Running pc) here = store_upon (found here.image here.thread.regs pc) here.around pc here.thread
-store_at (Exit value) here = None
-store_at (Fault kind value pc) here = None
+abbrev pub store_at : End → Image → Around → Thread → Option PendingView
+store_at (Running pc) image around thread = store_upon (found image thread.regs pc) around pc thread
+store_at (Exit value) image around thread = None
+store_at (Fault kind value pc) image around thread = None
 
 -- the store that a thread executes by a label, in the state before it: into its buffer, or at once into memory
 abbrev pub executes : Setup → State → Label → Option StoreEvent
-executes setup state (label.Exec hart) = option_and_then (λ here.
-    option_map (store_event hart here.around.domain) (store_at here.thread.end here)) (scene_of setup state hart)
+executes setup state (label.Exec hart) = of_thread (λ image around thread.
+    option_map (store_event hart around.domain) (store_at thread.end image around thread)) setup state hart
 executes setup state (label.Drain hart) = None
 executes setup state (label.Command index) = None
 
@@ -129,8 +120,8 @@ zeroes setup state index =
 -- What takes effect in memory by a label, in the state before it: the oldest store of a buffer, the store of
 -- a locked operation, or an accepted map.
 abbrev pub performs : Setup → State → Label → Option Effect
-performs setup state (label.Exec hart) = option_and_then (λ here.
-    option_map (effect_of hart here.around.domain) (option_and_then in_effect (executed here.image here.around here.thread))) (scene_of setup state hart)
+performs setup state (label.Exec hart) = of_thread (λ image around thread.
+    option_map (effect_of hart around.domain) (option_and_then in_effect (executed image around thread))) setup state hart
 performs setup state (label.Drain hart) = option_and_then (λ plan. option_and_then (λ thread.
     option_map (effect_of hart plan.domain) (slice_get thread.buffer 0)) (slice_get state.threads hart)) (slice_get setup.plan.threads hart)
 performs setup state (label.Command index) = option_map Zeroed (zeroes setup state index)

@@ -1,7 +1,7 @@
 //! The buffered stores of a thread, oldest first.
 
-ghost use Rattle.std.specs.Prelude.{◌≡◌, ◌<◌, ◌+◌, ◌∷◌, ◌++◌, [], None, Some, OnOk, OnErr, length, drop, slice_get, if◌then◌else◌};
-ghost use Rattle.mind_base.specs.Pending.{covers, byte_at, newest_byte as newest_byte_of};
+ghost use Rattle.std.specs.Prelude.{◌≡◌, ◌<◌, ◌+◌, ◌∷◌, ◌++◌, [], OnOk, OnErr, length, drop, slice_get};
+ghost use Rattle.mind_base.specs.Pending.{newest_byte as newest_byte_of};
 ghost use Rattle.std.specs.List.{list_any};
 ghost use Rattle.tso_machine.specs.Commands.{stores_in};
 ghost use Rattle.hart_effect.specs.Deed.{holds_stores};
@@ -78,7 +78,7 @@ impl Buffer {
     {
         let mut byte = None;
         for store in self.stores.iter() {
-            if let Some(newer) = byte_of(store, address) {
+            if let Some(newer) = store.covered_byte(address) {
                 byte = Some(newer);
             }
         }
@@ -100,16 +100,4 @@ fn lies_in(store: &Pending, span: &Span, domain: u8) -> bool
     ensures { result ≡ stores_in span.now domain store.now }
 {
     span.has(Place::of(domain, store.address).page())
-}
-
-/// The byte that a store has at an address, where it covers it.
-fn byte_of(store: &Pending, address: u32) -> Option<u8>
-    ensures { result ≡ (if covers store.now address then Some (byte_at store.now address) else None) }
-{
-    if store.address <= address && address - store.address < store.size as u32 {
-        let bytes = store.value.to_le_bytes();
-        Some(bytes[(address - store.address) as usize])
-    } else {
-        None
-    }
 }

@@ -30,14 +30,6 @@ pub fn label_in(note: Note) -> Option<Label>
         Note::Exec { hart } => Some(Label::Exec { hart }),
         Note::Drain { hart } => Some(Label::Drain { hart }),
         Note::Command { index } => Some(Label::Command { index }),
-        Note::Event { .. }
-        | Note::Moved { .. }
-        | Note::Take { .. }
-        | Note::Give { .. }
-        | Note::Down { .. }
-        | Note::Region { .. }
-        | Note::Gone { .. }
-        | Note::Split { .. }
-        | Note::Merge { .. } => None,
+        _ => None,
     }
 }
