@@ -2,7 +2,7 @@
 use Rattle.std.proofs.Common.{◌≡◌, ℕ, ◌≤◌, ◌↔◌, ◌⊎◌, inl, inr, Bool, true, false, cond, IfSome, IfNone, ap, ◌∙◌, All, List, [], ◌∷◌, length, drop, slice_get, Option, Some, None, IsNone, refl, arith, length-drop}
 use Rattle.std.proofs.lemmas.List.Elements.{All-drop, All-cons, All-nil}
 use Rattle.mind_base.specs.Pending.{PendingView, IsPending, covers, byte_at, newest_from, newest_byte}
-use Rattle.store_queue.specs.StoreQueue.{QueueView, IsStoreQueue, IsNewestByte}
+use Rattle.store_queue.specs.StoreQueue.{QueueView, queue_of, IsStoreQueue, IsNewestByte}
 
 -- there is no first store exactly where there is none
 pub IsNone-first : (stores : List PendingView) → IsNone (slice_get stores 0) ↔ (stores ≡ [])
@@ -10,7 +10,7 @@ IsNone-first [] = (λ _. refl, λ _. refl)
 IsNone-first (store ∷ stores) = (λ h. cc, λ h. cc)
 
 -- a queue without its first store is a queue
-pub IsStoreQueue-drop : (queue : QueueView) (n : ℕ) → IsStoreQueue queue → IsStoreQueue (record { stores = drop n queue.stores; capacity = queue.capacity })
+pub IsStoreQueue-drop : (queue : QueueView) (n : ℕ) → IsStoreQueue queue → IsStoreQueue (queue_of (drop n queue.stores) queue.capacity)
 IsStoreQueue-drop queue n is = record {
   some = is.some;
   most = is.most;

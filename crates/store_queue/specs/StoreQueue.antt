@@ -9,6 +9,9 @@ pub record QueueView : Type 0 where
   pub stores : List PendingView
   pub capacity : ℕ
 
+abbrev pub queue_of : List PendingView → ℕ → QueueView
+queue_of stores capacity = record { stores = stores; capacity = capacity }
+
 -- a queue has 1 to 64 places, and no more stores than places; each store is aligned
 pub record IsStoreQueue (queue : QueueView) : Type 0 where
   pub some : 0 < queue.capacity

@@ -18,13 +18,13 @@ pub struct StoreQueue {
 }
 
 impl Model for StoreQueue {
-    ghost use Rattle.store_queue.specs.StoreQueue.{QueueView, IsStoreQueue};
+    ghost use Rattle.store_queue.specs.StoreQueue.{QueueView, queue_of, IsStoreQueue};
 
     ghost Value = { QueueView };
 
-    ghost view = { λ q. record { stores = q.stores.items; capacity = q.stores.capacity } };
+    ghost view = { λ q. queue_of q.stores.items q.stores.capacity };
 
-    ghost invariant = { λ q. IsStoreQueue (record { stores = q.stores.items; capacity = q.stores.capacity }) };
+    ghost invariant = { λ q. IsStoreQueue (queue_of q.stores.items q.stores.capacity) };
 }
 
 impl StoreQueue {
