@@ -21,9 +21,9 @@ pub fn is_held_up(command: &Command, plan: &RackPlan, harts: &[Hart]) -> bool
     ensures { result ≡ is_held_up command.now plan.now.threads harts.now }
 {
     match command {
-        Command::Map { span, .. } => is_buffered(span, plan, harts),
-        Command::Unmap { span } => is_buffered(span, plan, harts),
-        Command::Protect { span, .. } => is_buffered(span, plan, harts),
+        Command::Map { span, .. } | Command::Unmap { span } | Command::Protect { span, .. } => {
+            is_buffered(span, plan, harts)
+        }
         Command::Migrate { .. } => false,
     }
 }
@@ -89,8 +89,7 @@ pub fn end_reservations_by(command: &Command, harts: &mut Vec<Hart>)
     ensures count { length harts.new.items ≡ length harts.old.items }
 {
     match command {
-        Command::Map { span, .. } => end_reservations_in(harts, span),
-        Command::Unmap { span } => end_reservations_in(harts, span),
+        Command::Map { span, .. } | Command::Unmap { span } => end_reservations_in(harts, span),
         Command::Protect { .. } | Command::Migrate { .. } => {}
     }
 }
