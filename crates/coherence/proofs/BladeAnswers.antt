@@ -91,9 +91,7 @@ answers-keeps c number count behind w s h = let v = answers c number count behin
   ups = ups_of_all w v c (Ack number count ∷ []) (answers-ups c number count behind w s) (answers-elsewhere c number count behind w)
       (ups-one v c (Ack number count) (answers-sent c number count behind w s)) h.ups;
   downs = downs_of_all w v c behind (answers-downs c number count behind w) (answers-elsewhere c number count behind w) s.rest h.downs;
-  answered = answers-answered c number count behind w s h.answered;
-  wanted = h.wanted;
-  called = answers-called c number count behind w s h.called;
+  counted = (answers-answered c number count behind w s h.answered, h.wanted, answers-called c number count behind w s h.called);
   written = answers-written c number count behind w h.written;
   fetching = λ blade page e. refl;
 })

@@ -64,9 +64,7 @@ asks-keeps c p write w may h = let v = asked c p write w in coherent_after v.fra
   ups = ups_of_all w v c (Get p write ∷ []) (asks-ups c p write w may h.answered) (asks-elsewhere c p write w)
       (ups-one v c (Get p write) (none_is-nothing (is_back p), put_both-here c p (Some write) w.asks)) h.ups;
   downs = downs_of_all_still w v c (asks-downs c p write w may h.answered) (asks-elsewhere c p write w) h.downs;
-  answered = asks-answered c p write w may h.answered;
-  wanted = asks-wanted c p write w may h.wanted;
-  called = asks-called c p write w h.called;
+  counted = (asks-answered c p write w may h.answered, asks-wanted c p write w may h.wanted, asks-called c p write w h.called);
   written = asks-written c p write w h.written;
   fetching = λ blade page e. refl;
 })

@@ -245,9 +245,7 @@ pub record IsKept (w v : World) : Type 0 where
   pub frames : AreFrames v
   pub ups : (blade : ℕ) → AreUps v blade (v.ups blade)
   pub downs : (blade : ℕ) → AreDowns v blade (v.downs blade)
-  pub answered : AreAnswered v
-  pub wanted : AreWanted v
-  pub called : AreCalled v
+  pub counted : AreAnswered v × AreWanted v × AreCalled v
   pub written : AreWritten v
   -- a page that is fetched is not written
   pub fetching : (blade : ℕ) (page : PageView) → is_fetching (w.wants blade page) ≡ true → v.flat page ≡ w.flat page
@@ -262,10 +260,10 @@ coherent_after frames asks ups downs flat w h k = let v = blades_changed frames 
   frames = k.frames;
   ups = k.ups;
   downs = k.downs;
-  answered = k.answered;
-  wanted = k.wanted;
+  answered = k.counted.0;
+  wanted = k.counted.1;
   fetched = h.fetched;
-  called = k.called;
+  called = k.counted.2;
   fetches = h.fetches;
   numbered = h.numbered;
   blocks = h.blocks;

@@ -166,9 +166,7 @@ sheds-keeps c p frame left w s h = let v = shed c p frame left w in coherent_aft
   ups = ups_of_all w v c (backs p frame) (sheds-ups c p frame left w s h.answered) (sheds-elsewhere c p frame left w)
       (sheds-sent c p frame left w s h.answered h.wanted frame.dirty refl) h.ups;
   downs = downs_of_all_still w v c (sheds-downs c p frame left w) (sheds-elsewhere c p frame left w) h.downs;
-  answered = sheds-answered c p frame left w h.answered;
-  wanted = h.wanted;
-  called = sheds-called c p frame left w h.called;
+  counted = (sheds-answered c p frame left w h.answered, h.wanted, sheds-called c p frame left w h.called);
   written = sheds-written c p frame left w s h.written;
   fetching = λ blade page e. refl;
 })

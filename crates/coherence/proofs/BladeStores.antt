@@ -135,9 +135,7 @@ stores-keeps c p frame image w e writable h = let v = stored c p frame image w i
   frames = stores-frames c p frame image w s h.frames;
   ups = ups_of_all_still w v c (stores-ups c p frame image w s) (stores-elsewhere c p frame image w s) h.ups;
   downs = downs_of_all_still w v c (stores-downs c p frame image w s h.answered) (stores-elsewhere c p frame image w s) h.downs;
-  answered = h.answered;
-  wanted = h.wanted;
-  called = h.called;
+  counted = (h.answered, h.wanted, h.called);
   written = stores-written c p frame image w h.written;
   fetching = stores-fetching c p frame image w s h.fetches h.wanted;
 })

@@ -190,9 +190,7 @@ takes-keeps c p m behind frames w s h =
       frames = takes-frames c p m behind frames w s h.frames;
       ups = ups_of_all_still w v c (takes-ups c p m behind frames w s a) (takes-elsewhere c p m behind frames w s) h.ups;
       downs = downs_of_all w v c behind (takes-downs c p m behind frames w a) (takes-elsewhere c p m behind frames w s) s.left h.downs;
-      answered = takes-answered c p m behind frames w s a h.answered;
-      wanted = takes-wanted c p m behind frames w a h.wanted;
-      called = takes-called c p m behind frames w s h.called;
+      counted = (takes-answered c p m behind frames w s a h.answered, takes-wanted c p m behind frames w a h.wanted, takes-called c p m behind frames w s h.called);
       written = takes-written c p m behind frames w s a h.frames h.written;
       fetching = λ blade page e. refl;
     })

@@ -61,32 +61,33 @@ among-tail : (m n : Msg) (queue : List Msg) → Among m queue → Among m (n ∷
 unfolding Among
 among-tail m n queue h test e = h test (omega (arith, total-cons test n queue))
 
+-- nor is it one that passes a test which none of the link's passes
+pub among-not : (test : Msg → Bool) (m : Msg) (queue : List Msg) → Among m queue → none_is test queue ≡ true → test m ≡ false
+among-not test m queue among none = among-none m queue among test (none_is-total test queue none)
+
+-- what is true of a link, message by message, becomes another thing that is true of it
+along : (A B : List Msg → Type 0) (queue : List Msg) → ((m : Msg) (behind : List Msg) → Among m queue → A (m ∷ behind) → A behind × (B behind → B (m ∷ behind))) → B [] → A queue → B queue
+along A B [] step end h = end
+along A B (m ∷ queue) step end h =
+    let here = step m queue (among-head m queue) h in
+    here.1 (along A B queue (λ n behind among. step n behind (among-tail n m queue among)) end here.0)
+
 -- what is true of the messages up stays true, and is true of those that are appended
 pub ups_changed : (w v : World) (blade : ℕ) (queue tail : List Msg)
     → ((m : Msg) (behind : List Msg) → Among m queue → IsUp w blade m behind → IsUp v blade m (behind ++ tail))
     → AreUps v blade tail → AreUps w blade queue → AreUps v blade (queue ++ tail)
-ups_changed w v blade [] tail step h g = h
-ups_changed w v blade (m ∷ queue) tail step h g =
-    (step m queue (among-head m queue) g.0, ups_changed w v blade queue tail (λ n behind a. step n behind (among-tail n m queue a)) h g.1)
+ups_changed w v blade queue tail step =
+    along (AreUps w blade) (λ q. AreUps v blade (q ++ tail)) queue (λ m behind among up. (up.1, λ rest. (step m behind among up.0, rest)))
 
--- the same of the messages down
-pub downs_changed : (w v : World) (blade : ℕ) (queue tail : List Msg)
-    → ((m : Msg) (behind : List Msg) → Among m queue → IsDown w blade m behind → IsDown v blade m (behind ++ tail))
-    → AreDowns v blade tail → AreDowns w blade queue → AreDowns v blade (queue ++ tail)
-downs_changed w v blade [] tail step h g = h
-downs_changed w v blade (m ∷ queue) tail step h g =
-    (step m queue (among-head m queue) g.0, downs_changed w v blade queue tail (λ n behind a. step n behind (among-tail n m queue a)) h g.1)
+-- the same where nothing is appended, and of the messages down
+pub ups_kept : (w v : World) (blade : ℕ) (queue : List Msg)
+    → ((m : Msg) (behind : List Msg) → Among m queue → IsUp w blade m behind → IsUp v blade m behind) → AreUps w blade queue → AreUps v blade queue
+ups_kept w v blade queue step = along (AreUps w blade) (AreUps v blade) queue (λ m behind among up. (up.1, λ rest. (step m behind among up.0, rest))) tt
 
-pub downs-none : (w : World) (blade : ℕ) → AreDowns w blade []
-downs-none w blade = tt
-
--- the same where nothing is appended
 pub downs_kept : (w v : World) (blade : ℕ) (queue : List Msg)
-    → ((m : Msg) (behind : List Msg) → Among m queue → IsDown w blade m behind → IsDown v blade m behind)
-    → AreDowns w blade queue → AreDowns v blade queue
-downs_kept w v blade queue step h = subst (λ q. AreDowns v blade q) (append-nil queue)
-    (downs_changed w v blade queue []
-    (λ m behind among g. subst (λ q. IsDown v blade m q) (sym (append-nil behind)) (step m behind among g)) (downs-none v blade) h)
+    → ((m : Msg) (behind : List Msg) → Among m queue → IsDown w blade m behind → IsDown v blade m behind) → AreDowns w blade queue → AreDowns v blade queue
+downs_kept w v blade queue step =
+    along (AreDowns w blade) (AreDowns v blade) queue (λ m behind among down. (down.1, λ rest. (step m behind among down.0, rest))) tt
 
 -- a link with no message, with one, and the first message of a link
 pub ups-none : (w : World) (blade : ℕ) → AreUps w blade []

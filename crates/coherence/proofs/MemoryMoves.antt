@@ -12,20 +12,5 @@ memories_changed tos froms images w = record w { tos = tos; froms = froms; image
 pub memory_moved : (tos froms : ℕ → List Msg) (images : ℕ → ℕ → PageImageView) (w : World) → IsCoherent w → AreFetched (memories_changed tos froms images w)
     → ((memory : ℕ) → AreTos (memories_changed tos froms images w) memory (images memory) (tos memory)) → AreWritten (memories_changed tos froms images w)
     → ((memory : ℕ) → AreFroms (memories_changed tos froms images w) memory (froms memory)) → IsCoherent (memories_changed tos froms images w)
-memory_moved tos froms images w safe fetched read written told = record {
-  frames = safe.frames;
-  ups = safe.ups;
-  downs = safe.downs;
-  answered = safe.answered;
-  wanted = safe.wanted;
-  fetched = fetched;
-  called = safe.called;
-  fetches = safe.fetches;
-  numbered = safe.numbered;
-  blocks = safe.blocks;
-  targets = safe.targets;
-  tos = read;
-  written = written;
-  froms = told;
-  placed = record { apart = safe.placed.apart; placed = safe.placed.placed };
-}
+memory_moved tos froms images w safe fetched read written told =
+    record { frames = safe.frames; ups = safe.ups; downs = safe.downs; answered = safe.answered; wanted = safe.wanted; fetched = fetched; called = safe.called; fetches = safe.fetches; numbered = safe.numbered; blocks = safe.blocks; targets = safe.targets; tos = read; written = written; froms = told; placed = record { apart = safe.placed.apart; placed = safe.placed.placed } }

@@ -14,9 +14,9 @@ use Rattle.coherence.specs.Counts.{bit, is_back, is_fill, is_call, is_ack, total
 use Rattle.coherence.specs.World.{Region, World, put}
 use Rattle.coherence.specs.Facts.{IsCoherent, IsUp, AreUps, IsDown, AreDowns, AreWritten, AreAnswered, AreCalled, AreFetches, AreFrames, AreNumbered, AreBlocks, AreTargets, IsTarget, IsFetch, KeepsAtMost, WaitsSomewhere, transition, names}
 use Rattle.coherence.proofs.Changes.{by-test, by-number}
-use Rattle.coherence.proofs.Lists.{total-none_is, none_is-total}
-use Rattle.coherence.proofs.Queues.{none-head, none-rest}
+use Rattle.coherence.proofs.Lists.{total-none_is, none_is-total, among-not, ups_kept, downs_kept}
 use Rattle.coherence.specs.Moves.{May, moved, HearsAck, acknowledged, region_answered}
+use Rattle.coherence.proofs.SwitchEntries.{frame_let, fill_let, entries_moved}
 use Rattle.coherence.proofs.SwitchTransitions.{transition_tells}
 use Rattle.coherence.proofs.SwitchAnswer.{left, acked_entry, left_other, left_gone, left_stays, held_acked, writer_acked, transition_before, transition_still, idle_acked, range_acked, stood}
 
@@ -38,15 +38,8 @@ module _ (w : World) (c n count : ℕ) (behind : List Msg) (head : w.ups c ≡ A
 
   frames_acked : AreFrames (acknowledged c n behind w)
   frames_acked b p frame is =
-      let h = safe.frames b p frame is in record {
-        held = held_acked n c (w.regions p) b (λ same under at. target under (promise b p same under at).left) h.held;
-        writer = λ writable. writer_acked n c (w.regions p) b (λ same under at. unwritable writable under (promise b p same under at).left) (h.writer writable);
-        alone = h.alone;
-        dirty = h.dirty;
-        newest = h.newest;
-        perm = h.perm;
-        readable = h.readable;
-      }
+      frame_let (held_acked n c (w.regions p) b (λ same under at. target under (promise b p same under at).left))
+      (λ writable. writer_acked n c (w.regions p) b (λ same under at. unwritable writable under (promise b p same under at).left)) (safe.frames b p frame is)
     where
       target : (under : Busy) → (w.frames b p ≡ None) ⊎ ((is_writable (w.frames b p) ≡ false) × (names under.target b ≡ true)) → names under.target b ≡ true
       target under (inl gone) = absurd (cc (gone, is))
@@ -82,24 +75,14 @@ module _ (w : World) (c n count : ℕ) (behind : List Msg) (head : w.ups c ≡ A
 
   ups_acked : (b : ℕ) (q : List Msg) → (b ≡ c → none_is (is_ack n) q ≡ true) → (b ≡ c → (p : PageView) (under : Busy) → transition n (w.regions p) ≡ Some under → none_is (is_back p) q ≡ true)
       → AreUps w b q → AreUps (acknowledged c n behind w) b q
-  ups_acked b [] others apart ups = tt
-  ups_acked b (m ∷ q) others apart ups = (
-    up_acked b m q (λ same. none-head (is_ack n) m q (others same)) (λ same p under is. none-head (is_back p) m q (apart same p under is)) ups.0,
-    ups_acked b q (λ same. none-rest (is_ack n) m q (others same)) (λ same p under is. none-rest (is_back p) m q (apart same p under is)) ups.1,
-  )
+  ups_acked b q others apart = ups_kept w (acknowledged c n behind w) b q (λ m later among up.
+      up_acked b m later (λ same. among-not (is_ack n) m q among (others same)) (λ same p under is. among-not (is_back p) m q among (apart same p under is)) up)
 
   -- ---- down queues
 
   down_acked : (b : ℕ) (m : Msg) (later : List Msg) → (b ≡ c → is_call n m ≡ false) → (b ≡ c → (p : PageView) (under : Busy) → transition n (w.regions p) ≡ Some under → is_fill p m ≡ false)
       → IsDown w b m later → IsDown (acknowledged c n behind w) b m later
-  down_acked b (Fill p perm writable image) later others apart down = record {
-    held = held_acked n c (w.regions p) b (λ same under at. absurd (none same under at)) down.held;
-    writer = λ is. writer_acked n c (w.regions p) b none (down.writer is);
-    newest = down.newest;
-    perm = down.perm;
-    readable = down.readable;
-    asked = down.asked;
-  } where
+  down_acked b (Fill p perm writable image) later others apart down = fill_let (held_acked n c (w.regions p) b (λ same under at. absurd (none same under at))) (writer_acked n c (w.regions p) b none) down where
     none : b ≡ c → (under : Busy) → transition n (w.regions p) ≡ Some under → ⊥
     none same under at = let e = apart same p under at in let here = same_page-refl p in absurd (cc (e, here))
   down_acked b (Inv number range asked) later others apart down = (
@@ -117,11 +100,8 @@ module _ (w : World) (c n count : ℕ) (behind : List Msg) (head : w.ups c ≡ A
 
   downs_acked : (b : ℕ) (q : List Msg) → (b ≡ c → none_is (is_call n) q ≡ true) → (b ≡ c → (p : PageView) (under : Busy) → transition n (w.regions p) ≡ Some under → none_is (is_fill p) q ≡ true)
       → AreDowns w b q → AreDowns (acknowledged c n behind w) b q
-  downs_acked b [] others apart downs = tt
-  downs_acked b (m ∷ q) others apart downs = (
-    down_acked b m q (λ same. none-head (is_call n) m q (others same)) (λ same p under is. none-head (is_fill p) m q (apart same p under is)) downs.0,
-    downs_acked b q (λ same. none-rest (is_call n) m q (others same)) (λ same p under is. none-rest (is_fill p) m q (apart same p under is)) downs.1,
-  )
+  downs_acked b q others apart = downs_kept w (acknowledged c n behind w) b q (λ m later among down.
+      down_acked b m later (λ same. among-not (is_call n) m q among (others same)) (λ same p under is. among-not (is_fill p) m q among (apart same p under is)) down)
 
   -- ---- counts
 
@@ -188,25 +168,13 @@ module _ (w : World) (c n count : ℕ) (behind : List Msg) (head : w.ups c ≡ A
         )
 
   all_acked : IsCoherent (acknowledged c n behind w)
-  all_acked = let after = acknowledged c n behind w in record {
-    frames = frames_acked;
-    ups = λ b. by-number (λ x t. AreUps after x (if t then behind else w.ups x)) b c
-        (ups_acked c behind (λ _. alone.1) (λ _ p under is. (first.0.1 p under is).back) first.1)
-        (λ away. ups_acked b (w.ups b) (λ same. let t = eq-eqb b c same in absurd (cc (away, t))) (λ same. let t = eq-eqb b c same in absurd (cc (away, t))) (safe.ups b));
-    downs = λ b. downs_acked b (w.downs b) (λ same. subst (λ x. none_is (is_call n) (w.downs x) ≡ true) (sym same) alone.0) (λ same p under is. (promise b p same under is).fill) (safe.downs b);
-    answered = answered_acked;
-    wanted = safe.wanted;
-    fetched = safe.fetched;
-    called = called_acked;
-    fetches = fetches_acked;
-    numbered = numbered_acked;
-    blocks = blocks_acked;
-    targets = targets_acked;
-    tos = safe.tos;
-    written = written_acked;
-    froms = safe.froms;
-    placed = record { apart = safe.placed.apart; placed = safe.placed.placed };
-  }
+  all_acked = let after = acknowledged c n behind w in entries_moved after.regions w.last after.ups w.downs w safe
+      frames_acked
+      (λ b. by-number (λ x t. AreUps after x (if t then behind else w.ups x)) b c
+      (ups_acked c behind (λ _. alone.1) (λ _ p under is. (first.0.1 p under is).back) first.1)
+      (λ away. ups_acked b (w.ups b) (λ same. let t = eq-eqb b c same in absurd (cc (away, t))) (λ same. let t = eq-eqb b c same in absurd (cc (away, t))) (safe.ups b)))
+      (λ b. downs_acked b (w.downs b) (λ same. subst (λ x. none_is (is_call n) (w.downs x) ≡ true) (sym same) alone.0) (λ same p under is. (promise b p same under is).fill) (safe.downs b))
+      answered_acked called_acked fetches_acked numbered_acked blocks_acked targets_acked written_acked
 
 pub hears_ack : (w : World) (blade number count : ℕ) (behind : List Msg) → IsCoherent w → May w (HearsAck blade number count behind) → IsCoherent (moved w (HearsAck blade number count behind))
 hears_ack w blade number count behind safe head = all_acked w blade number count behind head safe

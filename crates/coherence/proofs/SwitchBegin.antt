@@ -16,7 +16,7 @@ use Rattle.coherence.proofs.Changes.{by-test}
 use Rattle.coherence.proofs.Lists.{total-append, total-none_is, none_is-total}
 use Rattle.coherence.proofs.Queues.{ups-kept, downs-kept, none-never, none-more}
 use Rattle.coherence.specs.Moves.{May, MayBegin, IsCallOf, call_to, moved, Begins, begun}
-use Rattle.coherence.proofs.SwitchEntries.{blocks_put}
+use Rattle.coherence.proofs.SwitchEntries.{frame_let, fill_let, entries_moved, blocks_put}
 use Rattle.coherence.proofs.SwitchGrant.{block_closed}
 use Rattle.coherence.proofs.SwitchTransitions.{transition_tells, number_used, waits_used}
 
@@ -135,14 +135,7 @@ module _ (w : World) (region : Region) (busy : Busy) (message : Msg) (can : MayB
   ups_begun n m later up = up
 
   downs_begun : (n : ℕ) (m : Msg) (later : List Msg) → IsDown w n m later → IsDown (begun region busy message w) n m (later ++ call_to busy message n)
-  downs_begun n (Fill p perm writable image) later down = record {
-    held = held_begun p n down.held;
-    writer = λ is. writer_begun p n (down.writer is);
-    newest = down.newest;
-    perm = down.perm;
-    readable = down.readable;
-    asked = down.asked;
-  }
+  downs_begun n (Fill p perm writable image) later down = fill_let (held_begun p n) (writer_begun p n) down
   downs_begun n (Inv number range asked) later down =
       let le = waits_used w safe.numbered number n down.0 in (
         waits_begun number n down.0,
@@ -274,31 +267,13 @@ module _ (w : World) (region : Region) (busy : Busy) (message : Msg) (can : MayB
     by (inr e) = safe.targets p r under e at
 
   all_begun : IsCoherent (begun region busy message w)
-  all_begun = let after = begun region busy message w in record {
-    frames = λ b p frame is. let h = safe.frames b p frame is in record {
-      held = held_begun p b h.held;
-      writer = λ t. writer_begun p b (h.writer t);
-      alone = h.alone;
-      dirty = h.dirty;
-      newest = h.newest;
-      perm = h.perm;
-      readable = h.readable;
-    };
-    ups = λ b. ups-kept w after b (λ m. false) (λ m later e. ups_begun b m later) (w.ups b) (none-never (w.ups b)) (safe.ups b);
-    downs = λ b. downs-kept w after b (λ m. false) (call_to busy message b) (λ m later e. downs_begun b m later) (last_down b) (w.downs b) (none-never (w.downs b)) (safe.downs b);
-    answered = answered_begun;
-    wanted = safe.wanted;
-    fetched = safe.fetched;
-    called = called_begun;
-    fetches = fetches_begun;
-    numbered = numbered_begun;
-    blocks = blocks_put w region.range (Some (with_busy busy region)) (λ r e. grind arith) (block_closed w region can.entry safe.blocks) safe.blocks;
-    targets = targets_begun;
-    tos = safe.tos;
-    written = safe.written;
-    froms = safe.froms;
-    placed = record { apart = safe.placed.apart; placed = safe.placed.placed };
-  }
+  all_begun = let after = begun region busy message w in entries_moved after.regions after.last w.ups after.downs w safe
+      (λ b p frame is. frame_let (held_begun p b) (λ _. writer_begun p b) (safe.frames b p frame is))
+      (λ b. ups-kept w after b (λ m. false) (λ m later e. ups_begun b m later) (w.ups b) (none-never (w.ups b)) (safe.ups b))
+      (λ b. downs-kept w after b (λ m. false) (call_to busy message b) (λ m later e. downs_begun b m later) (last_down b) (w.downs b) (none-never (w.downs b)) (safe.downs b))
+      answered_begun called_begun fetches_begun numbered_begun
+      (blocks_put w region.range (Some (with_busy busy region)) (λ r e. grind arith) (block_closed w region can.entry safe.blocks) safe.blocks)
+      targets_begun safe.written
 
 pub begins : (w : World) (region : Region) (busy : Busy) (message : Msg) → IsCoherent w → May w (Begins region busy message) → IsCoherent (moved w (Begins region busy message))
 begins w region busy message safe can = all_begun w region busy message can safe

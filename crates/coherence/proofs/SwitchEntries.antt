@@ -1,13 +1,16 @@
 -- Entries that change so that each blade may do what it could, and no transition changes.
-use Rattle.std.proofs.Common.{◌≡◌, refl, sym, ℕ, true, false, List, Option, Some, None, IfSome, subst, ap, ◌∙◌}
+use Rattle.std.proofs.Common.{◌≡◌, refl, sym, ℕ, Bool, true, false, List, Option, Some, None, IfSome, subst, ap, ◌∙◌}
 use Rattle.std.specs.Prelude.{if◌then◌else◌}
 use Rattle.mind_base.specs.Page.{PageView}
 use Rattle.mind_base.specs.Range.{RangeView, in_range}
+use Rattle.mind_base.specs.declared.commands.Perm.{Perm}
+use Rattle.page_cache.specs.declared.frames.Frame.{Frame}
+use Rattle.page_image.specs.PageImage.{PageImageView}
 use Rattle.region_directory.specs.declared.entries.Busy.{Busy}
 use Rattle.wire_msg.specs.declared.msgs.Msg.{Msg}
 use Rattle.wire_msg.specs.declared.msgs.Msg.TheVariants.{Fill, Back, Inv, Lower, Ack}
 use Rattle.coherence.specs.World.{Region, World, put_range}
-use Rattle.coherence.specs.Facts.{IsCoherent, IsUp, IsDown, AreBlocks, IsTarget, WaitsSomewhere, transition, may, may_hold_writable}
+use Rattle.coherence.specs.Facts.{IsCoherent, IsFrame, AreFrames, IsUp, AreUps, IsFill, IsDown, AreDowns, AreAnswered, AreCalled, AreFetches, AreNumbered, AreBlocks, AreTargets, AreWritten, IsTarget, WaitsSomewhere, transition, may, may_hold_writable}
 use Rattle.coherence.proofs.Changes.{by-test}
 use Rattle.coherence.proofs.Queues.{ups-kept, downs-same, none-never}
 
@@ -32,6 +35,28 @@ pub record Widens (old new : PageView → Option Region) : Type 0 where
 abbrev pub with_regions : (PageView → Option Region) → World → World
 with_regions new w = record w { regions = new }
 
+-- a frame, and a page that comes, where the entry lets the blade do what it could
+pub frame_let : {old new : Option Region} {asked : Option Bool} {flat : PageImageView} {given : Perm} {b : ℕ} {frame : Frame} → (may old b ≡ true → may new b ≡ true)
+    → (frame.writable ≡ true → may_hold_writable old b ≡ true → may_hold_writable new b ≡ true) → IsFrame old asked flat given b frame → IsFrame new asked flat given b frame
+frame_let held writer h =
+    record { held = held h.held; writer = λ t. writer t (h.writer t); alone = h.alone; dirty = h.dirty; newest = h.newest; perm = h.perm; readable = h.readable }
+
+pub fill_let : {old new : Option Region} {flat : PageImageView} {allowed given : Perm} {asked : Option Bool} {b : ℕ} {writable : Bool} {image : PageImageView} → (may old b ≡ true → may new b ≡ true)
+    → (may_hold_writable old b ≡ true → may_hold_writable new b ≡ true) → IsFill old flat allowed asked b given writable image → IsFill new flat allowed asked b given writable image
+fill_let held writer h =
+    record { held = held h.held; writer = λ t. writer (h.writer t); newest = h.newest; perm = h.perm; readable = h.readable; asked = h.asked }
+
+module _ (regions : PageView → Option Region) (last : ℕ) (ups downs : ℕ → List Msg) (w : World) where
+  -- the rack with other entries, and other links of blades
+  abbrev pub entries_changed : World
+  entries_changed = record w { regions = regions; last = last; ups = ups; downs = downs }
+
+  -- what a change of entries has to keep: what it does not touch stays true
+  pub entries_moved : IsCoherent w → AreFrames entries_changed → ((b : ℕ) → AreUps entries_changed b (ups b)) → ((b : ℕ) → AreDowns entries_changed b (downs b)) → AreAnswered entries_changed → AreCalled entries_changed
+      → AreFetches entries_changed → AreNumbered entries_changed → AreBlocks entries_changed → AreTargets entries_changed → AreWritten entries_changed → IsCoherent entries_changed
+  entries_moved safe held up down answered called fetches numbered blocks targets written =
+      record { frames = held; ups = up; downs = down; answered = answered; wanted = safe.wanted; fetched = safe.fetched; called = called; fetches = fetches; numbered = numbered; blocks = blocks; targets = targets; tos = safe.tos; written = written; froms = safe.froms; placed = record { apart = safe.placed.apart; placed = safe.placed.placed } }
+
 waits_on : (w : World) (new : PageView → Option Region) → Widens w.regions new → (number blade : ℕ) → WaitsSomewhere w.regions number blade → WaitsSomewhere new number blade
 waits_on w new widens number blade (p, busy, is, waits) = (p, busy, widens.transition p number ∙ is, waits)
 
@@ -43,14 +68,7 @@ ups_widened w new widens n (Ack number count) later up =
 ups_widened w new widens n m later up = up
 
 downs_widened : (w : World) (new : PageView → Option Region) → Widens w.regions new → (n : ℕ) (m : Msg) (later : List Msg) → IsDown w n m later → IsDown (with_regions new w) n m later
-downs_widened w new widens n (Fill p perm writable image) later down = record {
-  held = widens.held p n down.held;
-  writer = λ is. widens.writer p n (down.writer is);
-  newest = down.newest;
-  perm = down.perm;
-  readable = down.readable;
-  asked = down.asked;
-}
+downs_widened w new widens n (Fill p perm writable image) later down = fill_let (widens.held p n) (widens.writer p n) down
 downs_widened w new widens n (Inv number range asked) later down =
     (waits_on w new widens number n down.0, λ p busy is. let call = down.1 p busy (sym (widens.transition p number) ∙ is) in record { block = call.block; fill = call.fill })
 downs_widened w new widens n (Lower number range asked) later down =
@@ -58,33 +76,16 @@ downs_widened w new widens n (Lower number range asked) later down =
 downs_widened w new widens n m later down = down
 
 pub widened : (w : World) (new : PageView → Option Region) → Widens w.regions new → AreBlocks (with_regions new w) → IsCoherent w → IsCoherent (with_regions new w)
-widened w new widens blocks safe = let after = with_regions new w in record {
-  frames = λ b p frame is. let h = safe.frames b p frame is in record {
-    held = widens.held p b h.held;
-    writer = λ t. widens.writer p b (h.writer t);
-    alone = h.alone;
-    dirty = h.dirty;
-    newest = h.newest;
-    perm = h.perm;
-    readable = h.readable;
-  };
-  ups = λ b. ups-kept w after b (λ m. false) (λ m later e. ups_widened w new widens b m later) (w.ups b) (none-never (w.ups b)) (safe.ups b);
-  downs = λ b. downs-same w after b (λ m. false) (λ m later e. downs_widened w new widens b m later) (w.downs b) (none-never (w.downs b)) (safe.downs b);
-  answered = safe.answered;
-  wanted = safe.wanted;
-  fetched = safe.fetched;
-  called = λ b number p busy is. safe.called b number p busy (sym (widens.transition p number) ∙ is);
-  fetches = λ b p v is fetching. let f = safe.fetches b p v is fetching in
-      record { held = widens.held p b f.held; writer = λ t. widens.writer p b (f.writer t); idle = widens.idle p f.idle; allowed = f.allowed };
-  numbered = λ p r busy is at. let was = widens.busy p r busy is at in safe.numbered p was.region busy was.entry (was.busy ∙ at);
-  blocks = blocks;
-  targets = λ p r busy is at. let was = widens.busy p r busy is at in
-      subst (λ state. IsTarget state busy) was.state (safe.targets p was.region busy was.entry (was.busy ∙ at));
-  tos = safe.tos;
-  written = safe.written;
-  froms = safe.froms;
-  placed = record { apart = safe.placed.apart; placed = safe.placed.placed };
-}
+widened w new widens blocks safe = let after = with_regions new w in entries_moved new w.last w.ups w.downs w safe
+    (λ b p frame is. frame_let (widens.held p b) (λ _. widens.writer p b) (safe.frames b p frame is))
+    (λ b. ups-kept w after b (λ m. false) (λ m later e. ups_widened w new widens b m later) (w.ups b) (none-never (w.ups b)) (safe.ups b))
+    (λ b. downs-same w after b (λ m. false) (λ m later e. downs_widened w new widens b m later) (w.downs b) (none-never (w.downs b)) (safe.downs b))
+    safe.answered (λ b number p busy is. safe.called b number p busy (sym (widens.transition p number) ∙ is))
+    (λ b p v is fetching. let f = safe.fetches b p v is fetching in record { held = widens.held p b f.held; writer = λ t. widens.writer p b (f.writer t); idle = widens.idle p f.idle; allowed = f.allowed })
+    (λ p r busy is at. let was = widens.busy p r busy is at in safe.numbered p was.region busy was.entry (was.busy ∙ at))
+    blocks
+    (λ p r busy is at. let was = widens.busy p r busy is at in subst (λ state. IsTarget state busy) was.state (safe.targets p was.region busy was.entry (was.busy ∙ at)))
+    safe.written
 
 -- ---- one entry changes
 
