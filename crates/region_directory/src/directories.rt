@@ -2,8 +2,8 @@
 
 ghost use Rattle.std.specs.Prelude.{◌≡◌, ◌↔◌, ◌+◌, ◌<◌, ◌≤◌, ◌⊎◌, ℕ, [], length, map, insert, remove, position, slice_get, Some, IsTrue, IsNone, IsSomeAnd, is_some, option_map, IfSome, IfOk, false};
 ghost use Rattle.mind_base.specs.Range.{RangeView, IsRange, InRange, in_range};
-ghost use Rattle.region_directory.specs.Entry.{HasPage, NoneHas, MeetsNone, largest_free, entry_place, fresh_entry, in_state, with_busy, with_change, with_hits, plus_hits, changed_at};
-ghost use Rattle.region_directory.specs.Directory.{DirectoryView, IsDirectory};
+ghost use Rattle.region_directory.specs.Entry.{HasPage, NoneHas, MeetsNone, largest_free, entry_place, fresh_entry, in_state, with_busy, with_change, with_hits, plus_hits};
+ghost use Rattle.region_directory.specs.Directory.{ChangesEntry, DirectoryView, IsDirectory};
 ghost use Rattle.region_directory.specs.Merge.{merge_of, with_merge};
 ghost use Rattle.region_directory.specs.Room.{room_of, MustWait};
 ghost use Rattle.region_directory.specs.Split.{split_of, with_split};
@@ -237,11 +237,7 @@ impl Directory {
     /// Gives the entry with this index another state.
     pub fn set_state(&mut self, i: u32, state: State)
         requires { i < length self.old.entries }
-        ensures changed { self.new ≡ record self.old {
-          entries = changed_at i (in_state state) self.old.entries;
-        } }
-        ensures count { length self.new.entries ≡ length self.old.entries }
-        ensures valid { IsDirectory self.new }
+        ensures { ChangesEntry i (in_state state) self.old self.new }
     {
         self.change(i, Change::State(state));
     }
@@ -249,11 +245,7 @@ impl Directory {
     /// Gives the entry with this index another transition, or none.
     pub fn set_busy(&mut self, i: u32, busy: Option<Busy>)
         requires { i < length self.old.entries }
-        ensures changed { self.new ≡ record self.old {
-          entries = changed_at i (with_busy busy) self.old.entries;
-        } }
-        ensures count { length self.new.entries ≡ length self.old.entries }
-        ensures valid { IsDirectory self.new }
+        ensures { ChangesEntry i (with_busy busy) self.old self.new }
     {
         self.change(i, Change::Busy(busy));
     }
@@ -261,11 +253,7 @@ impl Directory {
     /// Adds to the hits of the entry with this index, up to the greatest u32.
     pub fn add_hits(&mut self, i: u32, count: u32)
         requires { i < length self.old.entries }
-        ensures changed { self.new ≡ record self.old {
-          entries = changed_at i (plus_hits count) self.old.entries;
-        } }
-        ensures count { length self.new.entries ≡ length self.old.entries }
-        ensures valid { IsDirectory self.new }
+        ensures { ChangesEntry i (plus_hits count) self.old self.new }
     {
         self.change(i, Change::Hits(count));
     }
@@ -273,11 +261,7 @@ impl Directory {
     /// Changes one thing of the entry with this index.
     fn change(&mut self, i: u32, change: Change)
         requires { i < length self.old.entries }
-        ensures changed { self.new ≡ record self.old {
-          entries = changed_at i (with_change change) self.old.entries;
-        } }
-        ensures count { length self.new.entries ≡ length self.old.entries }
-        ensures valid { IsDirectory self.new }
+        ensures { ChangesEntry i (with_change change) self.old self.new }
     {
         change_one(&mut self.entries, i as usize, change);
     }
