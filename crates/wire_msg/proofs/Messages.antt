@@ -10,40 +10,30 @@ use Rattle.wire_msg.specs.declared.refusals.WireRefusal.{WireRefusal}
 use Rattle.wire_msg.specs.declared.refusals.WireRefusal.TheVariants.{BadFrame, NoMemory}
 use Rattle.wire_msg.specs.Spelling.{kind_byte, fields_of, spelling}
 use Rattle.wire_msg.specs.WellFormed.{IsWellFormed}
-use Rattle.wire_msg.specs.Reading.{◌>>=◌, GivesRead, fields_read, message_read, message_of}
+use Rattle.wire_msg.specs.Reading.{◌>>=◌, GivesRead, readers, kind_read, fields_read, message_read, message_of}
 use Rattle.wire_msg.proofs.Fields.{IsBytes, bind_some, some_is}
 use Rattle.wire_msg.proofs.KindLaws.{IsRead, Reads, get_reads, fill_reads, deny_reads, back_reads, inv_reads, lower_reads, ack_reads, close_reads, closed_reads, reopen_reads, read_reads, image_reads, write_reads, zero_reads, get_again, fill_again, deny_again, back_again, inv_again, lower_again, ack_again, close_again, closed_again, reopen_again, read_again, image_again, write_again, zero_again}
 
--- one kind, or another one
-pick : (kind k : ℕ) (bytes : List ℕ) (m : Msg × List ℕ) {at : List ℕ → Option (Msg × List ℕ)} {other : Option (Msg × List ℕ)} → Reads k at → IsBytes bytes → (other ≡ Some m → IsRead kind bytes m.0 m.1) → cond (eqb kind k) (at bytes) other ≡ Some m → IsRead kind bytes m.0 m.1
-pick kind k bytes m {at} {other} reads h else e = by (eqb kind k) refl e where
-  by : (b : Bool) → eqb kind k ≡ b → cond b (at bytes) other ≡ Some m → IsRead kind bytes m.0 m.1
-  by true same e = subst (λ (n : ℕ). IsRead n bytes m.0 m.1) (sym (eqb-true kind k same)) (reads bytes m h e)
-  by false same e = else e
+-- each reader reads its own kind
+abbrev AllRead : ℕ → List (List ℕ → Option (Msg × List ℕ)) → Type 0
+AllRead first [] = Unit {0}
+AllRead first (reader ∷ others) = Reads first reader × AllRead (suc first) others
 
-none_is : (kind : ℕ) (bytes : List ℕ) (m : Msg × List ℕ) → (let none : Option (Msg × List ℕ) = None in none) ≡ Some m → IsRead kind bytes m.0 m.1
-none_is kind bytes m e = absurd cc
+kind_takes : (first : ℕ) (all : List (List ℕ → Option (Msg × List ℕ))) (kind : ℕ) (bytes : List ℕ) (m : Msg × List ℕ) → AllRead first all → IsBytes bytes → kind_read first all kind bytes ≡ Some m → IsRead kind bytes m.0 m.1
+unfolding kind_read
+kind_takes first [] kind bytes m read h e = absurd cc
+kind_takes first (reader ∷ others) kind bytes m read h e = by (eqb kind first) refl e (kind_takes (suc first) others kind bytes m read.1 h) where
+  by : (b : Bool) → eqb kind first ≡ b → cond b (reader bytes) (kind_read (suc first) others kind bytes) ≡ Some m → (kind_read (suc first) others kind bytes ≡ Some m → IsRead kind bytes m.0 m.1) → IsRead kind bytes m.0 m.1
+  by true same e later = subst (λ (n : ℕ). IsRead n bytes m.0 m.1) (sym (eqb-true kind first same)) (read.0 bytes m h e)
+  by false same e later = later e
 
 fields_take : (kind : ℕ) (bytes : List ℕ) (m : Msg × List ℕ) → IsBytes bytes → fields_read kind bytes ≡ Some m → IsRead kind bytes m.0 m.1
 unfolding fields_read
-fields_take kind bytes m h e =
-    pick kind 1 bytes m get_reads h
-    (pick kind 2 bytes m fill_reads h
-    (pick kind 3 bytes m deny_reads h
-    (pick kind 4 bytes m back_reads h
-    (pick kind 5 bytes m inv_reads h
-    (pick kind 6 bytes m lower_reads h
-    (pick kind 7 bytes m ack_reads h
-    (pick kind 8 bytes m close_reads h
-    (pick kind 9 bytes m closed_reads h
-    (pick kind 10 bytes m reopen_reads h
-    (pick kind 11 bytes m read_reads h
-    (pick kind 12 bytes m image_reads h
-    (pick kind 13 bytes m write_reads h
-    (pick kind 14 bytes m zero_reads h (none_is kind bytes m)))))))))))))) e
+fields_take kind bytes m h e = kind_takes 1 readers kind bytes m
+    (get_reads, (fill_reads, (deny_reads, (back_reads, (inv_reads, (lower_reads, (ack_reads, (close_reads, (closed_reads, (reopen_reads, (read_reads, (image_reads, (write_reads, (zero_reads, tt)))))))))))))) h e
 
 fields_again : (m : Msg) (rest : List ℕ) → IsWellFormed m → fields_read (kind_byte m) (fields_of m ++ rest) ≡ Some (m, rest)
-unfolding fields_read
+unfolding fields_read kind_read
 fields_again (Get page write) rest h = get_again page write rest h
 fields_again (Fill page perm writable image) rest h = fill_again page perm writable image rest h
 fields_again (Deny page) rest h = deny_again page rest h

@@ -176,23 +176,20 @@ write_read = made_read (then_read number_read image_read) (λ f. Write f.0 f.1)
 unfoldable pub zero_read : List ℕ → Option (Msg × List ℕ)
 zero_read = made_read (where_read (then_read number_read number_read) (λ f. nat_lt 0 f.1 && nat_le (f.0 + f.1) 4294967295)) (λ f. Zero f.0 f.1)
 
+-- what reads the fields of each kind, in the order of their first bytes
+abbrev pub readers : List (List ℕ → Option (Msg × List ℕ))
+readers =
+    get_read ∷ fill_message_read ∷ deny_read ∷ back_read ∷ inv_read ∷ lower_read ∷ ack_read
+    ∷ close_read ∷ closed_read ∷ reopen_read ∷ read_read ∷ image_message_read ∷ write_read ∷ zero_read ∷ []
+
+-- the fields of this kind, where the readers are those of the kinds from a first one on
+unfoldable pub kind_read : ℕ → List (List ℕ → Option (Msg × List ℕ)) → ℕ → List ℕ → Option (Msg × List ℕ)
+kind_read first [] kind bytes = None
+kind_read first (reader ∷ others) kind bytes = if kind == first then reader bytes else kind_read (suc first) others kind bytes
+
 -- the fields of the kind with this first byte
 unfoldable pub fields_read : ℕ → List ℕ → Option (Msg × List ℕ)
-fields_read kind bytes =
-    if kind == 1 then get_read bytes else
-    (if kind == 2 then fill_message_read bytes else
-    (if kind == 3 then deny_read bytes else
-    (if kind == 4 then back_read bytes else
-    (if kind == 5 then inv_read bytes else
-    (if kind == 6 then lower_read bytes else
-    (if kind == 7 then ack_read bytes else
-    (if kind == 8 then close_read bytes else
-    (if kind == 9 then closed_read bytes else
-    (if kind == 10 then reopen_read bytes else
-    (if kind == 11 then read_read bytes else
-    (if kind == 12 then image_message_read bytes else
-    (if kind == 13 then write_read bytes else
-    (if kind == 14 then zero_read bytes else None)))))))))))))
+fields_read kind bytes = kind_read 1 readers kind bytes
 
 -- the message at the front
 unfoldable pub message_read : List ℕ → Option (Msg × List ℕ)

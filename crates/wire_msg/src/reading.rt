@@ -48,7 +48,7 @@ fn message(alloc: Global, bytes: &[u8]) -> Result<(Msg, &[u8]), WireRefusal>
     }
 }
 
-#[tactic(auto, unfolding(crate::specs::Reading::fields_read))]
+#[tactic(auto, unfolding(crate::specs::Reading::fields_read, crate::specs::Reading::kind_read))]
 fn fields(alloc: Global, kind: u8, bytes: &[u8]) -> Result<(Msg, &[u8]), WireRefusal>
     ensures { GivesRead (λ x. (x.0, x.1.now)) result (fields_read kind bytes.now) }
 {
