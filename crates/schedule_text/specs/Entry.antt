@@ -11,8 +11,6 @@ use Rattle.schedule_text.specs.declared.faults.LineFault.TheVariants as faults
 use Rattle.schedule_text.specs.declared.keywords.Keyword.{Keyword}
 use Rattle.schedule_text.specs.declared.keywords.Keyword.TheVariants as keywords
 use Rattle.schedule_text.specs.declared.fates.Fate.{Fate}
-use Rattle.schedule_text.specs.declared.keywords.CommandWord.{CommandWord}
-use Rattle.schedule_text.specs.declared.keywords.CommandWord.TheVariants as words
 use Rattle.schedule_text.specs.declared.entries.Entry.{Entry}
 use Rattle.schedule_text.specs.declared.entries.Entry.TheVariants.{Nothing, One, Rounds}
 use Rattle.schedule_text.specs.declared.sizes.Sizes.{Sizes}
@@ -38,15 +36,9 @@ permission_on line = do
   perm ← perm_named (word_numbered 4 line)
   Ok (span, perm)
 
--- the arguments of a command
-unfoldable pub command_on : Sizes → CommandWord → List ℕ → Result Command LineFault
-command_on sizes words.Map line = permission_on line >>= (λ given. Ok (commands.Map given.0 given.1))
-command_on sizes words.Protect line = permission_on line >>= (λ given. Ok (commands.Protect given.0 given.1))
-command_on sizes words.Unmap line = span_on line >>= (λ span. Ok (commands.Unmap span))
-command_on sizes words.Migrate line = do
-  range ← range_on line
-  memory ← number_below sizes.memories (word_numbered 4 line)
-  Ok (commands.Migrate range memory)
+-- a command is one event
+abbrev pub one_command : Command → Entry
+one_command command = One (events.Ask command)
 
 -- what the arguments say behind a first word
 unfoldable pub said : Sizes → Keyword → List ℕ → Result Entry LineFault
@@ -60,7 +52,13 @@ said sizes (keywords.Frame fate) line = frame_event sizes fate line >>= (λ even
 said sizes keywords.Resend line = link_named sizes (word_numbered 1 line) >>= (λ link. Ok (One (events.Resend link)))
 said sizes keywords.Epoch line = Ok (One events.Epoch)
 said sizes keywords.Settle line = Ok (One events.Settle)
-said sizes (keywords.Ask word) line = command_on sizes word line >>= (λ command. Ok (One (events.Ask command)))
+said sizes keywords.Map line = permission_on line >>= (λ given. Ok (one_command (commands.Map given.0 given.1)))
+said sizes keywords.Protect line = permission_on line >>= (λ given. Ok (one_command (commands.Protect given.0 given.1)))
+said sizes keywords.Unmap line = span_on line >>= (λ span. Ok (one_command (commands.Unmap span)))
+said sizes keywords.Migrate line = do
+  range ← range_on line
+  memory ← number_below sizes.memories (word_numbered 4 line)
+  Ok (one_command (commands.Migrate range memory))
 said sizes keywords.Run line = number_up_to 1000000 (word_numbered 1 line) >>= (λ count. Ok (Rounds count))
 
 -- the first word is known, the number of words is its own, and the arguments are read from left to right

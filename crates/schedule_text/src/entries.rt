@@ -1,13 +1,13 @@
 //! One line of a schedule: an event, or rounds of steps.
 
 ghost use Rattle.std.specs.Prelude.{◌≡◌, ◌<◌, ◌^◌, length, IfOk};
-ghost use Rattle.schedule_text.specs.Event.{IsCommandIn, IsEventIn, IsEntryIn};
-ghost use Rattle.schedule_text.specs.Entry.{entry_of, worded, said, frame_event, command_on, permission_on};
+ghost use Rattle.schedule_text.specs.Event.{IsEventIn, IsEntryIn};
+ghost use Rattle.schedule_text.specs.Entry.{entry_of, worded, said, frame_event, permission_on, one_command};
 
 use crate::arguments::{below, page, perm, range, span, up_to};
 use crate::fates::{Fate, befalls};
 use crate::faults::LineFault;
-use crate::keywords::{CommandWord, Keyword, keyword_in, words_wanted};
+use crate::keywords::{Keyword, keyword_in, words_wanted};
 use crate::links::{link, wire};
 use crate::sizes::Sizes;
 use crate::words::{word, word_count};
@@ -80,9 +80,19 @@ fn said(sizes: Sizes, keyword: Keyword, line: &[u8]) -> Result<Entry, LineFault>
         }
         Keyword::Epoch => Ok(Entry::One(Event::Epoch)),
         Keyword::Settle => Ok(Entry::One(Event::Settle)),
-        Keyword::Ask(keyword) => {
-            let command = command(sizes, keyword, line)?;
-            Ok(Entry::One(Event::Ask { command }))
+        Keyword::Map => {
+            let (span, perm) = permission(line)?;
+            Ok(asked(Command::Map { span, perm }))
+        }
+        Keyword::Protect => {
+            let (span, perm) = permission(line)?;
+            Ok(asked(Command::Protect { span, perm }))
+        }
+        Keyword::Unmap => Ok(asked(Command::Unmap { span: span(line)? })),
+        Keyword::Migrate => {
+            let range = range(line)?;
+            let memory = below(sizes.memories, word(line, 4))?;
+            Ok(asked(Command::Migrate { range, memory }))
         }
         Keyword::Run => Ok(Entry::Rounds(up_to(1_000_000, word(line, 1))?)),
     }
@@ -100,31 +110,6 @@ fn frame_event(sizes: Sizes, fate: Fate, line: &[u8]) -> Result<Event, LineFault
     Ok(befalls(fate, link, side, k))
 }
 
-/// The command that a line asks the switch for.
-#[tactic(auto, unfolding(crate::specs::Entry::command_on))]
-fn command(sizes: Sizes, keyword: CommandWord, line: &[u8]) -> Result<Command, LineFault>
-    requires { length line.now < 2 ^ 32 }
-    ensures reads { result ≡ command_on sizes keyword line.now }
-    ensures fits { IfOk result (IsCommandIn sizes) }
-{
-    match keyword {
-        CommandWord::Map => {
-            let (span, perm) = permission(line)?;
-            Ok(Command::Map { span, perm })
-        }
-        CommandWord::Protect => {
-            let (span, perm) = permission(line)?;
-            Ok(Command::Protect { span, perm })
-        }
-        CommandWord::Unmap => Ok(Command::Unmap { span: span(line)? }),
-        CommandWord::Migrate => {
-            let range = range(line)?;
-            let memory = below(sizes.memories, word(line, 4))?;
-            Ok(Command::Migrate { range, memory })
-        }
-    }
-}
-
 /// The pages and the permission that a line names.
 #[tactic(auto, unfolding(crate::specs::Entry::permission_on))]
 fn permission(line: &[u8]) -> Result<(Span, Perm), LineFault>
@@ -134,4 +119,11 @@ fn permission(line: &[u8]) -> Result<(Span, Perm), LineFault>
     let span = span(line)?;
     let perm = perm(word(line, 4))?;
     Ok((span, perm))
+}
+
+/// A command is one event.
+fn asked(command: Command) -> Entry
+    ensures { result ≡ one_command command }
+{
+    Entry::One(Event::Ask { command })
 }

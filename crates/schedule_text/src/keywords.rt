@@ -16,17 +16,11 @@ pub enum Keyword {
     Resend,
     Epoch,
     Settle,
-    Ask(CommandWord),
-    Run,
-}
-
-/// Which command the switch is asked for.
-#[derive(Clone, Copy, Debug, PartialEq, Eq)]
-pub enum CommandWord {
     Map,
     Protect,
     Unmap,
     Migrate,
+    Run,
 }
 
 #[tactic(auto, unfolding(crate::specs::Keyword::keyword_of))]
@@ -61,16 +55,16 @@ pub fn keyword_in(word: &[u8]) -> Result<Keyword, LineFault>
         return Ok(Keyword::Settle);
     }
     if word == b"map".as_slice() {
-        return Ok(Keyword::Ask(CommandWord::Map));
+        return Ok(Keyword::Map);
     }
     if word == b"protect".as_slice() {
-        return Ok(Keyword::Ask(CommandWord::Protect));
+        return Ok(Keyword::Protect);
     }
     if word == b"unmap".as_slice() {
-        return Ok(Keyword::Ask(CommandWord::Unmap));
+        return Ok(Keyword::Unmap);
     }
     if word == b"migrate".as_slice() {
-        return Ok(Keyword::Ask(CommandWord::Migrate));
+        return Ok(Keyword::Migrate);
     }
     if word == b"run".as_slice() {
         return Ok(Keyword::Run);
@@ -86,7 +80,7 @@ pub fn words_wanted(keyword: Keyword) -> usize
         Keyword::Epoch | Keyword::Settle => 1,
         Keyword::Step | Keyword::Drain | Keyword::Resend | Keyword::Run => 2,
         Keyword::Frame(_) => 3,
-        Keyword::Evict | Keyword::Ask(CommandWord::Unmap) => 4,
-        Keyword::Ask(CommandWord::Map | CommandWord::Protect | CommandWord::Migrate) => 5,
+        Keyword::Evict | Keyword::Unmap => 4,
+        Keyword::Map | Keyword::Protect | Keyword::Migrate => 5,
     }
 }
