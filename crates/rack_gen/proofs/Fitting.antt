@@ -4,9 +4,10 @@ use Rattle.std.specs.List.{AllByRecursion}
 use Rattle.std.proofs.Math.Nat.{mod-lt}
 use Rattle.schedule_text.specs.declared.sizes.Sizes.{Sizes}
 use Rattle.schedule_text.specs.Event.{IsEventIn}
+use Rattle.schedule_text.specs.declared.fates.Fate.TheVariants.{Deliver, Lose, Repeat}
 use Rattle.rack_gen.specs.declared.wires.Wire.{Wire}
 use Rattle.rack_gen.specs.declared.lines.Line.{Line}
-use Rattle.rack_gen.specs.declared.lines.Line.TheVariants.{Step, Drain, Deliver, Lose, Repeat, Epoch, Settle}
+use Rattle.rack_gen.specs.declared.lines.Line.TheVariants.{Step, Drain, Frame, Epoch, Settle}
 use Rattle.rack_gen.specs.Draw.{draw, drawn_state}
 use Rattle.rack_gen.specs.Wire.{wires_of}
 use Rattle.rack_gen.specs.Line.{kind_at, wire_at, line_at, draws_of, event_of}
@@ -17,9 +18,7 @@ use Rattle.rack_gen.proofs.WireLists.{IsWireIn, wire_fits}
 abbrev pub IsLineIn : Sizes → Line → Type 0
 IsLineIn sizes (Step hart) = hart < sizes.threads
 IsLineIn sizes (Drain hart) = hart < sizes.threads
-IsLineIn sizes (Deliver wire k) = IsWireIn sizes wire × (k < 4)
-IsLineIn sizes (Lose wire k) = IsWireIn sizes wire × (k < 4)
-IsLineIn sizes (Repeat wire k) = IsWireIn sizes wire × (k < 4)
+IsLineIn sizes (Frame fate wire k) = IsWireIn sizes wire × (k < 4)
 IsLineIn sizes Epoch = Unit {0}
 IsLineIn sizes Settle = Unit {0}
 
@@ -60,9 +59,9 @@ length_lines sizes count seed = length_from sizes.threads (wires_of sizes) count
 event_fits : (sizes : Sizes) (line : Line) → IsLineIn sizes line → IsEventIn sizes (event_of line)
 event_fits sizes (Step hart) fits = fits
 event_fits sizes (Drain hart) fits = fits
-event_fits sizes (Deliver wire k) fits = fits.0
-event_fits sizes (Lose wire k) fits = fits.0
-event_fits sizes (Repeat wire k) fits = fits.0
+event_fits sizes (Frame Deliver wire k) fits = fits.0
+event_fits sizes (Frame Lose wire k) fits = fits.0
+event_fits sizes (Frame Repeat wire k) fits = fits.0
 event_fits sizes Epoch fits = tt
 event_fits sizes Settle fits = tt
 

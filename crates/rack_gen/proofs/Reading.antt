@@ -22,7 +22,10 @@ use Rattle.schedule_text.specs.Word.{words_of}
 use Rattle.schedule_text.specs.declared.keywords.Keyword.{Keyword}
 use Rattle.schedule_text.specs.declared.keywords.Keyword.TheVariants as keywords
 use Rattle.schedule_text.specs.Keyword.{keyword_of, words_wanted}
-use Rattle.schedule_text.specs.Entry.{entry_of, worded, said, step_entry, drain_at, deliver_at, lose_at, repeat_at, frame_on}
+use Rattle.schedule_text.specs.Entry.{entry_of, worded, said, frame_event}
+use Rattle.schedule_text.specs.declared.fates.Fate.{Fate}
+use Rattle.schedule_text.specs.declared.fates.Fate.TheVariants.{Deliver, Lose, Repeat}
+use Rattle.schedule_text.specs.Fate.{befalls}
 use Rattle.schedule_text.specs.Schedule.{read_from, after_line, with_line}
 use Rattle.schedule_text.specs.Argument.{number_up_to, number_below}
 use Rattle.schedule_text.specs.Link.{ends_of, link_kind_of, link_number, link_named, wire_named}
@@ -30,8 +33,8 @@ use Rattle.rack_gen.specs.declared.wires.Wire.{Wire}
 use Rattle.rack_gen.specs.Wire.{letter_of, side_mark, wire_name}
 use Rattle.rack_gen.proofs.Numerals.{numeral}
 use Rattle.rack_gen.specs.declared.lines.Line.{Line}
-use Rattle.rack_gen.specs.declared.lines.Line.TheVariants.{Step, Drain, Deliver, Lose, Repeat, Epoch, Settle}
-use Rattle.rack_gen.specs.Line.{event_of, words_in, spaced, line_text}
+use Rattle.rack_gen.specs.declared.lines.Line.TheVariants.{Step, Drain, Frame, Epoch, Settle}
+use Rattle.rack_gen.specs.Line.{event_of, word_of, words_in, spaced, line_text}
 use Rattle.rack_gen.proofs.Spacing.{IsWord, words_spaced, text_spaced}
 use Rattle.rack_gen.proofs.WireLists.{IsWireIn}
 use Rattle.rack_gen.proofs.Fitting.{IsLineIn}
@@ -154,15 +157,15 @@ wire_small sizes wire small within = few_ends sizes wire.link.kind wire.link.num
 constant : (word : List ℕ) → 0 < length word → each_prints word ≡ true → IsWord word
 constant word some prints = record { some = some; prints = prints }
 
+fate_word : (fate : Fate) → IsWord (word_of fate)
+fate_word Deliver = constant (codes "deliver") (omega arith) refl
+fate_word Lose = constant (codes "lose") (omega arith) refl
+fate_word Repeat = constant (codes "repeat") (omega arith) refl
+
 pub line_words : (sizes : Sizes) (line : Line) → IsSmall sizes → IsLineIn sizes line → AllByRecursion IsWord (words_in line)
 line_words sizes (Step hart) small fits = (constant (codes "step") (omega arith) refl, (number_word hart (omega (arith, small.threads, fits)), tt))
 line_words sizes (Drain hart) small fits = (constant (codes "drain") (omega arith) refl, (number_word hart (omega (arith, small.threads, fits)), tt))
-line_words sizes (Deliver wire k) small fits =
-    (constant (codes "deliver") (omega arith) refl, (name_word wire (wire_small sizes wire small fits.0), (number_word k (omega (arith, fits.1)), tt)))
-line_words sizes (Lose wire k) small fits =
-    (constant (codes "lose") (omega arith) refl, (name_word wire (wire_small sizes wire small fits.0), (number_word k (omega (arith, fits.1)), tt)))
-line_words sizes (Repeat wire k) small fits =
-    (constant (codes "repeat") (omega arith) refl, (name_word wire (wire_small sizes wire small fits.0), (number_word k (omega (arith, fits.1)), tt)))
+line_words sizes (Frame fate wire k) small fits = (fate_word fate, (name_word wire (wire_small sizes wire small fits.0), (number_word k (omega (arith, fits.1)), tt)))
 line_words sizes Epoch small fits = (constant (codes "epoch") (omega arith) refl, tt)
 line_words sizes Settle small fits = (constant (codes "settle") (omega arith) refl, tt)
 
@@ -173,26 +176,28 @@ begins : (sizes : Sizes) (keyword : Keyword) (word : List ℕ) (arguments : List
 unfolding entry_of worded
 begins sizes keyword word arguments text is words some known count = rw (is, words, some, known, count) refl
 
-reads_frame : (sizes : Sizes) (word : List ℕ) (wire : Wire) (k : ℕ) (text : List ℕ) → IsSmall sizes → IsWireIn sizes wire × (k < 4) → words_of text ≡ word ∷ wire_name wire ∷ decimal k ∷ []
-    → frame_on sizes text ≡ Ok (record { link = wire.link; side = wire.side; k = k })
-unfolding frame_on
-reads_frame sizes word wire k text small fits words =
+reads_frame : (sizes : Sizes) (fate : Fate) (wire : Wire) (k : ℕ) (text : List ℕ) → IsSmall sizes → IsWireIn sizes wire × (k < 4) → words_of text ≡ words_in (Frame fate wire k)
+    → frame_event sizes fate text ≡ Ok (befalls fate wire.link wire.side k)
+unfolding frame_event
+reads_frame sizes fate wire k text small fits words =
     rw (words, reads_wire sizes wire fits.0 (wire_small sizes wire small fits.0), reads_up_to k (omega (arith, fits.1))) refl
+
+begins_frame : (sizes : Sizes) (fate : Fate) (wire : Wire) (k : ℕ) (text : List ℕ) → is_text text ≡ true → words_of text ≡ words_in (Frame fate wire k)
+    → entry_of sizes text ≡ said sizes (keywords.Frame fate) text
+unfolding keyword_of
+begins_frame sizes Deliver wire k text is words = begins sizes (keywords.Frame Deliver) (codes "deliver") (wire_name wire ∷ decimal k ∷ []) text is words refl refl refl
+begins_frame sizes Lose wire k text is words = begins sizes (keywords.Frame Lose) (codes "lose") (wire_name wire ∷ decimal k ∷ []) text is words refl refl refl
+begins_frame sizes Repeat wire k text is words = begins sizes (keywords.Frame Repeat) (codes "repeat") (wire_name wire ∷ decimal k ∷ []) text is words refl refl refl
 
 -- what a line of these words says
 says : (sizes : Sizes) (line : Line) (text : List ℕ) → IsSmall sizes → IsLineIn sizes line → is_text text ≡ true → words_of text ≡ words_in line
     → entry_of sizes text ≡ Ok (One (event_of line))
-unfolding keyword_of said step_entry drain_at deliver_at lose_at repeat_at
+unfolding keyword_of said
 says sizes (Step hart) text small fits is words =
     begins sizes keywords.Step (codes "step") (decimal hart ∷ []) text is words refl refl refl ∙ rw (words, reads_below sizes.threads hart fits (omega (arith, small.threads, fits))) refl
 says sizes (Drain hart) text small fits is words =
     begins sizes keywords.Drain (codes "drain") (decimal hart ∷ []) text is words refl refl refl ∙ rw (words, reads_below sizes.threads hart fits (omega (arith, small.threads, fits))) refl
-says sizes (Deliver wire k) text small fits is words =
-    begins sizes keywords.Deliver (codes "deliver") (wire_name wire ∷ decimal k ∷ []) text is words refl refl refl ∙ rw (reads_frame sizes (codes "deliver") wire k text small fits words) refl
-says sizes (Lose wire k) text small fits is words =
-    begins sizes keywords.Lose (codes "lose") (wire_name wire ∷ decimal k ∷ []) text is words refl refl refl ∙ rw (reads_frame sizes (codes "lose") wire k text small fits words) refl
-says sizes (Repeat wire k) text small fits is words =
-    begins sizes keywords.Repeat (codes "repeat") (wire_name wire ∷ decimal k ∷ []) text is words refl refl refl ∙ rw (reads_frame sizes (codes "repeat") wire k text small fits words) refl
+says sizes (Frame fate wire k) text small fits is words = begins_frame sizes fate wire k text is words ∙ rw (reads_frame sizes fate wire k text small fits words) refl
 says sizes Epoch text small fits is words = begins sizes keywords.Epoch (codes "epoch") [] text is words refl refl refl
 says sizes Settle text small fits is words = begins sizes keywords.Settle (codes "settle") [] text is words refl refl refl
 
@@ -248,15 +253,16 @@ three_words : (word name number : List ℕ) → length word ≤ 7 → length nam
 three_words word name number w m n =
     omega (arith, length-append (spaced (word ∷ name ∷ number ∷ [])) (codes "\n"), length-append word (32 ∷ (name ++ 32 ∷ number)), length-append name (32 ∷ number))
 
+fate_short : (fate : Fate) → length (word_of fate) ≤ 7
+fate_short Deliver = omega arith
+fate_short Lose = omega arith
+fate_short Repeat = omega arith
+
 line_short : (sizes : Sizes) (line : Line) → IsSmall sizes → IsLineIn sizes line → length (line_text line) ≤ 16
 line_short sizes (Step hart) small fits = two_words (codes "step") (decimal hart) (omega arith) (numeral hart (omega (arith, small.threads, fits))).few
 line_short sizes (Drain hart) small fits = two_words (codes "drain") (decimal hart) (omega arith) (numeral hart (omega (arith, small.threads, fits))).few
-line_short sizes (Deliver wire k) small fits =
-    three_words (codes "deliver") (wire_name wire) (decimal k) (omega arith) (name_short wire (wire_small sizes wire small fits.0)) (numeral k (omega (arith, fits.1))).few
-line_short sizes (Lose wire k) small fits =
-    three_words (codes "lose") (wire_name wire) (decimal k) (omega arith) (name_short wire (wire_small sizes wire small fits.0)) (numeral k (omega (arith, fits.1))).few
-line_short sizes (Repeat wire k) small fits =
-    three_words (codes "repeat") (wire_name wire) (decimal k) (omega arith) (name_short wire (wire_small sizes wire small fits.0)) (numeral k (omega (arith, fits.1))).few
+line_short sizes (Frame fate wire k) small fits =
+    three_words (word_of fate) (wire_name wire) (decimal k) (fate_short fate) (name_short wire (wire_small sizes wire small fits.0)) (numeral k (omega (arith, fits.1))).few
 line_short sizes Epoch small fits = omega arith
 line_short sizes Settle small fits = omega arith
 

@@ -5,9 +5,12 @@ use Rattle.mind_base.specs.declared.links.LinkKind.TheVariants.{Up}
 use Rattle.mind_base.specs.declared.links.Side.TheVariants.{Messages}
 use Rattle.mind_base.specs.declared.events.Event.{Event}
 use Rattle.mind_base.specs.declared.events.Event.TheVariants as events
+use Rattle.schedule_text.specs.declared.fates.Fate.{Fate}
+use Rattle.schedule_text.specs.declared.fates.Fate.TheVariants.{Deliver, Lose, Repeat}
+use Rattle.schedule_text.specs.Fate.{befalls}
 use Rattle.rack_gen.specs.declared.wires.Wire.{Wire}
 use Rattle.rack_gen.specs.declared.lines.Line.{Line}
-use Rattle.rack_gen.specs.declared.lines.Line.TheVariants.{Step, Drain, Deliver, Lose, Repeat, Epoch, Settle}
+use Rattle.rack_gen.specs.declared.lines.Line.TheVariants.{Step, Drain, Frame, Epoch, Settle}
 use Rattle.rack_gen.specs.Draw.{draw}
 use Rattle.rack_gen.specs.Wire.{wire_name}
 
@@ -24,18 +27,16 @@ unfoldable pub line_at : ℕ → List Wire → ℕ → Line
 line_at threads wires state =
     if nat_lt (kind_at state) 8 then Step (draw 2 state % threads) else
     if nat_lt (kind_at state) 11 then Drain (draw 2 state % threads) else
-    if nat_lt (kind_at state) 13 then Deliver (wire_at wires (draw 2 state)) (draw 3 state % 4) else
-    if kind_at state == 13 then Lose (wire_at wires (draw 2 state)) (draw 3 state % 4) else
-    if kind_at state == 14 then Repeat (wire_at wires (draw 2 state)) (draw 3 state % 4) else
+    if nat_lt (kind_at state) 13 then Frame Deliver (wire_at wires (draw 2 state)) (draw 3 state % 4) else
+    if kind_at state == 13 then Frame Lose (wire_at wires (draw 2 state)) (draw 3 state % 4) else
+    if kind_at state == 14 then Frame Repeat (wire_at wires (draw 2 state)) (draw 3 state % 4) else
     if draw 2 state % 4 == 0 then Epoch else Settle
 
 -- a line that names a frame takes three draws, any other two
 abbrev pub draws_of : Line → ℕ
 draws_of (Step hart) = 2
 draws_of (Drain hart) = 2
-draws_of (Deliver wire k) = 3
-draws_of (Lose wire k) = 3
-draws_of (Repeat wire k) = 3
+draws_of (Frame fate wire k) = 3
 draws_of Epoch = 2
 draws_of Settle = 2
 
@@ -43,19 +44,21 @@ draws_of Settle = 2
 abbrev pub event_of : Line → Event
 event_of (Step hart) = events.Step hart
 event_of (Drain hart) = events.Drain hart
-event_of (Deliver wire k) = events.Deliver wire.link wire.side k
-event_of (Lose wire k) = events.Lose wire.link wire.side k
-event_of (Repeat wire k) = events.Repeat wire.link wire.side k
+event_of (Frame fate wire k) = befalls fate wire.link wire.side k
 event_of Epoch = events.Epoch
 event_of Settle = events.Settle
+
+-- the word that a line of a frame begins with
+abbrev pub word_of : Fate → List ℕ
+word_of Deliver = codes "deliver"
+word_of Lose = codes "lose"
+word_of Repeat = codes "repeat"
 
 -- the words of a line
 abbrev pub words_in : Line → List (List ℕ)
 words_in (Step hart) = codes "step" ∷ decimal hart ∷ []
 words_in (Drain hart) = codes "drain" ∷ decimal hart ∷ []
-words_in (Deliver wire k) = codes "deliver" ∷ wire_name wire ∷ decimal k ∷ []
-words_in (Lose wire k) = codes "lose" ∷ wire_name wire ∷ decimal k ∷ []
-words_in (Repeat wire k) = codes "repeat" ∷ wire_name wire ∷ decimal k ∷ []
+words_in (Frame fate wire k) = word_of fate ∷ wire_name wire ∷ decimal k ∷ []
 words_in Epoch = codes "epoch" ∷ []
 words_in Settle = codes "settle" ∷ []
 

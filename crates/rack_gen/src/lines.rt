@@ -3,13 +3,14 @@
 ghost use Rattle.std.specs.Prelude.{◌≡◌, ◌++◌, ◌∷◌, [], ◌%◌, ◌<◌, ◌≤◌, codes, length, OnOk};
 ghost use Rattle.std.specs.Fmt.{decimal};
 ghost use Rattle.rack_gen.specs.Draw.{draw, drawn_state};
-ghost use Rattle.rack_gen.specs.Line.{wire_at, line_at, draws_of, event_of, line_text, spaced};
+ghost use Rattle.rack_gen.specs.Line.{wire_at, line_at, draws_of, event_of, word_of, line_text, spaced};
 ghost use Rattle.rack_gen.specs.Wire.{wire_name};
 
 use crate::draws::Generator;
 use crate::wires::{Wire, put_name};
 use mind_base::{Event, NoMemory};
 use plain_text::put_decimal;
+use schedule_text::{Fate, befalls};
 use std::alloc::Global;
 
 /// What a line of a generated schedule says.
@@ -17,18 +18,9 @@ use std::alloc::Global;
 pub enum Line {
     Step { hart: u8 },
     Drain { hart: u8 },
-    Deliver { wire: Wire, k: u32 },
-    Lose { wire: Wire, k: u32 },
-    Repeat { wire: Wire, k: u32 },
+    Frame { fate: Fate, wire: Wire, k: u32 },
     Epoch,
     Settle,
-}
-
-/// A frame that a line names: its wire, and its number there.
-#[derive(Clone, Copy, Debug)]
-struct Frame {
-    wire: Wire,
-    k: u32,
 }
 
 /// Draws a line, for so many threads and these wires.
@@ -47,18 +39,9 @@ pub fn draw_line(generator: &mut Generator, threads: u8, wires: &[Wire]) -> Line
         8..=10 => Line::Drain {
             hart: draw_hart(generator, threads),
         },
-        11..=12 => {
-            let Frame { wire, k } = draw_frame(generator, wires);
-            Line::Deliver { wire, k }
-        }
-        13 => {
-            let Frame { wire, k } = draw_frame(generator, wires);
-            Line::Lose { wire, k }
-        }
-        14 => {
-            let Frame { wire, k } = draw_frame(generator, wires);
-            Line::Repeat { wire, k }
-        }
+        11..=12 => draw_frame(generator, Fate::Deliver, wires),
+        13 => draw_frame(generator, Fate::Lose, wires),
+        14 => draw_frame(generator, Fate::Repeat, wires),
         _ => if generator.next() % 4 == 0 {
             Line::Epoch
         } else {
@@ -75,19 +58,15 @@ fn draw_hart(generator: &mut Generator, threads: u8) -> u8
     (generator.next() % u32::from(threads)) as u8
 }
 
-fn draw_frame(generator: &mut Generator, wires: &[Wire]) -> Frame
+fn draw_frame(generator: &mut Generator, fate: Fate, wires: &[Wire]) -> Line
     requires some { 0 < length wires.now }
     requires few { length wires.now ≤ 64 }
-    ensures wire { result.wire ≡ wire_at wires.now (draw 1 generator.old.state) }
-    ensures k { result.k ≡ draw 2 generator.old.state % 4 }
+    ensures line { result ≡ Line.Frame fate (wire_at wires.now (draw 1 generator.old.state)) (draw 2 generator.old.state % 4) }
     ensures state { generator.new.state ≡ drawn_state 2 generator.old.state }
 {
-    let place = generator.next() as usize % wires.len();
+    let wire = wires[generator.next() as usize % wires.len()];
     let k = generator.next() % 4;
-    Frame {
-        wire: wires[place],
-        k,
-    }
+    Line::Frame { fate, wire, k }
 }
 
 /// The event that a line stands for.
@@ -97,21 +76,7 @@ pub fn event(line: Line) -> Event
     match line {
         Line::Step { hart } => Event::Step { hart },
         Line::Drain { hart } => Event::Drain { hart },
-        Line::Deliver { wire, k } => Event::Deliver {
-            link: wire.link,
-            side: wire.side,
-            k,
-        },
-        Line::Lose { wire, k } => Event::Lose {
-            link: wire.link,
-            side: wire.side,
-            k,
-        },
-        Line::Repeat { wire, k } => Event::Repeat {
-            link: wire.link,
-            side: wire.side,
-            k,
-        },
+        Line::Frame { fate, wire, k } => befalls(fate, wire.link, wire.side, k),
         Line::Epoch => Event::Epoch,
         Line::Settle => Event::Settle,
     }
@@ -124,11 +89,20 @@ pub fn put_line(alloc: Global, out: &mut Vec<u8>, line: Line) -> Result<(), NoMe
     match line {
         Line::Step { hart } => put_of_hart(alloc, out, b"step", hart),
         Line::Drain { hart } => put_of_hart(alloc, out, b"drain", hart),
-        Line::Deliver { wire, k } => put_of_frame(alloc, out, b"deliver", wire, k),
-        Line::Lose { wire, k } => put_of_frame(alloc, out, b"lose", wire, k),
-        Line::Repeat { wire, k } => put_of_frame(alloc, out, b"repeat", wire, k),
+        Line::Frame { fate, wire, k } => put_of_frame(alloc, out, word(fate), wire, k),
         Line::Epoch => put_alone(out, b"epoch"),
         Line::Settle => put_alone(out, b"settle"),
+    }
+}
+
+/// The word that a line of a frame begins with.
+fn word(fate: Fate) -> &'static [u8]
+    ensures { result.now ≡ word_of fate }
+{
+    match fate {
+        Fate::Deliver => b"deliver",
+        Fate::Lose => b"lose",
+        Fate::Repeat => b"repeat",
     }
 }
 

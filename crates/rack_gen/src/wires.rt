@@ -36,43 +36,21 @@ fn push_wires(
     ensures { OnOk result (wires.new.items ≡ wires.old.items ++ wires_between one other blades) }
 {
     for number in 0..blades {
-        push_links(wires, one, other, number)?;
+        push_link(wires, one, number)?;
+        push_link(wires, other, number)?;
     }
     Ok(())
 }
 
-fn push_links(
-    wires: &mut Vec<Wire>,
-    one: LinkKind,
-    other: LinkKind,
-    number: u8,
-) -> Result<(), NoMemory>
-    ensures { OnOk result (wires.new.items ≡ wires.old.items ++ (wires_of_link one number ++ wires_of_link other number)) }
+/// The wire of a link's messages, and that of their acknowledgements.
+fn push_link(wires: &mut Vec<Wire>, kind: LinkKind, number: u8) -> Result<(), NoMemory>
+    ensures { OnOk result (wires.new.items ≡ wires.old.items ++ wires_of_link kind number) }
 {
-    let one = LinkName { kind: one, number };
-    let other = LinkName {
-        kind: other,
-        number,
-    };
-    let four = [
-        Wire {
-            link: one,
-            side: Side::Messages,
-        },
-        Wire {
-            link: one,
-            side: Side::Acks,
-        },
-        Wire {
-            link: other,
-            side: Side::Messages,
-        },
-        Wire {
-            link: other,
-            side: Side::Acks,
-        },
-    ];
-    wires.extend_from_slice(&four)?;
+    let link = LinkName { kind, number };
+    let side = Side::Messages;
+    wires.push(Wire { link, side })?;
+    let side = Side::Acks;
+    wires.push(Wire { link, side })?;
     Ok(())
 }
 
