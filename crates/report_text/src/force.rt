@@ -94,14 +94,7 @@ fn take_note(kept: &mut BTreeSet<BlockKey>, note: Note) -> Result<(), NoMemory>
         }
         Note::Split { range } => split(kept, range),
         Note::Merge { range } => merge(kept, range),
-        Note::Event { .. }
-        | Note::Exec { .. }
-        | Note::Drain { .. }
-        | Note::Command { .. }
-        | Note::Moved { .. }
-        | Note::Take { .. }
-        | Note::Give { .. }
-        | Note::Down { .. } => Ok(()),
+        _ => Ok(()),
     }
 }
 

@@ -14,17 +14,7 @@ fn note_move(moves: &mut Vec<Option<Outcome>>, note: Note)
 {
     match note {
         Note::Moved { index, outcome } => keep_first(moves, index as usize, outcome),
-        Note::Event { .. }
-        | Note::Exec { .. }
-        | Note::Drain { .. }
-        | Note::Command { .. }
-        | Note::Take { .. }
-        | Note::Give { .. }
-        | Note::Down { .. }
-        | Note::Region { .. }
-        | Note::Gone { .. }
-        | Note::Split { .. }
-        | Note::Merge { .. } => {}
+        _ => {}
     }
 }
 
