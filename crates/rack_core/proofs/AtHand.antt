@@ -1,13 +1,12 @@
 -- What is at hand, by the frames of a blade and by what is held in it.
-use Rattle.std.proofs.Common.{◌≡◌, ◌∙◌, ℕ, Bool, true, ap, sym, refl, List, ◌∷◌, slice_get, Option, Some, None}
+use Rattle.std.proofs.Common.{◌≡◌, ◌∙◌, ℕ, Bool, true, ap, sym, refl, subst, List, slice_get, Option, Some, None}
 use Rattle.std.specs.Prelude.{not, ◌||◌, is_some}
 use Rattle.mind_base.specs.Page.{PageView}
-use Rattle.mind_base.specs.Pending.{PendingView}
 use Rattle.mind_base.specs.Place.{place_of, page_at}
+use Rattle.mind_base.specs.declared.plans.RackPlan.{RackPlan}
 use Rattle.mind_base.specs.declared.plans.ThreadPlan.{ThreadPlan}
 use Rattle.page_cache.specs.PageCache.{is_writable}
 use Rattle.hart_effect.specs.Access.{AccessView, is_aligned}
-use Rattle.hart_effect.specs.Thread.{Thread}
 use Rattle.hart_effect.specs.declared.accesses.AccessKind.{AccessKind}
 use Rattle.hart_effect.specs.declared.accesses.AccessKind.TheVariants.{Reads, WritesLater, WritesAtOnce}
 use Rattle.page_cache.specs.declared.frames.Frame.{Frame}
@@ -16,7 +15,7 @@ use Rattle.coherence.proofs.TellingNotes.{writable_of}
 use Rattle.tso_machine.specs.Scheduled.{step_label}
 use Rattle.tso_machine.specs.State.{Setup, State}
 use Rattle.tso_machine.specs.declared.labels.Label.TheVariants as label
-use Rattle.rack_core.specs.AtOnce.{next_access, is_held_as, is_at_hand, AreHeldIn, ExecutesAtOnce, HoldsOldest}
+use Rattle.rack_core.specs.AtOnce.{next_access, is_held_as, is_at_hand, AreHeldIn, ExecutesAtOnce, OldestStore, HoldsOldest}
 use Rattle.rack_core.specs.Rack.{RackView}
 use Rattle.rack_core.specs.Seen.{frame_at}
 
@@ -39,14 +38,9 @@ pub record ExecutesThere (setup : Setup) (rack : RackView) (m : State) (h : ℕ)
   pub step : step_label setup m.threads h ≡ Some (label.Exec h)
   pub at_hand : frames_at_hand (frame_at rack.blades plan.blade) (next_access setup m.threads h) ≡ true
 
-pub record HoldsThere (rack : RackView) (m : State) (h : ℕ) : Type 0 where
-  pub plan : ThreadPlan
-  pub thread : Thread
-  pub oldest : PendingView
-  pub newer : List PendingView
-  pub planned : slice_get rack.plan.threads h ≡ Some plan
-  pub there : slice_get m.threads h ≡ Some thread
-  pub buffer : thread.buffer ≡ oldest ∷ newer
+pub record HoldsThere (threads : List ThreadPlan) (rack : RackView) (m : State) (h : ℕ) : Type 0 where
+  pub store : OldestStore threads m h
+  pub open store use *
   pub held : is_writable (frame_at rack.blades plan.blade (page_at (place_of plan.domain oldest.address))) ≡ true
 
 -- ---- by what is held
@@ -78,16 +72,8 @@ executes-there setup rack held m h same are now = record {
   at_hand = at-hand (frame_at rack.blades now.plan.blade) (held now.plan.blade) (are now.plan.blade) (next_access setup m.threads h) now.at_hand;
 }
 
-pub holds-there : (setup : Setup) (rack : RackView) (held : Holdings) (m : State) (h : ℕ) → setup.plan ≡ rack.plan → AreHeldIn rack held → HoldsOldest setup held m h → HoldsThere rack m h
+pub holds-there : (setup : Setup) (rack : RackView) (held : Holdings) (m : State) (h : ℕ) → setup.plan ≡ rack.plan → AreHeldIn rack held → HoldsOldest setup held m h → HoldsThere rack.plan.threads rack m h
 holds-there setup rack held m h same are now =
     let page = page_at (place_of now.plan.domain now.oldest.address) in
-    record {
-      plan = now.plan;
-      thread = now.thread;
-      oldest = now.oldest;
-      newer = now.newer;
-      planned = ap (λ p. slice_get p.threads h) (sym same) ∙ now.planned;
-      there = now.there;
-      buffer = now.buffer;
-      held = to-write (frame_at rack.blades now.plan.blade page) (sym (are now.plan.blade page) ∙ now.to_write);
-    }
+    let P : RackPlan → Type 0 = λ p. HoldsThere p.threads rack m h in
+    subst P same (record { store = now.store; held = to-write (frame_at rack.blades now.plan.blade page) (sym (are now.plan.blade page) ∙ now.to_write) })

@@ -215,7 +215,7 @@ unasked images setup old flat m goes c page held = by (frame_at old.blades c pag
   by None e w = let never : ⊥ = cc in absurd never
   by (Some frame) e w = (goes.frames c page frame e).alone w
 
-free_to_drain : (images : List Image) (setup : Setup) (old : RackView) (flat : PageView → PageImageView) (m : State) (h : ℕ) → GoesWith images setup old flat m → (held : HoldsThere old m h)
+free_to_drain : (images : List Image) (setup : Setup) (old : RackView) (flat : PageView → PageImageView) (m : State) (h : ℕ) → GoesWith images setup old flat m → (held : HoldsThere old.plan.threads old m h)
     → (blade : BladeView) (hart : HartView) → IsAtBlade old flat m h held.plan blade hart → IsFreeToDrain blade held.plan hart held.oldest held.newer
 free_to_drain images setup old flat m h goes held blade hart at =
     let page = page_at (place_of held.plan.domain held.oldest.address) in
@@ -229,14 +229,14 @@ free_to_drain images setup old flat m h goes held blade hart at =
     }
 
 drains-now : (images : List Image) (setup : Setup) (h : ℕ) (old new : RackView) (noted : List Note) (flat : PageView → PageImageView) (m : State) → GoesWith images setup old flat m
-    → HoldsThere old m h → Leads images (Drain h) old new noted → labels noted ≡ label.Drain h ∷ []
+    → HoldsThere old.plan.threads old m h → Leads images (Drain h) old new noted → labels noted ≡ label.Drain h ∷ []
 drains-now images setup h old new noted flat m goes held given =
     let d = drain_is images setup h old new noted flat m goes held.plan held.planned given in
     ap labels d.notes ∙ ap labels (drains (permission_at old.switch.protect) d.blade h held.plan d.hart held.oldest held.newer (goes.sound held.plan.blade d.blade d.at.there)
     d.at.planned d.at.own (free_to_drain images setup old flat m h goes held d.blade d.hart d.at))
 
 step-drains-now : (images : List Image) (setup : Setup) (h : ℕ) (old new : RackView) (noted : List Note) (flat : PageView → PageImageView) (m : State) → GoesWith images setup old flat m
-    → AreNeeded images old → step_label setup m.threads h ≡ Some (label.Drain h) → HoldsThere old m h → Leads images (Step h) old new noted → labels noted ≡ label.Drain h ∷ []
+    → AreNeeded images old → step_label setup m.threads h ≡ Some (label.Drain h) → HoldsThere old.plan.threads old m h → Leads images (Step h) old new noted → labels noted ≡ label.Drain h ∷ []
 step-drains-now images setup h old new noted flat m goes all step held given =
     let plan = held.plan in
     let s = step_is images setup h old new noted flat m goes plan held.planned given in

@@ -141,24 +141,6 @@ evict w c blade page h sound =
     let changes = given_up-changes page blade sound.cache in
     record { flat = w.flat; leads = changes.leads c w h; kept = λ page e. refl; sound = sound_entries w.perms blade (given_up page blade).blade sound changes.only changes.shape }
 
--- pages are changed, and the switch is answered
-acknowledges : (w : World) (c : ℕ) (blade : BladeView) (on : Option Frame → Bool) (change : PageView → BladeView → BladeEffect) (pages : List PageView) (behind : List Msg) (answer : List Msg)
-    → HasBlade c blade w → IsSoundBlade w.perms blade
-    → ChangesPages on blade pages (each_in change pages blade)
-    → ((v : World) → HasBlade c (each_in change pages blade).blade v → v.downs ≡ w.downs → LeadsTo v (took c behind v) c (each_in change pages blade).blade answer v.flat)
-    → DoesMoves w (took c behind w) c (and_then (each_in change pages blade) (λ after. record { blade = after; sent = answer; noted = [] }))
-acknowledges w c blade on change pages behind answer h sound changes answers =
-    let first = changes.leads c w h in
-    let after = (each_in change pages blade).blade in
-    let sent = (each_in change pages blade).sent in
-    record {
-      flat = w.flat;
-      kept = λ page e. refl;
-      leads = leads_taking w c behind after after sent answer w.flat w.flat first
-          (answers (with_seen_blade c after sent w.flat w) (has_blade c after sent w.flat w) refl);
-      sound = sound_entries w.perms blade after sound changes.only changes.shape;
-    }
-
 -- none of a block is held when those that were are given up
 pub block_gone : (on : Option Frame → Bool) (test : PageView × Frame → Bool) (page : PageView) (entries new : Entries)
     → ((frame : Frame) → on (Some frame) ≡ true → test (page, frame) ≡ true) → on None ≡ false
@@ -182,24 +164,43 @@ not_some : (f : Option Frame) → is_some f ≡ false → f ≡ None
 not_some None e = refl
 not_some (Some frame) e = let never : ⊥ = cc in absurd never
 
+-- The held pages that pass a test are changed, and the switch is answered: none of which all frames pass the test is as it was.
+acknowledges : (w : World) (c : ℕ) (blade : BladeView) (on : Option Frame → Bool) (change : PageView → BladeView → BladeEffect) (test : PageView × Frame → Bool) (message : Msg) (behind answer : List Msg)
+    → ((page : PageView) (blade : BladeView) → IsPageCache blade.cache → ChangesPages on blade (page ∷ []) (change page blade)) → on None ≡ false
+    → HasBlade c blade w → IsSoundBlade w.perms blade → w.downs c ≡ message ∷ behind
+    → ((v : World) → HasBlade c (each_in change (oldest_first test blade.cache.entries) blade).blade v → v.downs c ≡ message ∷ behind
+    → ((page : PageView) → ((frame : Frame) → on (Some frame) ≡ true → test (page, frame) ≡ true)
+    → on (frame_of page (each_in change (oldest_first test blade.cache.entries) blade).blade.cache.entries) ≡ false)
+    → LeadsTo v (took c behind v) c (each_in change (oldest_first test blade.cache.entries) blade).blade answer v.flat)
+    → DoesMoves w (took c behind w) c (and_then (each_in change (oldest_first test blade.cache.entries) blade) (λ after. record { blade = after; sent = answer; noted = [] }))
+acknowledges w c blade on change test message behind answer one none h sound head answers =
+    let pages = oldest_first test blade.cache.entries in
+    let changes = each on change one pages blade sound.cache in
+    let after = (each_in change pages blade).blade in
+    let sent = (each_in change pages blade).sent in
+    record {
+      flat = w.flat;
+      kept = λ page e. refl;
+      leads = leads_taking w c behind after after sent answer w.flat w.flat (changes.leads c w h)
+          (answers (with_seen_blade c after sent w.flat w) (has_blade c after sent w.flat w) head
+          (λ page passes. block_gone on test page blade.cache.entries after.cache.entries passes none (changes.gone page)));
+      sound = sound_entries w.perms blade after sound changes.only changes.shape;
+    }
+
 pub invalidate : (images : List Image) (w : World) (c : ℕ) (blade : BladeView) (number : ℕ) (range : RangeView) (asked : Option PageView) (behind : List Msg)
     → HasBlade c blade w → IsSoundBlade w.perms blade → w.downs c ≡ Inv number range asked ∷ behind
     → DoesMoves w (took c behind w) c (after_message images (Inv number range asked) blade)
 invalidate images w c blade number range asked behind h sound head =
     let pages = held_in range blade in
-    let changes = each is_some given_up given_up-changes pages blade sound.cache in
     let after = (each_in given_up pages blade).blade in
-    acknowledges w c blade is_some given_up pages behind _ h sound changes
-    (λ v has downs. answers_inv c after v number range asked (spared asked pages) behind has (ap (λ f. f c) downs ∙ head)
-    (λ page inside. not_some (frame_of page after.cache.entries) (block_gone is_some (stands_in (run_of_block range)) page blade.cache.entries after.cache.entries (λ frame o. inside) refl (changes.gone page))))
+    acknowledges w c blade is_some given_up (stands_in (run_of_block range)) (Inv number range asked) behind _ given_up-changes refl h sound head
+    (λ v has downs gone. answers_inv c after v number range asked (spared asked pages) behind has downs (λ page inside. not_some (frame_of page after.cache.entries) (gone page (λ frame o. inside))))
 
 pub lower : (images : List Image) (w : World) (c : ℕ) (blade : BladeView) (number : ℕ) (range : RangeView) (asked : PageView) (behind : List Msg)
     → HasBlade c blade w → IsSoundBlade w.perms blade → w.downs c ≡ Lower number range asked ∷ behind
     → DoesMoves w (took c behind w) c (after_message images (Lower number range asked) blade)
 lower images w c blade number range asked behind h sound head =
     let pages = writable_in range blade in
-    let changes = each is_writable lowered lowered-changes pages blade sound.cache in
     let after = (each_in lowered pages blade).blade in
-    acknowledges w c blade is_writable lowered pages behind _ h sound changes
-    (λ v has downs. answers_lower c after v number range asked (spared (Some asked) pages) behind has (ap (λ f. f c) downs ∙ head)
-    (λ page inside. block_gone is_writable (stands_writable_in (run_of_block range)) page blade.cache.entries after.cache.entries (λ frame o. and_from _ _ inside o) refl (changes.gone page)))
+    acknowledges w c blade is_writable lowered (stands_writable_in (run_of_block range)) (Lower number range asked) behind _ lowered-changes refl h sound head
+    (λ v has downs gone. answers_lower c after v number range asked (spared (Some asked) pages) behind has downs (λ page inside. gone page (λ frame o. and_from _ _ inside o)))

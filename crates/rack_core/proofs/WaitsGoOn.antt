@@ -123,14 +123,7 @@ resumes answer images perms blade page asked entries sound is out step = by aske
       ∙ ap (λ w. resumed_by w answer (need_asked asked) images asked.hart n.plan (with_hart asked.hart (awake w hart) (record mid { requests = requests_without asked.page mid.requests })) (awake w hart)) waits
       ∙ step_resumes answer images asked blade blade.cache.entries (woken_for asked hart mid) n in
       record {
-        plan = n.plan;
-        hart = hart;
-        image = n.image;
-        pc = n.pc;
-        thread = n.thread;
-        own = n.own;
-        code = n.code;
-        runs = n.runs;
+        waiting = n.waiting;
         does = does;
         label = ap (λ (e : BladeEffect). e.noted) does
             ∙ answered-notes answer asked.hart n.plan (found n.image hart.regs n.pc) n.pc (woken_for asked hart mid) (awake Step hart) (need_asked asked) n.needs n.ready;
@@ -142,7 +135,7 @@ resumes answer images perms blade page asked entries sound is out step = by aske
 
 -- ---- messages
 
-pub fill_performs : (images : List Image) (perms : PageView → Perm) (blade : BladeView) (page : PageView) (perm : Perm) (writable : Bool) (image : PageImageView) (asked : Asked) → IsSoundBlade perms blade
+fill_performs : (images : List Image) (perms : PageView → Perm) (blade : BladeView) (page : PageView) (perm : Perm) (writable : Bool) (image : PageImageView) (asked : Asked) → IsSoundBlade perms blade
     → IsNeeded images blade → request_for page blade.requests ≡ Some asked → asked.waits ≡ Step → labels (after_message images (Fill page perm writable image) blade).noted ≡ label.Exec asked.hart ∷ []
 fill_performs images perms blade page perm writable image asked sound is out step =
     let frame : Frame = record { image = image; writable = writable; dirty = false; perm = perm } in
@@ -154,7 +147,7 @@ fill_performs images perms blade page perm writable image asked sound is out ste
     ∙ ap (λ o. labels (resumed_for Filled images o mid).noted) out
     ∙ ap labels goes.label
 
-pub deny_refuses : (images : List Image) (perms : PageView → Perm) (blade : BladeView) (page : PageView) (asked : Asked) → IsSoundBlade perms blade
+deny_refuses : (images : List Image) (perms : PageView → Perm) (blade : BladeView) (page : PageView) (asked : Asked) → IsSoundBlade perms blade
     → IsNeeded images blade → request_for page blade.requests ≡ Some asked → asked.waits ≡ Step → labels (after_message images (Deny page) blade).noted ≡ label.Exec asked.hart ∷ []
 deny_refuses images perms blade page asked sound is out step =
     let goes = resumes Denied images perms blade page asked blade.cache.entries sound is out step in

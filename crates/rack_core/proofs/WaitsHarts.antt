@@ -19,7 +19,7 @@ use Rattle.compute_blade.specs.declared.kept.Asked.{Asked}
 use Rattle.compute_blade.specs.declared.kept.Waits.{Waits}
 use Rattle.compute_blade.specs.declared.kept.Waits.TheVariants.{Step, Drain}
 use Rattle.rack_core.specs.BladeMoves.{hart_in, IsStepRequest, IsRequest, IsRequestBy}
-use Rattle.rack_core.specs.Waits.{IsNeededStep, IsNeededBy, IsNeededFor, IsQueueOf, AreQueuesOf}
+use Rattle.rack_core.specs.Waits.{WaitingHart, IsNeededStep, IsNeededBy, IsNeededFor, IsQueueOf, AreQueuesOf}
 use Rattle.rack_core.proofs.BladeSound.{Harts, hart_in-set, hart_in-other}
 use Rattle.rack_core.proofs.Lookups.{Entries}
 use Rattle.rack_core.proofs.WaitsFrames.{ServesLess}
@@ -50,18 +50,16 @@ popped (Asks asked) oldest newer capacity room e = ready-popped asked oldest new
 
 -- ---- requests, where one hart and the pages change
 
+-- the hart of a request is this one, which stands at the same pc
+abbrev standing : {images : List Image} {threads : List ThreadPlan} {harts : Harts} {asked : Asked} → (others : Harts) (new : HartView) (n : WaitingHart images threads harts asked)
+    → hart_in others asked.hart ≡ Some new → new.end ≡ Running n.pc → WaitingHart images threads others asked
+standing others new n own runs = record { plan = n.plan; hart = new; image = n.image; pc = n.pc; thread = n.thread; own = own; code = n.code; runs = runs }
+
 -- a request for which a step waits, where its hart is the same
 needed-as : (images : List Image) (threads : List ThreadPlan) (harts others : Harts) (before after : Entries) (asked : Asked) → hart_in others asked.hart ≡ hart_in harts asked.hart
     → ServesLess asked.page before after → IsNeededStep images threads harts before asked → IsNeededStep images threads others after asked
 needed-as images threads harts others before after asked same less n = record {
-  plan = n.plan;
-  hart = n.hart;
-  image = n.image;
-  pc = n.pc;
-  thread = n.thread;
-  own = same ∙ n.own;
-  code = n.code;
-  runs = n.runs;
+  waiting = standing others n.hart n.waiting (same ∙ n.own) n.runs;
   needs = n.needs;
   ready = n.ready;
   unserved = less _ n.unserved;
@@ -83,14 +81,7 @@ needed-same images threads harts old new before after asked own stays less n = b
       let regs : hart.regs ≡ new.regs = ap (λ (x : HartView). x.regs) is ∙ sym stays.regs in
       let same : finds hart.regs ≡ finds new.regs = ap finds regs in
       record {
-        plan = n.plan;
-        hart = new;
-        image = n.image;
-        pc = n.pc;
-        thread = n.thread;
-        own = hart_in-set harts asked.hart old new own;
-        code = n.code;
-        runs = stays.end ∙ ap (λ (x : HartView). x.end) (sym is) ∙ runs;
+        waiting = standing (slice_set harts asked.hart (Some new)) new n.waiting (hart_in-set harts asked.hart old new own) (stays.end ∙ ap (λ (x : HartView). x.end) (sym is) ∙ runs);
         needs = ap (λ f. need_in f n.plan.domain) (sym same) ∙ needs;
         ready = stays.ready (finds new.regs) (ap (λ (x : HartView). drains_first (finds new.regs) x.queue.stores x.queue.capacity) (sym is)
             ∙ ap (λ f. drains_first f hart.queue.stores hart.queue.capacity) (sym same) ∙ ready);

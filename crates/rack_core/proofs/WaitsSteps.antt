@@ -172,14 +172,16 @@ steps_at images blade h plan image pc hart firm at is (Some need) needs = by (se
       → IsNeeded images (if b then performed h plan (found image hart.regs pc) pc blade hart else asking h Step need blade hart).blade
   by true e = performs images blade h plan (found image hart.regs pc) pc hart firm at.own at.free at.ready is
   by false e = asks images blade h Step need hart firm at.own (record {
-    plan = plan;
-    hart = waiting Step hart;
-    image = image;
-    pc = pc;
-    thread = at.planned;
-    own = hart_in-set blade.harts h hart (waiting Step hart) at.own;
-    code = at.code;
-    runs = at.runs;
+    waiting = record {
+      plan = plan;
+      hart = waiting Step hart;
+      image = image;
+      pc = pc;
+      thread = at.planned;
+      own = hart_in-set blade.harts h hart (waiting Step hart) at.own;
+      code = at.code;
+      runs = at.runs;
+    };
     needs = needs;
     ready = at.ready;
     unserved = e;

@@ -68,15 +68,20 @@ pub record ExecutesAtOnce (setup : Setup) (held : Holdings) (m : State) (h : ℕ
   pub step : step_label setup m.threads h ≡ Some (label.Exec h)
   pub at_hand : is_at_hand (held plan.blade) (next_access setup m.threads h) ≡ true
 
--- Thread h buffers stores, and its blade holds the page of the oldest one to write.
-pub record HoldsOldest (setup : Setup) (held : Holdings) (m : State) (h : ℕ) : Type 0 where
+-- Thread h buffers stores, and this is the oldest one.
+pub record OldestStore (threads : List ThreadPlan) (m : State) (h : ℕ) : Type 0 where
   pub plan : ThreadPlan
   pub thread : Thread
   pub oldest : PendingView
   pub newer : List PendingView
-  pub planned : slice_get setup.plan.threads h ≡ Some plan
+  pub planned : slice_get threads h ≡ Some plan
   pub there : slice_get m.threads h ≡ Some thread
   pub buffer : thread.buffer ≡ oldest ∷ newer
+
+-- Thread h buffers stores, and its blade holds the page of the oldest one to write.
+pub record HoldsOldest (setup : Setup) (held : Holdings) (m : State) (h : ℕ) : Type 0 where
+  pub store : OldestStore setup.plan.threads m h
+  pub open store use *
   pub to_write : held plan.blade (page_at (place_of plan.domain oldest.address)) ≡ Some true
 
 -- no label, or one of thread h

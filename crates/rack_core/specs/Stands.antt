@@ -1,7 +1,8 @@
 -- The rack stands for a state of the abstract machine: the same threads, and the newest images have the
 -- machine's bytes.
-use Rattle.std.specs.Prelude.{◌≡◌, ◌≤◌, ◌<◌, ℕ, ◌/◌, ◌%◌, ◌==◌, slice_get, slice_index, Option, Some, None, if◌then◌else◌}
+use Rattle.std.specs.Prelude.{◌≡◌, ◌≤◌, ◌<◌, ℕ, ◌/◌, ◌%◌, ◌==◌, [], slice_get, slice_index, Option, Some, None, if◌then◌else◌}
 use Rattle.mind_base.specs.Place.{index_in_page, page_with, Granule}
+use Rattle.hart_effect.specs.Deed.{reserving}
 use Rattle.hart_effect.specs.Thread.{Thread}
 use Rattle.mind_base.specs.Page.{PageView, page_of, page_offset_at}
 use Rattle.mind_base.specs.Permission.{permission_of}
@@ -9,6 +10,7 @@ use Rattle.mind_base.specs.declared.plans.ThreadPlan.{ThreadPlan}
 use Rattle.page_image.specs.PageImage.{PageImageView, IsPageImage, tag_at}
 use Rattle.protect_table.specs.Protect.{permission_at}
 use Rattle.compute_blade.specs.Blade.{HartView, BladeView, hart_of}
+use Rattle.compute_blade.specs.Frames.{thread_of}
 use Rattle.compute_blade.specs.declared.kept.Reservation.{Reservation}
 use Rattle.tso_machine.specs.Memory.{byte_of}
 use Rattle.tso_machine.specs.State.{State}
@@ -20,15 +22,9 @@ reserved_in flat None = None
 reserved_in flat (Some kept) =
     if tag_at (flat (page_with kept.granule)) (index_in_page kept.granule) == kept.tag then Some kept.granule else None
 
--- a hart of a blade as a thread of the machine
+-- a hart of a blade as a thread of the machine: as its instructions see it, but for what it keeps reserved
 abbrev pub machine_thread : (PageView → PageImageView) → HartView → Thread
-machine_thread flat hart = record {
-  regs = hart.regs;
-  end = hart.end;
-  output = hart.output;
-  buffer = hart.queue.stores;
-  reserved = reserved_in flat hart.reserved;
-}
+machine_thread flat hart = reserving (reserved_in flat hart.reserved) (thread_of [] hart)
 
 -- hart h is at its blade, as the plan says
 pub record IsHartAt (rack : RackView) (h : ℕ) (hart : HartView) : Type 0 where

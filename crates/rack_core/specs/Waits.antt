@@ -10,7 +10,7 @@ use Rattle.hart_effect.specs.Deed.{found, drains_first}
 use Rattle.page_cache.specs.PageCache.{frame_of}
 use Rattle.page_cache.specs.declared.frames.Frame.{Frame}
 use Rattle.store_queue.specs.StoreQueue.{QueueView}
-use Rattle.compute_blade.specs.Blade.{HartView, BladeView, hart_of, with_hart, requests_without}
+use Rattle.compute_blade.specs.Blade.{HartView, BladeView, with_hart, requests_without}
 use Rattle.compute_blade.specs.Messages.{answered_by, awake, need_asked, resumed}
 use Rattle.compute_blade.specs.Steps.{need_in, serves}
 use Rattle.compute_blade.specs.declared.kept.Answer.{Answer}
@@ -20,9 +20,8 @@ use Rattle.compute_blade.specs.declared.kept.Waits.TheVariants.{Step, Drain}
 use Rattle.rack_core.specs.BladeMoves.{hart_in}
 use Rattle.rack_core.specs.Rack.{RackView}
 
--- A request for which a step waits: its hart runs, the instruction there needs just what was asked for, no store must
--- drain first, and the page is not held so that it serves.
-pub record IsNeededStep (images : List Image) (threads : List ThreadPlan) (harts : List (Option HartView)) (entries : List (PageView × Frame)) (asked : Asked) : Type 0 where
+-- The hart of a request runs: its plan, its image, and the pc at which it stands.
+pub record WaitingHart (images : List Image) (threads : List ThreadPlan) (harts : List (Option HartView)) (asked : Asked) : Type 0 where
   pub plan : ThreadPlan
   pub hart : HartView
   pub image : Image
@@ -31,6 +30,12 @@ pub record IsNeededStep (images : List Image) (threads : List ThreadPlan) (harts
   pub own : hart_in harts asked.hart ≡ Some hart
   pub code : slice_get images plan.image ≡ Some image
   pub runs : hart.end ≡ Running pc
+
+-- A request for which a step waits: its hart runs, the instruction there needs just what was asked for, no store must
+-- drain first, and the page is not held so that it serves.
+pub record IsNeededStep (images : List Image) (threads : List ThreadPlan) (harts : List (Option HartView)) (entries : List (PageView × Frame)) (asked : Asked) : Type 0 where
+  pub waiting : WaitingHart images threads harts asked
+  pub open waiting use *
   pub needs : need_in (found image hart.regs pc) plan.domain ≡ Some (need_asked asked)
   pub ready : drains_first (found image hart.regs pc) hart.queue.stores hart.queue.capacity ≡ false
   pub unserved : serves (found image hart.regs pc) (frame_of asked.page entries) ≡ false
@@ -67,13 +72,7 @@ woken_for asked hart blade = with_hart asked.hart (awake Step hart) (record blad
 
 -- The request ends, and its step is performed where the page came, or refused where it was denied.
 pub record IsResumed (answer : Answer) (images : List Image) (asked : Asked) (blade : BladeView) : Type 0 where
-  pub plan : ThreadPlan
-  pub hart : HartView
-  pub image : Image
-  pub pc : ℕ
-  pub thread : slice_get blade.plan.threads asked.hart ≡ Some plan
-  pub own : hart_of blade asked.hart ≡ Some hart
-  pub code : slice_get images plan.image ≡ Some image
-  pub runs : hart.end ≡ Running pc
+  pub waiting : WaitingHart images blade.plan.threads blade.harts asked
+  pub open waiting use *
   pub does : resumed answer images asked blade ≡ answered_by answer asked.hart plan (found image hart.regs pc) pc (woken_for asked hart blade) (awake Step hart)
   pub label : (resumed answer images asked blade).noted ≡ note.Exec asked.hart ∷ []
