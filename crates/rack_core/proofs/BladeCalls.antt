@@ -14,7 +14,7 @@ use Rattle.page_cache.specs.declared.frames.Frame.{Frame}
 use Rattle.page_cache.proofs.Laws.{same_page-true}
 use Rattle.wire_msg.specs.declared.msgs.Msg.{Msg}
 use Rattle.wire_msg.specs.declared.msgs.Msg.TheVariants.{Inv, Lower}
-use Rattle.compute_blade.specs.Blade.{BladeView, BladeEffect, with_frames, and_then}
+use Rattle.compute_blade.specs.Blade.{BladeView, BladeEffect, with_frames, and_then, only}
 use Rattle.compute_blade.specs.Messages.{after_message}
 use Rattle.compute_blade.specs.Pages.{given_up, giving_up, lowered, lowering, each_in, held_in, writable_in, run_of_block, spared}
 use Rattle.coherence.specs.Moves.{took}
@@ -76,27 +76,29 @@ absent on page entries off none q = by (same_page q page) refl where
   by true e = ap (λ p. on (frame_of p entries)) (same_page-true q page e) ∙ ap on none ∙ off
   by false e = refl
 
+-- where the page is not held nothing changes
+changes_at : (on : Option Frame → Bool) (page : PageView) (blade : BladeView) (change : Option Frame → BladeEffect) → on None ≡ false → change None ≡ only blade → IsPageCache blade.cache
+    → ((frame : Frame) → frame_of page blade.cache.entries ≡ Some frame → ChangesPages on blade (page ∷ []) (change (Some frame))) → ChangesPages on blade (page ∷ []) (change (frame_of page blade.cache.entries))
+changes_at on page blade change off idle is held = by (frame_of page blade.cache.entries) refl where
+  by : (f : Option Frame) → frame_of page blade.cache.entries ≡ f → ChangesPages on blade (page ∷ []) (change f)
+  by None e = subst (ChangesPages on blade (page ∷ [])) (sym idle) (record { only = refl; shape = is; gone = absent on page blade.cache.entries off e; leads = λ c w h. stays c blade w h })
+  by (Some frame) e = held frame e
+
 pub given_up-changes : (page : PageView) (blade : BladeView) → IsPageCache blade.cache → ChangesPages is_some blade (page ∷ []) (given_up page blade)
-given_up-changes page blade is = by (frame_of page blade.cache.entries) refl where
-  by : (f : Option Frame) → frame_of page blade.cache.entries ≡ f → ChangesPages is_some blade (page ∷ []) (giving_up page f blade)
-  by None e = record { only = refl; shape = is; gone = absent is_some page blade.cache.entries refl e; leads = λ c w h. stays c blade w h }
-  by (Some frame) e = record {
-    only = refl;
-    shape = cache-without page blade.cache is;
-    gone = here_or_away is_some page None blade.cache.entries (without_page page blade.cache.entries) refl (found-without page blade.cache.entries is.distinct);
-    leads = λ c w h. gives c blade w page frame h is e;
-  }
+given_up-changes page blade is = changes_at is_some page blade (λ f. giving_up page f blade) refl refl is (λ frame e. record {
+  only = refl;
+  shape = cache-without page blade.cache is;
+  gone = here_or_away is_some page None blade.cache.entries (without_page page blade.cache.entries) refl (found-without page blade.cache.entries is.distinct);
+  leads = λ c w h. gives c blade w page frame h is e;
+})
 
 pub lowered-changes : (page : PageView) (blade : BladeView) → IsPageCache blade.cache → ChangesPages is_writable blade (page ∷ []) (lowered page blade)
-lowered-changes page blade is = by (frame_of page blade.cache.entries) refl where
-  by : (f : Option Frame) → frame_of page blade.cache.entries ≡ f → ChangesPages is_writable blade (page ∷ []) (lowering page f blade)
-  by None e = record { only = refl; shape = is; gone = absent is_writable page blade.cache.entries refl e; leads = λ c w h. stays c blade w h }
-  by (Some frame) e = record {
-    only = refl;
-    shape = cache-with_change lowered_frame page blade.cache is;
-    gone = here_or_away is_writable page (Some (lowered_frame frame)) blade.cache.entries (with_change lowered_frame page blade.cache.entries) refl (found-with_change lowered_frame page frame blade.cache.entries e);
-    leads = λ c w h. lowers c blade w page frame h e;
-  }
+lowered-changes page blade is = changes_at is_writable page blade (λ f. lowering page f blade) refl refl is (λ frame e. record {
+  only = refl;
+  shape = cache-with_change lowered_frame page blade.cache is;
+  gone = here_or_away is_writable page (Some (lowered_frame frame)) blade.cache.entries (with_change lowered_frame page blade.cache.entries) refl (found-with_change lowered_frame page frame blade.cache.entries e);
+  leads = λ c w h. lowers c blade w page frame h e;
+})
 
 -- ---- the pages of a block
 
@@ -164,7 +166,7 @@ not_some : (f : Option Frame) → is_some f ≡ false → f ≡ None
 not_some None e = refl
 not_some (Some frame) e = let never : ⊥ = cc in absurd never
 
--- The held pages that pass a test are changed, and the switch is answered: none of which all frames pass the test is as it was.
+-- The pages whose frames pass a test are changed, and the switch is answered: a page all of whose frames would pass it is then held in none.
 acknowledges : (w : World) (c : ℕ) (blade : BladeView) (on : Option Frame → Bool) (change : PageView → BladeView → BladeEffect) (test : PageView × Frame → Bool) (message : Msg) (behind answer : List Msg)
     → ((page : PageView) (blade : BladeView) → IsPageCache blade.cache → ChangesPages on blade (page ∷ []) (change page blade)) → on None ≡ false
     → HasBlade c blade w → IsSoundBlade w.perms blade → w.downs c ≡ message ∷ behind

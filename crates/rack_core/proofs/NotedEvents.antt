@@ -243,15 +243,7 @@ places_of images Settle old new noted fits safe own given = absurd given
 
 -- what may stand in any event may stand in a settling, but that a command was decided
 pub in-settling : (plan : RackPlan) (event : Event) (n : Note) → StandsIn plan event n → StandsIn plan Settle n
-in-settling plan event (note.Exec h) is = tt
-in-settling plan event (note.Drain h) is = tt
-in-settling plan event (note.Take c page writable) is = tt
-in-settling plan event (note.Give c page) is = tt
-in-settling plan event (note.Down c page) is = tt
-in-settling plan event (note.Region range state) is = tt
-in-settling plan event (note.Gone range) is = tt
-in-settling plan event (note.Merge range) is = tt
-in-settling plan event (note.Split range) is = tt
 in-settling plan event (note.Event index) is = absurd is
 in-settling plan event (note.Command index) is = absurd is
 in-settling plan event (note.Moved index outcome) is = absurd is
+in-settling plan event n is = tt

@@ -64,9 +64,9 @@ pub happens_in_log : (images : List Image) (plan : RackPlan) (events : List Even
 happens_in_log images plan events first last log fit start fits ran counted before after event is =
     let whole = between images plan before (event ∷ after) first last log fit start (subst (λ es. AllByRecursion (IsRunFor plan) es) is fits) (subst (λ es. Ran images 0 es first last log) is ran) counted in
     let mid = whole.mid in
-    let next = whole.behind.0 in
-    let added = whole.behind.1 in
-    let later = whole.behind.2 in
+    let next = whole.onward.0 in
+    let added = whole.onward.1 in
+    let later = whole.onward.2 in
     let stands = whole.stands in
     let index = length before in
     let Prompt : RackPlan → Type 0 = λ p. IsPrompt (made_from images p) (held_by whole.one) stands.state event added in
@@ -75,9 +75,9 @@ happens_in_log images plan events first last log fit start fits ran counted befo
       before = whole.one;
       noted = added;
       after = later;
-      split = whole.split ∙ ap (λ ns. whole.one ++ ns) whole.behind.6;
-      next = next-of (suc index) (index + 1) later (goes-on images (suc index) after next last later whole.behind.5) (let same : suc index ≡ index + 1 = omega arith in same);
+      split = whole.split ∙ ap (λ ns. whole.one ++ ns) whole.onward.6;
+      next = next-of (suc index) (index + 1) later (goes-on images (suc index) after next last later whole.onward.5) (let same : suc index ≡ index + 1 = omega arith in same);
       state = stands.state;
       run = subst Run whole.same stands.run;
-      prompt = subst Prompt whole.same (prompt-event images mid next added stands.at.flat stands.state (held_by whole.one) stands.at.goes whole.needed (stands.told.matches stands.at.flat).frames event whole.behind.3);
+      prompt = subst Prompt whole.same (prompt-event images mid next added stands.at.flat stands.state (held_by whole.one) stands.at.goes whole.needed (stands.told.matches stands.at.flat).frames event whole.onward.3);
     }

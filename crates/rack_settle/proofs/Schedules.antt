@@ -91,10 +91,10 @@ event-reaches images plan event old new noted fit same fits (inr leads) = record
 
 -- ---- what is true of the rack behind each event
 
-record IsAhead (images : List Image) (plan : RackPlan) (rack : RackView) (log : List Note) : Type 0 where
-  same : rack.plan ≡ plan
-  stands : StandsForLog images rack log
-  needed : AreNeeded images rack
+pub record IsAhead (images : List Image) (plan : RackPlan) (rack : RackView) (log : List Note) : Type 0 where
+  pub same : rack.plan ≡ plan
+  pub stands : StandsForLog images rack log
+  pub needed : AreNeeded images rack
 
 starts-ahead : (images : List Image) (plan : RackPlan) (first : RackView) → IsFit plan → IsStart plan first → IsAhead images plan first []
 starts-ahead images plan first fit start =
@@ -138,13 +138,13 @@ ran-ahead images plan from (event ∷ events) first last log notes fit fits ahea
 -- ---- parts of a run
 
 -- it goes through the first events, and then through the others
-record RanInParts (images : List Image) (from : ℕ) (xs ys : List Event) (first last : RackView) (notes : List Note) : Type 0 where
-  mid : RackView
-  one : List Note
-  two : List Note
-  before : Ran images from xs first mid one
-  behind : Ran images (from + length xs) ys mid last two
-  split : notes ≡ one ++ two
+pub record RanInParts (images : List Image) (from : ℕ) (xs ys : List Event) (first last : RackView) (notes : List Note) : Type 0 where
+  pub mid : RackView
+  pub one : List Note
+  pub two : List Note
+  pub before : Ran images from xs first mid one
+  pub behind : Ran images (from + length xs) ys mid last two
+  pub split : notes ≡ one ++ two
 
 ran-parts : (images : List Image) (from : ℕ) (xs ys : List Event) (first last : RackView) (notes : List Note) → Ran images from (xs ++ ys) first last notes → RanInParts images from xs ys first last notes
 ran-parts images from [] ys first last notes ran = record {
@@ -228,15 +228,11 @@ goes-on images from (event ∷ events) first last notes ran = inr (ap (λ ns. sl
 
 -- the rack behind the first events of a schedule, and the rest of its run
 pub record IsBetween (images : List Image) (plan : RackPlan) (xs ys : List Event) (first last : RackView) (log : List Note) : Type 0 where
-  pub mid : RackView
-  pub one : List Note
-  pub two : List Note
-  pub split : log ≡ one ++ two
-  pub before : Ran images 0 xs first mid one
-  pub behind : Ran images (length xs) ys mid last two
-  pub same : mid.plan ≡ plan
-  pub stands : StandsForLog images mid one
-  pub needed : AreNeeded images mid
+  pub parts : RanInParts images 0 xs ys first last log
+  pub open parts use *
+  pub onward : Ran images (length xs) ys mid last two
+  pub ahead : IsAhead images plan mid one
+  pub open ahead use *
 
 ran-safe : (images : List Image) (plan : RackPlan) (from : ℕ) (es : List Event) (one two : RackView) (notes : List Note) → IsFit plan → AllByRecursion (IsRunFor plan) es → one.plan ≡ plan → IsSafe one
     → Ran images from es one two notes → IsSafe two
@@ -251,25 +247,15 @@ pub between : (images : List Image) (plan : RackPlan) (xs ys : List Event) (firs
 between images plan xs ys first last log fit start its ran counted =
     let whole = ran-parts images 0 xs ys first last log ran in
     let mid = whole.mid in
-    let behind : Ran images (length xs) ys mid last whole.two = subst (λ n. Ran images n ys mid last whole.two) (let same : 0 + length xs ≡ length xs = omega arith in same) whole.behind in
+    let onward : Ran images (length xs) ys mid last whole.two = subst (λ n. Ran images n ys mid last whole.two) (let same : 0 + length xs ≡ length xs = omega arith in same) whole.behind in
     let start_ahead = starts-ahead images plan first fit start in
     let first_safe = safe-log images first [] start_ahead.stands in
     let fits_xs = (all_front (IsRunFor plan) xs ys its).0 in
     let stay = ran-stays images plan 0 xs first mid whole.one fit fits_xs start.of_plan first_safe whole.before in
     let safe = ran-safe images plan 0 xs first mid whole.one fit fits_xs start.of_plan first_safe whole.before in
-    let onward = ran-stays images plan (length xs) ys mid last whole.two fit (all_front (IsRunFor plan) xs ys its).1 (stay.plan ∙ start.of_plan) safe behind in
-    let ahead = ran-ahead images plan 0 xs first mid [] whole.one fit fits_xs start_ahead whole.before (counted-before mid last onward counted) in
-    record {
-      mid = mid;
-      one = whole.one;
-      two = whole.two;
-      split = whole.split;
-      before = whole.before;
-      behind = behind;
-      same = ahead.same;
-      stands = ahead.stands;
-      needed = ahead.needed;
-    }
+    let stays = ran-stays images plan (length xs) ys mid last whole.two fit (all_front (IsRunFor plan) xs ys its).1 (stay.plan ∙ start.of_plan) safe onward in
+    let ahead = ran-ahead images plan 0 xs first mid [] whole.one fit fits_xs start_ahead whole.before (counted-before mid last stays counted) in
+    record { parts = whole; onward = onward; ahead = ahead }
 
 stretch_labels : (images : List Image) (plan : RackPlan) (events : List Event) (first last : RackView) (log : List Note) → IsFit plan → IsStart plan first → AllByRecursion (IsRunFor plan) events
     → Ran images 0 events first last log → AreCounted last → (before stretch after : List Event) → IsStretch plan events before stretch after
@@ -280,7 +266,7 @@ stretch_labels images plan events first last log fit start fits ran counted befo
     let its : AllByRecursion (IsRunFor plan) (before ++ rest) = subst (λ es. AllByRecursion (IsRunFor plan) es) is.split fits in
     let whole = between images plan before rest first last log fit start its (subst (λ es. Ran images 0 es first last log) is.split ran) counted in
     let mid = whole.mid in
-    let behind = ran-parts images (length before) stretch (Settle ∷ after) mid last whole.two whole.behind in
+    let behind = ran-parts images (length before) stretch (Settle ∷ after) mid last whole.two whole.onward in
     let end = behind.behind in
     let mid_safe = safe-log images mid whole.one whole.stands in
     let fits_rest = (all_front (IsRunFor plan) before rest its).1 in

@@ -224,17 +224,8 @@ drops i entry switch = plain (sum (map request_weight switch.requests)) _ _ (sum
   plain rs new old le = omega arith
 
 serving-adds : IsKept switch_weight (λ most effect. effect_weight effect ≤ most)
-serving-adds = record {
-  nothing = nothing;
-  follows = follows;
-  denies = denies;
-  grants = grants;
-  invalidates = invalidates;
-  lowers = lowers;
-  enters = enters;
-  drops = drops;
-  clears = clears;
-}
+serving-adds =
+    record { nothing = nothing; follows = follows; denies = denies; grants = grants; invalidates = invalidates; lowers = lowers; enters = enters; drops = drops; clears = clears }
 
 -- ---- a message is handled
 
