@@ -12,7 +12,7 @@ use Rattle.mind_base.specs.declared.images.Image.{Image}
 use Rattle.mind_base.specs.declared.plans.ImagePlan.{ImagePlan}
 use Rattle.mind_base.specs.declared.plans.RackPlan.{RackPlan}
 use Rattle.rack_gen.specs.Generator.{generated}
-use Rattle.mind_inputs.specs.Inputs.{Seen, Absent, Long, Bytes, Ending, Missing, Refused, Judged, ImagesSeen, seen_of, SeesFile, SeesImages, JudgesOne, JudgesImages, JudgesParts, JudgesWith, Judges, JudgesMade, rack_seen_judged, image_seen_judged, schedule_judged, judged_then, images_judged, parts_judged, events_then, made_judged, judge_with, judge, judge_made, is_built, IsBuilt}
+use Rattle.mind_inputs.specs.Inputs.{Seen, Absent, Long, Bytes, Ending, Missing, Refused, Accepted, Judged, ImagesSeen, seen_of, SeesFile, SeesImages, JudgesOne, JudgesImages, JudgesParts, JudgesWith, Judges, JudgesMade, rack_seen_judged, image_seen_judged, schedule_judged, judged_then, images_judged, parts_judged, events_then, made_judged, judge_with, judge, judge_made, is_built, IsBuilt}
 use Rattle.mind_inputs.specs.Judged.{GivesEnding}
 use Rattle.mind_inputs.specs.Loading.{MissTold, StopsBy, Brings}
 use Rattle.mind_inputs.specs.Words.{Paths}
@@ -320,13 +320,16 @@ schedule-stops h h1 p parts f f1 f2 m m1 m2 why same a b read stops =
     stops-at h h1 (λ o ending. JudgesOne o p.schedule 4194304 (schedule_judged parts.0) (Err ending)) (λ ending. Judges h p (Err ending)) f f1 f2 m m1 m2 why same a b
     (λ ending one. schedule-ends h h p parts (Err ending) refl read one) stops
 
-pub all-loaded : (h h1 : Option Files) (p : Paths) (parts : RackPlan × List Image) (events : List Event) → h1 ≡ h → JudgesParts h p.rack (Ok parts)
-    → JudgesOne h1 p.schedule 4194304 (schedule_judged parts.0) (Ok events) → Judges h p (Ok (record { plan = parts.0; images = parts.1; events = events }))
-all-loaded h h1 p parts events same read one = schedule-ends h h1 p parts (Ok events) same read one
+pub all-loaded : (h h1 : Option Files) (p : Paths) (parts : RackPlan × List Image) (events : List Event) (loaded : Accepted) → h1 ≡ h → JudgesParts h p.rack (Ok parts)
+    → JudgesOne h1 p.schedule 4194304 (schedule_judged parts.0) (Ok events) → loaded ≡ record { plan = parts.0; images = parts.1; events = events } → Judges h p (Ok loaded)
+all-loaded h h1 p parts events loaded same read one is =
+    let P : Accepted → Type 0 = λ x. Judges h p (Ok x) in subst P (sym is) (schedule-ends h h1 p parts (Ok events) same read one)
 
-pub all-made : (h : Option Files) (rack : List ℕ) (count seed : ℕ) (parts : RackPlan × List Image) (events : List Event) → JudgesParts h rack (Ok parts) → events ≡ generated parts.0 count seed
-    → JudgesMade h rack count seed (Ok (record { plan = parts.0; images = parts.1; events = events }))
-all-made h rack count seed parts events read is = events-end h rack (made_judged count seed) parts (Ok events) read (ap (λ es. Ok es) (sym is))
+pub all-made : (h : Option Files) (rack : List ℕ) (count seed : ℕ) (parts : RackPlan × List Image) (events : List Event) (loaded : Accepted) → JudgesParts h rack (Ok parts)
+    → events ≡ generated parts.0 count seed → loaded ≡ record { plan = parts.0; images = parts.1; events = events } → JudgesMade h rack count seed (Ok loaded)
+all-made h rack count seed parts events loaded read made is =
+    let P : Accepted → Type 0 = λ x. JudgesMade h rack count seed (Ok x) in
+    subst P (sym is) (events-end h rack (made_judged count seed) parts (Ok events) read (ap (λ es. Ok es) (sym made)))
 
 pub none-left : (plans : List ImagePlan) → length plans < 1 → plans ≡ []
 none-left [] few = refl

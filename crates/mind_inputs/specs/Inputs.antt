@@ -1,7 +1,8 @@
 -- The inputs of a run, read and judged one after another: the first that is not held or is refused ends the call.
-use Rattle.std.specs.Prelude.{◌≡◌, ℕ, zero, suc, Bool, true, false, nat_lt, List, [], ◌∷◌, ◌++◌, length, Option, Some, None, Result, Ok, Err, if◌then◌else◌}
-use Rattle.std.specs.List.{list_all}
+use Rattle.std.specs.Prelude.{◌≡◌, ◌≤◌, ℕ, zero, suc, Bool, true, false, nat_lt, List, [], ◌∷◌, ◌++◌, length, Option, Some, None, Result, Ok, Err, if◌then◌else◌}
+use Rattle.std.specs.List.{AllByRecursion, list_all}
 use Rattle.std.specs.FinMap as finite
+use Rattle.mind_base.specs.Fit.{IsFit, FitImages}
 use Rattle.mind_base.specs.Store.{Files}
 use Rattle.mind_base.specs.declared.events.Event.{Event}
 use Rattle.mind_base.specs.declared.events.Event.TheVariants as events
@@ -13,6 +14,7 @@ use Rattle.rack_file.specs.Images as image_file
 use Rattle.rack_file.specs.declared.refusals.RackFault.{RackFault}
 use Rattle.rack_file.specs.declared.images.ImageFault.{ImageFault}
 use Rattle.rack_file.specs.declared.images.ImageFault.TheVariants.{Length, End}
+use Rattle.schedule_text.specs.Event.{IsEventOf}
 use Rattle.schedule_text.specs.Refusal as lines
 use Rattle.schedule_text.specs.Schedule.{schedule_in}
 use Rattle.rack_gen.specs.Generator.{generated}
@@ -78,6 +80,15 @@ is_built events.Settle = true
 
 abbrev pub IsBuilt : Event → Type 0
 IsBuilt event = is_built event ≡ true
+
+-- what a rack can run: it is fit, the images are those of its plans, and the events are its own, not too many, and of kinds
+-- that are built
+pub record IsRunnable (inputs : Accepted) : Type 0 where
+  pub fit : IsFit inputs.plan
+  pub images : FitImages inputs.plan.images inputs.images
+  pub few : length inputs.events ≤ 1000000
+  pub built : AllByRecursion IsBuilt inputs.events
+  pub numbers : AllByRecursion (IsEventOf inputs.plan) inputs.events
 
 abbrev pub schedule_answer : Result (List Event) lines.Refusal → Result (List Event) Ending
 schedule_answer (Ok events) = if list_all is_built events then Ok events else Err (Refused ScheduleEarly)

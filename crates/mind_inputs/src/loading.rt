@@ -6,7 +6,7 @@ ghost use Rattle.mind_base.specs.Fit.{IsFit, FitsImage, FitImages};
 ghost use Rattle.schedule_text.specs.Event.{IsEventOf};
 ghost use Rattle.rack_gen.specs.Generator.{generated};
 ghost use Rattle.mind_inputs.specs.declared.stopped.Stopped.TheVariants.{NoMemory as no_memory};
-ghost use Rattle.mind_inputs.specs.Inputs.{Judges, JudgesMade, JudgesOne, JudgesImages, JudgesParts, Bytes, rack_seen_judged, image_seen_judged, schedule_judged, is_built, IsBuilt};
+ghost use Rattle.mind_inputs.specs.Inputs.{Judges, JudgesMade, JudgesOne, JudgesImages, JudgesParts, Bytes, rack_seen_judged, image_seen_judged, schedule_judged, is_built, IsBuilt, IsRunnable};
 ghost use Rattle.mind_inputs.specs.Judged.{GivesEnding};
 ghost use Rattle.mind_inputs.specs.Loading.{Brings, stopped_of};
 
@@ -232,6 +232,17 @@ fn read_schedule<S: Store>(
     }
 }
 
+/// The inputs of a rack with its images, and of events.
+fn loaded_of(parts: (RackPlan, Sequence<Image>), events: Sequence<Event>) -> Loaded
+    ensures { result ≡ record { plan = parts.0; images = parts.1; events = events } }
+{
+    Loaded {
+        plan: parts.0,
+        images: parts.1,
+        events,
+    }
+}
+
 /// Reads and judges the rack of this name, then its images in their order, then the schedule. The
 /// first that is not held or is refused decides, and nothing is read behind it.
 pub fn load<S: Store>(
@@ -250,25 +261,11 @@ pub fn load<S: Store>(
         (S.faults store.old) (S.faults store.new) (S.missed store.old) (S.missed store.new) result }
 
     // What is accepted: a fit rack, its images, and events of that rack, of kinds that are built.
-    ensures fit { IfOk result (λ loaded. IsFit loaded.plan) }
-    ensures images { IfOk result (λ loaded. FitImages loaded.plan.images loaded.images) }
-    ensures few { IfOk result (λ loaded. length loaded.events ≤ 1000000) }
-    ensures built { IfOk result (λ loaded. AllByRecursion IsBuilt loaded.events) }
-    ensures numbers { IfOk result (λ loaded. AllByRecursion (IsEventOf loaded.plan) loaded.events) }
+    ensures runnable { IfOk result (λ loaded. IsRunnable loaded) }
 {
-    let (plan, images) = match load_parts(alloc, store, rack) {
-        Ok(parts) => parts,
-        Err(stopped) => return Err(stopped),
-    };
-    let events = match read_schedule(alloc, store, schedule, &plan) {
-        Ok(events) => events,
-        Err(stopped) => return Err(stopped),
-    };
-    Ok(Loaded {
-        plan,
-        images,
-        events,
-    })
+    let parts = load_parts(alloc, store, rack)?;
+    let events = read_schedule(alloc, store, schedule, &parts.0)?;
+    Ok(loaded_of(parts, events))
 }
 
 /// The generator's events for a rack, `count` drawn and a last settling.
@@ -314,23 +311,9 @@ pub fn load_made<S: Store>(
         (S.faults store.old) (S.faults store.new) (S.missed store.old) (S.missed store.new) result }
 
     // What is accepted: a fit rack, its images, and events of that rack, of kinds that are built.
-    ensures fit { IfOk result (λ loaded. IsFit loaded.plan) }
-    ensures images { IfOk result (λ loaded. FitImages loaded.plan.images loaded.images) }
-    ensures few { IfOk result (λ loaded. length loaded.events ≤ 1000000) }
-    ensures built { IfOk result (λ loaded. AllByRecursion IsBuilt loaded.events) }
-    ensures numbers { IfOk result (λ loaded. AllByRecursion (IsEventOf loaded.plan) loaded.events) }
+    ensures runnable { IfOk result (λ loaded. IsRunnable loaded) }
 {
-    let (plan, images) = match load_parts(alloc, store, rack) {
-        Ok(parts) => parts,
-        Err(stopped) => return Err(stopped),
-    };
-    let events = match events_made(alloc, &plan, count, seed) {
-        Ok(events) => events,
-        Err(stopped) => return Err(stopped),
-    };
-    Ok(Loaded {
-        plan,
-        images,
-        events,
-    })
+    let parts = load_parts(alloc, store, rack)?;
+    let events = events_made(alloc, &parts.0, count, seed)?;
+    Ok(loaded_of(parts, events))
 }

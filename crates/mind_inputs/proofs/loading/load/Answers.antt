@@ -1,20 +1,23 @@
+use Rattle.std.proofs.lemmas.Result.{err_from_is_err_and}
 use Rattle.mind_inputs.specs.Words.{Paths}
 use Rattle.mind_inputs.proofs.Chains.{parts-stop, schedule-stops, all-loaded}
 use Rattle.mind_inputs.proofs.loading.load.Goals as goal
 
-pub returns-in-Err-clause-loads : goal.returns-in-Err-clause-loads
-returns-in-Err-clause-loads g c =
+pub returns-in_err-parts-clause-loads : goal.returns-in_err-parts-clause-loads
+returns-in_err-parts-clause-loads g c =
     let p : Paths = record { rack = c.args.rack.now; schedule = c.args.schedule.now } in
-    parts-stop (g.S.Store.holds c.args.store.now) p _ _ _ _ c.in-Err.stopped c.in-Err.ensures.brings
+    let from = err_from_is_err_and c.from_residual.result c.from_residual.ensures.1 in
+    rw (from.1, from.2) (parts-stop (g.S.Store.holds c.args.store.now) p _ _ _ _ c.in_err-parts.field-0.0 c.in_err-parts.ensures.brings)
 
-pub returns-in-Err-read_schedule-clause-loads : goal.returns-in-Err-read_schedule-clause-loads
-returns-in-Err-read_schedule-clause-loads g c =
+pub returns-in_err-events-clause-loads : goal.returns-in_err-events-clause-loads
+returns-in_err-events-clause-loads g c =
     let p : Paths = record { rack = c.args.rack.now; schedule = c.args.schedule.now } in
-    schedule-stops (g.S.Store.holds c.args.store.now) (g.S.Store.holds c.load_parts.new.store) p c.in-Ok.parts _ _ _ _ _ _ c.in-Err-read_schedule.stopped
-    c.in-Ok.ensures.keeps c.in-Ok.ensures.faults c.in-Ok.ensures.missed c.in-Ok.ensures.brings c.in-Err-read_schedule.ensures.brings
+    let from = err_from_is_err_and c.from_residual-in_err-events.result c.from_residual-in_err-events.ensures.1 in
+    rw (from.1, from.2) (schedule-stops (g.S.Store.holds c.args.store.now) (g.S.Store.holds c.load_parts.new.store) p c.in_ok-parts.parts _ _ _ _ _ _ c.in_err-events.field-0.0
+    c.in_ok-parts.ensures.keeps c.in_ok-parts.ensures.faults c.in_ok-parts.ensures.missed c.in_ok-parts.ensures.brings c.in_err-events.ensures.brings)
 
 pub returns-clause-loads : goal.returns-clause-loads
 returns-clause-loads g c =
     let p : Paths = record { rack = c.args.rack.now; schedule = c.args.schedule.now } in
-    all-loaded (g.S.Store.holds c.args.store.now) (g.S.Store.holds c.load_parts.new.store) p c.in-Ok.parts c.in-Ok-read_schedule.events
-    c.in-Ok.ensures.keeps c.in-Ok.ensures.brings c.in-Ok-read_schedule.ensures.brings
+    all-loaded (g.S.Store.holds c.args.store.now) (g.S.Store.holds c.load_parts.new.store) p c.in_ok-parts.parts c.in_ok-events.events c.loaded_of.result
+    c.in_ok-parts.ensures.keeps c.in_ok-parts.ensures.brings c.in_ok-events.ensures.brings c.loaded_of.ensures
