@@ -6,6 +6,3 @@ mod frames;
 
 pub use caches::PageCache;
 pub use frames::{Frame, Put};
-
-#[cfg(test)]
-mod tests;

@@ -2,8 +2,8 @@
 
 ghost use Rattle.std.specs.Prelude.{◌<◌};
 
-use super::*;
 use mind_base::{Page, Perm, Span};
+use page_cache::{Frame, PageCache, Put};
 use page_image::PageImage;
 use std::alloc::Global;
 use std::test::Fail;
