@@ -8,14 +8,14 @@ use Rattle.std.specs.Option.{option_map}
 use Rattle.mind_base.specs.Pending.{PendingView}
 use Rattle.hart_effect.specs.Thread.{Thread}
 use Rattle.tso_machine.specs.State.{Setup, State}
-use Rattle.tso_machine.specs.Laws.{RunsTo, IsStep, ExecutedBy}
+use Rattle.tso_machine.specs.Laws.{RunsTo, IsStep, GivenBy, ExecutedBy}
 use Rattle.tso_machine.specs.Orders.{StoreEvent, store_event, executes, program_order, memory_order, store_if, stores_of, effects_of}
 use Rattle.tso_machine.specs.declared.labels.Label.{Label}
 use Rattle.tso_machine.specs.declared.labels.Label.TheVariants as label
 use Rattle.tso_machine.proofs.LawsCommands.{buffer_at}
 use Rattle.tso_machine.proofs.LawsDeeds.{mapped-some, stepped-exec}
 use Rattle.tso_machine.proofs.LawsLists.{contains-filter_map}
-use Rattle.tso_machine.proofs.LawsRuns.{step-after, GivenBy, given-along}
+use Rattle.tso_machine.proofs.LawsRuns.{step-after, given-along}
 use Rattle.tso_machine.proofs.LawsOrder.{run-keeps}
 
 -- the label that executed a store of a thread is an execution of that thread

@@ -4,7 +4,7 @@ use Rattle.std.specs.List.{cons_option, Contains}
 use Rattle.tso_machine.specs.State.{Setup, State}
 use Rattle.tso_machine.specs.Step.{after}
 use Rattle.tso_machine.specs.Replay.{Whole, Stuck, advanced, advance_all}
-use Rattle.tso_machine.specs.Laws.{RunsTo, IsStep}
+use Rattle.tso_machine.specs.Laws.{RunsTo, IsStep, GivenBy}
 use Rattle.tso_machine.specs.Orders.{along}
 use Rattle.tso_machine.specs.declared.labels.Label.{Label}
 use Rattle.tso_machine.proofs.LawsLists.{contains-nil, contains-cons}
@@ -66,14 +66,6 @@ later-step u s m first ls before l next e step = record {
   reached = runs-cons u s m before first step.front e step.reached;
   taken = runs-cons u s m next first (step.front ++ l ∷ []) e step.taken;
 }
-
--- a step of the run gave it
-pub record GivenBy {X : Type 0} (give : State → Label → Option X) (u : Setup) (s : State) (ls : List Label) (x : X) : Type 0 where
-  pub before : State
-  pub label : Label
-  pub next : State
-  pub step : IsStep u s ls before label next
-  pub given : give before label ≡ Some x
 
 -- what a run gave along its way some step of it gave
 pub given-along : {X : Type 0} (give : State → Label → Option X) (u : Setup) (s t : State) (ls : List Label) → RunsTo u s ls t

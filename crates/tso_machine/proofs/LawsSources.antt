@@ -8,7 +8,7 @@ use Rattle.mind_base.specs.Pending.{PendingView}
 use Rattle.mind_base.specs.Span.{SpanView}
 use Rattle.hart_effect.specs.Thread.{Thread}
 use Rattle.tso_machine.specs.State.{Setup, State, Write, Zeros}
-use Rattle.tso_machine.specs.Laws.{RunsTo, IsStep, ExecutedBy, ZeroedBy, WroteBy, ByStore, ByMap, BytesComeFromStores}
+use Rattle.tso_machine.specs.Laws.{RunsTo, IsStep, GivenBy, ExecutedBy, ZeroedBy, WroteBy, ByStore, ByMap, BytesComeFromStores}
 use Rattle.tso_machine.specs.Orders.{in_effect, StoreEvent, Effect, Stored, Zeroed, effect_of, zeroes, performs, memory_order, effect_if, effects_of, writes_of}
 use Rattle.tso_machine.specs.declared.labels.Label.{Label}
 use Rattle.tso_machine.specs.declared.labels.Label.TheVariants as label
@@ -16,7 +16,7 @@ use Rattle.tso_machine.proofs.LawsCommands.{Commanded, command-accepted}
 use Rattle.tso_machine.proofs.LawsDeeds.{thread_of, Stepped, mapped-some}
 use Rattle.tso_machine.proofs.LawsExecuted.{stores-from, buffers-from}
 use Rattle.tso_machine.proofs.LawsLists.{contains-nil, contains-cons, contains-flat_map}
-use Rattle.tso_machine.proofs.LawsRuns.{run-length, step-after, GivenBy, given-along}
+use Rattle.tso_machine.proofs.LawsRuns.{run-length, step-after, given-along}
 use Rattle.tso_machine.proofs.LawsSteps.{Cause, ByThread, ByCommand, cause_of, own-after, own-effect}
 use Rattle.tso_machine.proofs.LawsOrder.{along-step, run-writes}
 use Rattle.tso_machine.proofs.LawsSeen.{has-source}
@@ -100,12 +100,8 @@ wrote : (setup : Setup) (start : State) (labels : List Label) (effect : Effect) 
 wrote setup start labels (Stored event) g write has =
     let made = performed-from setup start labels g.before g.label g.next g.step event g.given in
     ByStore (record {
-      before = g.before;
-      label = g.label;
-      next = g.next;
-      step = g.step;
       event = event;
-      performed = g.given;
+      performed = g;
       written = has;
       first = made.0;
       there = made.1;

@@ -1,7 +1,7 @@
 -- Laws of runs, in the words of total store order: what a thread sees, where a byte comes from, the one
 -- order in which stores and accepted maps take effect, and what a fence leaves. Each law is said of a list of
 -- labels from a state, and speaks of every moment and every step of the run, as far as the labels are enabled.
-use Rattle.std.specs.Prelude.{◌≡◌, ℕ, ◌⊎◌, Bool, ◌&&◌, ◌==◌, IsTrue, IsFalse, List, [], ◌∷◌, ◌++◌, All, Contains, slice_get, flat_map, Some}
+use Rattle.std.specs.Prelude.{◌≡◌, ℕ, ◌⊎◌, Bool, ◌&&◌, ◌==◌, IsTrue, IsFalse, List, [], ◌∷◌, ◌++◌, All, Contains, slice_get, flat_map, Option, Some}
 use Rattle.hart_core.specs.declared.outcome.Act.{Act}
 use Rattle.mind_base.specs.Page.{page_of}
 use Rattle.mind_base.specs.Pending.{PendingView, covers, byte_at}
@@ -96,6 +96,14 @@ pub record SeesOwnStore (setup : Setup) (start : State) (labels : List Label) : 
 
 -- ---- provenance
 
+-- some label of the run gave this, in the state before it
+pub record GivenBy {X : Type 0} (give : State → Label → Option X) (setup : Setup) (start : State) (labels : List Label) (x : X) : Type 0 where
+  pub before : State
+  pub label : Label
+  pub next : State
+  pub step : IsStep setup start labels before label next
+  pub given : give before label ≡ Some x
+
 -- some label of the run executed the store, in thread number hart
 pub record ExecutedBy (setup : Setup) (start : State) (labels : List Label) (hart : ℕ) (store : PendingView) : Type 0 where
   pub before : State
@@ -107,16 +115,12 @@ pub record ExecutedBy (setup : Setup) (start : State) (labels : List Label) (har
 -- some label of the run put the write there by a store: it is of a store that took effect by the label, and
 -- that its thread executed by then, or that waited in the thread's buffer at the start
 pub record StoredBy (setup : Setup) (start : State) (labels : List Label) (write : Write) : Type 0 where
-  pub before : State
-  pub label : Label
-  pub next : State
-  pub step : IsStep setup start labels before label next
   pub event : StoreEvent
-  pub performed : performs setup before label ≡ Some (Stored event)
+  pub performed : GivenBy (performs setup) setup start labels (Stored event)
   pub written : Contains (bytes_of event.domain event.store) write
   pub first : Thread
   pub there : slice_get start.threads event.hart ≡ Some first
-  pub executed : Contains first.buffer event.store ⊎ ExecutedBy setup start (step.front ++ label ∷ []) event.hart event.store
+  pub executed : Contains first.buffer event.store ⊎ ExecutedBy setup start (performed.step.front ++ performed.label ∷ []) event.hart event.store
 
 -- some label of the run took a command that maps the span, and the command was accepted
 pub record ZeroedBy (setup : Setup) (start : State) (labels : List Label) (span : SpanView) : Type 0 where
