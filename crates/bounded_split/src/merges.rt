@@ -1,8 +1,8 @@
 //! Cold neighbours become one entry.
 
-ghost use Rattle.std.specs.Prelude.{◌≡◌, ◌+◌, ◌≤◌, ◌<◌, ◌++◌, length};
-ghost use Rattle.region_directory.specs.Merge.{with_merge};
-ghost use Rattle.bounded_split.specs.Epoch.{judged, cold_at, entries_left, merge_noted, merge_notes, turns_of_merges};
+ghost use Rattle.std.specs.Prelude.{◌≡◌, ◌+◌, ◌≤◌, ◌<◌, length};
+ghost use Rattle.bounded_split.specs.Epoch.{judged, entries_left, merge_notes, turns_of_merges};
+ghost use Rattle.bounded_split.specs.Turns.{MergesAt, Turned};
 
 use crate::{Load, Policy, Verdict};
 use mind_base::{Log, Note};
@@ -23,12 +23,7 @@ pub fn judge(policy: &Policy, entry: &Entry) -> Verdict
 fn merge_cold(directory: &mut Directory, policy: &Policy, log: &mut Log, i: u32) -> u32
     requires within { i < length directory.old.entries }
     requires room { 0 < log.old.spare }
-    ensures changed { directory.new ≡ record directory.old {
-      entries = with_merge i (cold_at policy.now.threshold directory.old i) directory.old.entries;
-    } }
-    ensures noted { log.new.notes
-        ≡ log.old.notes ++ merge_noted (cold_at policy.now.threshold directory.old i) }
-    ensures count { result ≡ length (merge_noted (cold_at policy.now.threshold directory.old i)) }
+    ensures turned { MergesAt policy.now.threshold i directory.old directory.new log.old log.new result }
     ensures spare { log.old.spare ≤ log.new.spare + result }
 {
     let count = directory.len();
@@ -51,12 +46,8 @@ fn merge_cold(directory: &mut Directory, policy: &Policy, log: &mut Log, i: u32)
 /// is room for a note of each.
 pub fn merge_all(directory: &mut Directory, policy: &Policy, log: &mut Log) -> u32
     requires { length directory.old.entries ≤ log.old.spare }
-    ensures changed { directory.new ≡ record directory.old {
-      entries = entries_left (turns_of_merges policy.now.threshold directory.old);
-    } }
-    ensures notes { log.new.notes
-        ≡ log.old.notes ++ merge_notes (turns_of_merges policy.now.threshold directory.old) }
-    ensures count { result ≡ length (merge_notes (turns_of_merges policy.now.threshold directory.old)) }
+    ensures turned { Turned (entries_left (turns_of_merges policy.now.threshold directory.old))
+        (merge_notes (turns_of_merges policy.now.threshold directory.old)) directory.old directory.new log.old log.new result }
     ensures spare { length directory.new.entries ≤ log.new.spare }
 {
     let mut merges = 0;

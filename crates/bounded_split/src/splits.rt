@@ -1,9 +1,9 @@
 //! Hot entries become two while a slot is free.
 
-ghost use Rattle.std.specs.Prelude.{◌≡◌, ◌+◌, ◌≤◌, ◌<◌, ◌++◌, length};
-ghost use Rattle.region_directory.specs.Split.{with_split};
-ghost use Rattle.bounded_split.specs.Epoch.{hot_at, entries_left, split_notes};
-ghost use Rattle.bounded_split.specs.Hot.{hot_block, hot_turns_in, split_noted};
+ghost use Rattle.std.specs.Prelude.{◌+◌, ◌≤◌, ◌<◌, length};
+ghost use Rattle.bounded_split.specs.Epoch.{entries_left, split_notes};
+ghost use Rattle.bounded_split.specs.Hot.{hot_turns_in};
+ghost use Rattle.bounded_split.specs.Turns.{SplitsAt, Turned};
 
 use crate::merges::judge;
 use crate::{Policy, Verdict};
@@ -15,12 +15,7 @@ use region_directory::Directory;
 fn split_hot(directory: &mut Directory, policy: &Policy, log: &mut Log, i: u32) -> u32
     requires within { i < length directory.old.entries }
     requires room { 0 < log.old.spare }
-    ensures changed { directory.new ≡ record directory.old {
-      entries = with_split i (hot_at policy.now.threshold directory.old i) directory.old.entries;
-    } }
-    ensures noted { log.new.notes
-        ≡ log.old.notes ++ split_noted (hot_block policy.now.threshold directory.old i) }
-    ensures count { result ≡ length (split_noted (hot_block policy.now.threshold directory.old i)) }
+    ensures turned { SplitsAt policy.now.threshold i directory.old directory.new log.old log.new result }
     ensures spare { log.old.spare ≤ log.new.spare + result }
 {
     let entry = directory.entry(i);
@@ -35,13 +30,8 @@ fn split_hot(directory: &mut Directory, policy: &Policy, log: &mut Log, i: u32) 
 /// again. There is room for a note of each.
 pub fn split_all(directory: &mut Directory, policy: &Policy, log: &mut Log) -> u32
     requires { length directory.old.entries ≤ log.old.spare }
-    ensures changed { directory.new ≡ record directory.old {
-      entries = entries_left (hot_turns_in policy.now.threshold directory.old);
-    } }
-    ensures notes { log.new.notes
-        ≡ log.old.notes ++ split_notes (hot_turns_in policy.now.threshold directory.old) }
-    ensures count { result
-        ≡ length (split_notes (hot_turns_in policy.now.threshold directory.old)) }
+    ensures turned { Turned (entries_left (hot_turns_in policy.now.threshold directory.old))
+        (split_notes (hot_turns_in policy.now.threshold directory.old)) directory.old directory.new log.old log.new result }
 {
     let mut splits = 0;
     let mut i = 0;

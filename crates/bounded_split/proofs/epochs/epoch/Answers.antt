@@ -14,8 +14,8 @@ returns-clause-directory g c =
     let t = c.args.policy.now.threshold in
     let d = c.args.directory.now in
     c.clear_hits.ensures.cleared
-    ∙ ap (λ (v : DirectoryView). record v { entries = map (with_hits 0) v.entries }) c.split_all-splits.ensures.changed
-    ∙ ap (λ (v : DirectoryView). record v { entries = map (with_hits 0) (entries_left (hot_turns_in t v)) }) c.merge_all-merges.ensures.changed
+    ∙ ap (λ (v : DirectoryView). record v { entries = map (with_hits 0) v.entries }) c.split_all-splits.ensures.turned.changed
+    ∙ ap (λ (v : DirectoryView). record v { entries = map (with_hits 0) (entries_left (hot_turns_in t v)) }) c.merge_all-merges.ensures.turned.changed
     ∙ ap (λ (xs : List Entry). record d { entries = map (with_hits 0) xs }) (sym (epoch-left t d))
 
 pub returns-clause-notes : goal.returns-clause-notes
@@ -24,10 +24,10 @@ returns-clause-notes g c =
     let d = c.args.directory.now in
     let old : List Note = c.args.log.now.notes in
     let merged : List Note = merge_notes (turns_of_merges t d) in
-    c.split_all-splits.ensures.notes
-    ∙ ap (λ (xs : List Note). xs ++ split_notes (hot_turns_in t c.merge_all-merges.new.directory)) (c.merge_all-merges.ensures.notes ∙ ap (λ (xs : List Note). xs ++ merged) c.reserve.ensures.notes)
+    c.split_all-splits.ensures.turned.notes
+    ∙ ap (λ (xs : List Note). xs ++ split_notes (hot_turns_in t c.merge_all-merges.new.directory)) (c.merge_all-merges.ensures.turned.notes ∙ ap (λ (xs : List Note). xs ++ merged) c.reserve.ensures.notes)
     ∙ append_assoc old merged (split_notes (hot_turns_in t c.merge_all-merges.new.directory))
-    ∙ ap (λ (v : DirectoryView). old ++ (merged ++ split_notes (hot_turns_in t v))) c.merge_all-merges.ensures.changed
+    ∙ ap (λ (v : DirectoryView). old ++ (merged ++ split_notes (hot_turns_in t v))) c.merge_all-merges.ensures.turned.changed
     ∙ ap (λ (xs : List Note). old ++ (xs ++ split_notes (hot_turns_in t (merged_directory t d)))) (sym (epoch-merges t d))
     ∙ ap (λ (xs : List Note). old ++ (merge_notes (epoch_turns t d) ++ xs)) (sym (epoch-splits t d))
 
@@ -36,9 +36,9 @@ returns-clause-sums g c =
     let t = c.args.policy.now.threshold in
     let d = c.args.directory.now in
     let made : ℕ → ℕ → ℕ → EpochSums = λ merges splits hits. record { merges = merges; splits = splits; hits = hits } in
-    let merges : c.merge_all-merges.result ≡ length (merge_notes (epoch_turns t d)) = c.merge_all-merges.ensures.count ∙ ap (λ (xs : List Note). length xs) (sym (epoch-merges t d)) in
+    let merges : c.merge_all-merges.result ≡ length (merge_notes (epoch_turns t d)) = c.merge_all-merges.ensures.turned.count ∙ ap (λ (xs : List Note). length xs) (sym (epoch-merges t d)) in
     let splits : c.split_all-splits.result ≡ length (split_notes (epoch_turns t d)) =
-    c.split_all-splits.ensures.count ∙ ap (λ (v : DirectoryView). length (split_notes (hot_turns_in t v))) c.merge_all-merges.ensures.changed ∙ ap (λ (xs : List Note). length xs) (sym (epoch-splits t d)) in
+    c.split_all-splits.ensures.turned.count ∙ ap (λ (v : DirectoryView). length (split_notes (hot_turns_in t v))) c.merge_all-merges.ensures.turned.changed ∙ ap (λ (xs : List Note). length xs) (sym (epoch-splits t d)) in
     ap (λ (n : ℕ). made n c.split_all-splits.result c.total_hits-hits.result) merges
     ∙ ap (λ (n : ℕ). made (length (merge_notes (epoch_turns t d))) n c.total_hits-hits.result) splits
     ∙ ap (λ (n : ℕ). made (length (merge_notes (epoch_turns t d))) (length (split_notes (epoch_turns t d))) n) c.total_hits-hits.ensures
@@ -48,6 +48,6 @@ returns-clause-bound g c =
     let t = c.args.policy.now.threshold in
     let d = c.args.directory.now in
     let splits : c.split_all-splits.result ≡ length (split_notes (epoch_turns t d)) =
-    c.split_all-splits.ensures.count ∙ ap (λ (v : DirectoryView). length (split_notes (hot_turns_in t v))) c.merge_all-merges.ensures.changed ∙ ap (λ (xs : List Note). length xs) (sym (epoch-splits t d)) in
+    c.split_all-splits.ensures.turned.count ∙ ap (λ (v : DirectoryView). length (split_notes (hot_turns_in t v))) c.merge_all-merges.ensures.turned.changed ∙ ap (λ (xs : List Note). length xs) (sym (epoch-splits t d)) in
     subst (λ (n : ℕ). n * (t + 1) ≤ c.total_hits-hits.result) (sym splits)
     (subst (λ (h : ℕ). length (split_notes (epoch_turns t d)) * (t + 1) ≤ h) (sym c.total_hits-hits.ensures) (splits-bound t d))

@@ -6,4 +6,4 @@ pub loop-i-preserved : goal.loop-i-preserved
 loop-i-preserved g c =
     let lt : c.loop-i.i < length c.loop-i.directory.entries = omega (arith, c.len.ensures.len, c.loop-i-test.true) in
     splitting-step c.args.policy.now.threshold c.args.directory.now c.loop-i.directory c.split_hot-halved.new.directory c.args.log.now.notes c.loop-i.log.notes c.split_hot-halved.new.log.notes c.loop-i.log.spare c.split_hot-halved.new.log.spare c.loop-i.i c.loop-i.splits c.split_hot-halved.result
-    c.loop-i.invariant lt c.split_hot-halved.ensures.changed c.split_hot-halved.ensures.noted c.split_hot-halved.ensures.count c.split_hot-halved.ensures.spare
+    c.loop-i.invariant lt c.split_hot-halved.ensures.turned.changed c.split_hot-halved.ensures.turned.notes c.split_hot-halved.ensures.turned.count c.split_hot-halved.ensures.spare
