@@ -5,6 +5,3 @@ mod images;
 mod tags;
 
 pub use images::PageImage;
-
-#[cfg(test)]
-mod tests;

@@ -1,6 +1,6 @@
 //! Images stored to, and spelled and read again.
 
-use super::*;
+use page_image::PageImage;
 use std::test::Fail;
 
 #[test]
