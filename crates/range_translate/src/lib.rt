@@ -8,8 +8,6 @@ mod outliers;
 mod pieces;
 mod search;
 mod tables;
-#[cfg(test)]
-mod tests;
 
 pub use homes::pages_of;
 pub use laws::smallest_outlier_decides;

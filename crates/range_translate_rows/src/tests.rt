@@ -3,8 +3,8 @@
 ghost use Rattle.std.specs.Prelude.{◌≡◌, ◌+◌, ◌≤◌, [], ◌∷◌, IfOk};
 ghost use Rattle.mind_base.specs.Range.{IsRange};
 
-use crate::{Outlier, Piece, PutRefusal, Table};
 use mind_base::{MemoryPlan, NoMemory, Page, Range, Sequence, Span};
+use range_translate::{Outlier, Piece, PutRefusal, Table};
 use std::alloc::Global;
 use std::test::Fail;
 

@@ -1,0 +1,5 @@
+//! Where pages lie under outliers: tests on the public calls of `range_translate`. The crate has tests alone.
+#![tactic(auto)]
+
+#[cfg(test)]
+mod tests;
