@@ -66,7 +66,7 @@ pub among-not : (test : Msg → Bool) (m : Msg) (queue : List Msg) → Among m q
 among-not test m queue among none = among-none m queue among test (none_is-total test queue none)
 
 -- what is true of a link, message by message, becomes another thing that is true of it
-along : (A B : List Msg → Type 0) (queue : List Msg) → ((m : Msg) (behind : List Msg) → Among m queue → A (m ∷ behind) → A behind × (B behind → B (m ∷ behind))) → B [] → A queue → B queue
+pub along : (A B : List Msg → Type 0) (queue : List Msg) → ((m : Msg) (behind : List Msg) → Among m queue → A (m ∷ behind) → A behind × (B behind → B (m ∷ behind))) → B [] → A queue → B queue
 along A B [] step end h = end
 along A B (m ∷ queue) step end h =
     let here = step m queue (among-head m queue) h in

@@ -8,6 +8,7 @@ use Rattle.wire_msg.specs.declared.msgs.Msg.TheVariants.{Read, Write}
 use Rattle.coherence.specs.Counts.{none_is}
 use Rattle.coherence.specs.World.{World, put}
 use Rattle.coherence.specs.Facts.{IsUp, AreUps, IsDown, AreDowns, IsFrom, AreFroms, AreTos, images_written, is_fetching}
+use Rattle.coherence.proofs.Lists.{among-not, along, ups_kept, downs_kept}
 
 -- ---- counts
 
@@ -30,25 +31,20 @@ none-never (m ∷ q) = let rest = none-never q in grind (arith, nat_tests, rest)
 pub ups-kept : (w w' : World) (blade : ℕ) (bad : Msg → Bool)
     → ((m : Msg) (behind : List Msg) → bad m ≡ false → IsUp w blade m behind → IsUp w' blade m behind)
     → (q : List Msg) → none_is bad q ≡ true → AreUps w blade q → AreUps w' blade q
-ups-kept w w' blade bad keeps [] none ups = tt
-ups-kept w w' blade bad keeps (m ∷ q) none ups =
-    (keeps m q (none-head bad m q none) ups.0, ups-kept w w' blade bad keeps q (none-rest bad m q none) ups.1)
+ups-kept w w' blade bad keeps q none = ups_kept w w' blade q (λ m behind among. keeps m behind (among-not bad m q among none))
 
 -- ---- down queues, with what is sent down behind them
 
 pub downs-kept : (w w' : World) (blade : ℕ) (bad : Msg → Bool) (tail : List Msg)
     → ((m : Msg) (behind : List Msg) → bad m ≡ false → IsDown w blade m behind → IsDown w' blade m (behind ++ tail))
     → AreDowns w' blade tail → (q : List Msg) → none_is bad q ≡ true → AreDowns w blade q → AreDowns w' blade (q ++ tail)
-downs-kept w w' blade bad tail keeps last [] none downs = last
-downs-kept w w' blade bad tail keeps last (m ∷ q) none downs =
-    (keeps m (q) (none-head bad m q none) downs.0, downs-kept w w' blade bad tail keeps last q (none-rest bad m q none) downs.1)
+downs-kept w w' blade bad tail keeps last q none = along (AreDowns w blade) (λ queue. AreDowns w' blade (queue ++ tail)) q
+    (λ m behind among down. (down.1, λ rest. (keeps m behind (among-not bad m q among none) down.0, rest))) last
 
 pub downs-same : (w w' : World) (blade : ℕ) (bad : Msg → Bool)
     → ((m : Msg) (behind : List Msg) → bad m ≡ false → IsDown w blade m behind → IsDown w' blade m behind)
     → (q : List Msg) → none_is bad q ≡ true → AreDowns w blade q → AreDowns w' blade q
-downs-same w w' blade bad keeps q none downs =
-    subst (λ q. AreDowns w' blade q) (append-nil q)
-    (downs-kept w w' blade bad [] (λ m behind fine down. subst (λ q. IsDown w' blade m q) (sym (append-nil behind)) (keeps m behind fine down)) tt q none downs)
+downs-same w w' blade bad keeps q none = downs_kept w w' blade q (λ m behind among. keeps m behind (among-not bad m q among none))
 
 -- ---- queues from memory blades
 
