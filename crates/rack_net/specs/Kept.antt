@@ -17,13 +17,7 @@ message_spelled bytes = unwrap_or (message_of bytes) (Closed 0)
 
 -- the link as a queue of messages
 abbrev pub link_of : LinkView → NetLink
-link_of link = record {
-  pending = map message_spelled link.pending;
-  next = link.next;
-  kept = link.kept;
-  messages = link.messages;
-  acks = link.acks;
-}
+link_of link = record { pending = map message_spelled link.pending; next = link.next; kept = link.kept; messages = link.messages; acks = link.acks }
 
 abbrev pub net_view : ℕ → ℕ → List LinkView → NetView
 net_view blades memories links = record { blades = blades; memories = memories; links = map link_of links }

@@ -21,13 +21,7 @@ pub record NetLink : Type 0 where
 
 -- the same link with its messages in bytes
 abbrev pub spelled : NetLink → LinkView
-spelled link = record {
-  pending = map spelling link.pending;
-  next = link.next;
-  kept = link.kept;
-  messages = link.messages;
-  acks = link.acks;
-}
+spelled link = record { pending = map spelling link.pending; next = link.next; kept = link.kept; messages = link.messages; acks = link.acks }
 
 -- a link that nothing was sent on
 abbrev pub empty_link : NetLink
