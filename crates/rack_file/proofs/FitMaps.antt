@@ -1,5 +1,5 @@
 -- What is accepted is a fit plan: its maps, and the whole.
-use Rattle.std.proofs.Common.{◌≡◌, ◌≢◌, ℕ, ◌≤◌, Bool, true, false, cond, ◌==◌, nat_le, codes, List, [], ◌∷◌, ◌++◌, length, map, refl, subst, is_some, Ok, Option, Some, None, arith}
+use Rattle.std.proofs.Common.{◌≡◌, ◌≢◌, ℕ, ◌≤◌, Bool, true, false, cond, ◌==◌, nat_le, codes, List, [], ◌∷◌, ◌++◌, length, map, refl, sym, subst, is_some, Ok, Option, Some, None, arith}
 use Rattle.std.specs.List.{AllByRecursion}
 use Rattle.std.proofs.lemmas.Grind.{common_steps}
 use Rattle.mind_base.specs.Page.{PageView}
@@ -18,12 +18,12 @@ use Rattle.control_plane.specs.Outcome.{are_placed, are_unmapped}
 use Rattle.control_plane.proofs.Runs.{all_in-holds}
 use Rattle.rack_file.specs.Keys.{and_then, demand, optional_array_judged, items_judged, count}
 use Rattle.rack_file.specs.Tables.{map_keys, table_judged, span_at, map_at, map_judged, maps_within, maps_judged, blades_judged, memories_judged, images_judged, threads_judged}
-use Rattle.rack_file.specs.Settings.{settings_judged}
+use Rattle.rack_file.specs.Settings.{settings_at, settings_judged}
 use Rattle.rack_file.specs.Racks.{plan_of, top_judged}
 use Rattle.rack_file.specs.declared.refusals.RackFault.TheVariants.{Overlap, Unplaced, Slots}
 use Rattle.rack_file.specs.declared.sections.Section.TheVariants as section
 use Rattle.rack_file.proofs.Accepted.{both-ok, demand-ok, all-push, items-keep, items-count, array-ok}
-use Rattle.rack_file.proofs.Fitness.{in-span, table-keys, settings-fit, blades-fit, images-fit, threads-fit}
+use Rattle.rack_file.proofs.Fitness.{in-span, table-keys, number-in, settings-keys, most-in, blades-fit, images-fit, threads-fit}
 use Rattle.rack_file.proofs.FitHomes.{pages-most, memories-fit}
 
 -- a permission that a text names is one
@@ -144,21 +144,21 @@ top-fit top plan e =
     let (threads, eh, r5) = both-ok (threads_judged (length frames) (length images) top) (λ threads.
     and_then (maps_judged (are_placed memories) s.protect top) (λ maps. Ok (plan_of s frames memories images threads maps))) plan r4 in
     let (maps, ep, r6) = both-ok (maps_judged (are_placed memories) s.protect top) (λ maps. Ok (plan_of s frames memories images threads maps)) plan r5 in
-    let read : RackPlan = plan_of s frames memories images threads maps in
+    let (all, settings) = settings-keys top s es in
+    let read : RackPlan = plan_of (settings_at top) frames memories images threads maps in
     let same : read ≡ plan = cc in
-    let fs = settings-fit top s es in
     let ff = blades-fit top frames ef in
     let fm = memories-fit top memories em in
     let fi = images-fit top images ei in
     let fh = threads-fit (length frames) (length images) top threads ((ff.0).0) ((fi.0).0) eh in
     let fp = maps-fit memories s.protect top maps ep in
     let found : IsFit read = record {
-      slots = fs.slots;
-      protect = fs.protect;
-      outliers = fs.outliers;
-      region = fs.region;
-      most = fs.most;
-      threshold = fs.threshold;
+      slots = number-in (codes "") top (codes "slots") 1 4096 all.1.0;
+      protect = number-in (codes "") top (codes "protect") 1 4096 all.1.1.0;
+      outliers = (number-in (codes "") top (codes "outliers") 0 1024 all.1.1.1.0).1;
+      region = (number-in (codes "") top (codes "region") 0 9 all.1.1.1.1.0).1;
+      most = most-in top all.1.1.1.1.1.0;
+      threshold = (number-in (codes "") top (codes "threshold") 0 1000000 all.1.1.1.1.1.1.0).1;
       blades = ff.0;
       frames = ff.1;
       memories = fm.count;
@@ -172,6 +172,6 @@ top-fit top plan e =
       maps = fp.count;
       each_map = (fp.kept).0;
       maps_apart = (fp.kept).1;
-      cover = fp.cover;
+      cover = subst (λ (p : RackPlan). cover_of (permission_of maps) ≤ p.protect) (sym settings) fp.cover;
     } in
     subst IsFit {x = read} same found

@@ -10,11 +10,11 @@ use Rattle.mind_base.specs.declared.plans.ThreadPlan.{ThreadPlan}
 use Rattle.control_plane.proofs.Runs.{all_in-holds}
 use Rattle.toml.specs.Data.{Data, Members, get_member, as_table}
 use Rattle.rack_file.specs.Keys.{and_then, Key, within, number_key, kind_judged, key_judged, keys_judged, known_judged, integer_at, text_at, array_judged, items_judged, under}
-use Rattle.rack_file.specs.Tables.{top_keys, blade_keys, image_keys, thread_keys, names_in, table_judged, blade_judged, blades_judged, image_judged, images_judged, thread_judged, threads_judged, thread_at, is_apart}
+use Rattle.rack_file.specs.Tables.{most_key, top_keys, blade_keys, image_keys, thread_keys, names_in, table_judged, blade_judged, blades_judged, image_judged, images_judged, thread_judged, threads_judged, thread_at, is_apart}
 use Rattle.rack_file.specs.Settings.{settings_at, settings_judged}
 use Rattle.rack_file.specs.declared.sections.Section.{Section}
 use Rattle.rack_file.specs.declared.sections.Section.TheVariants as section
-use Rattle.rack_file.specs.declared.settings.Settings.{Settings}
+use Rattle.mind_base.specs.declared.plans.RackPlan.{RackPlan}
 use Rattle.rack_file.proofs.Accepted.{both-ok, within-parts, first-ok, number-ok, all-push, items-keep, items-count, array-ok}
 
 -- each key is accepted
@@ -39,35 +39,15 @@ table-keys s keys path d table e =
 
 -- ---- settings
 
-pub record FitSettings (s : Settings) : Type 0 where
-  pub slots : Within 1 4096 s.slots
-  pub protect : Within 1 4096 s.protect
-  pub outliers : s.outliers ≤ 1024
-  pub region : s.region ≤ 9
-  pub most : Within s.region 9 s.most
-  pub threshold : s.threshold ≤ 1000000
-
-pub settings-fit : (top : Members) (s : Settings) → settings_judged top ≡ Ok s → FitSettings s
-settings-fit top s e =
+-- the keys of accepted settings
+pub settings-keys : (top : Members) (s : RackPlan) → settings_judged top ≡ Ok s → Accepts (codes "") top top_keys × (settings_at top ≡ s)
+settings-keys top s e =
     let (u, ks, rest) = both-ok (keys_judged (codes "") top top_keys) (λ done. and_then (known_judged (codes "") top (names_in section.Top)) (λ known. Ok (settings_at top))) s e in
     let (v, known, last) = both-ok (known_judged (codes "") top (names_in section.Top)) (λ known. Ok (settings_at top)) s rest in
-    let same : settings_at top ≡ s = cc in
-    let all = all-keys (codes "") top top_keys u ks in
-    let slots = number-in (codes "") top (codes "slots") 1 4096 all.1.0 in
-    let protect = number-in (codes "") top (codes "protect") 1 4096 all.1.1.0 in
-    let outliers = number-in (codes "") top (codes "outliers") 0 1024 all.1.1.1.0 in
-    let region = number-in (codes "") top (codes "region") 0 9 all.1.1.1.1.0 in
-    let most = number-ok (within (integer_at (codes "region") top) 9) (codes "most") (get_member (codes "most") top) tt all.1.1.1.1.1.0 in
-    let threshold = number-in (codes "") top (codes "threshold") 0 1000000 all.1.1.1.1.1.1.0 in
-    let found : FitSettings (settings_at top) = record {
-      slots = slots;
-      protect = protect;
-      outliers = outliers.1;
-      region = region.1;
-      most = within-parts _ _ _ most;
-      threshold = threshold.1;
-    } in
-    subst FitSettings same found
+    (all-keys (codes "") top top_keys u ks, cc)
+
+pub most-in : (top : Members) → key_judged (codes "") top most_key ≡ Ok tt → Within (integer_at (codes "region") top) 9 (integer_at (codes "most") top)
+most-in top e = within-parts _ _ _ (number-ok (within (integer_at (codes "region") top) 9) (codes "most") (get_member (codes "most") top) tt e)
 
 -- ---- blades
 

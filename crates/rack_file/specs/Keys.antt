@@ -144,3 +144,8 @@ abbrev pub items_judged : {X : Type 0} → (List X → List ℕ → Data → Res
 items_judged judge path done no_items = Ok done
 items_judged judge path done (item datum rest) =
     and_then (judge done (member_path path (length done)) datum) (λ x. items_judged judge path (done ++ x ∷ []) rest)
+
+-- the elements of an array of the top table, of which there is one and are at most so many, each judged by its path
+abbrev pub elements_judged : {X : Type 0} → (List ℕ → Data → Result X Refused) → List ℕ → ℕ → Members → Result (List X) Refused
+elements_judged judge name most top =
+    and_then (array_judged name 1 most (get_member name top)) (λ items. items_judged (λ done. judge) name [] items)

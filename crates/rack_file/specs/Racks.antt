@@ -13,24 +13,11 @@ use Rattle.rack_file.specs.Keys.{Refused, and_then}
 use Rattle.rack_file.specs.Settings.{settings_judged}
 use Rattle.rack_file.specs.Tables.{blades_judged, memories_judged, images_judged, threads_judged, maps_judged}
 use Rattle.rack_file.specs.declared.refusals.RackFault.TheVariants.{Toml}
-use Rattle.rack_file.specs.declared.settings.Settings.{Settings}
 
--- the plan of these parts
-abbrev pub plan_of : Settings → List ℕ → List MemoryPlan → List ImagePlan → List ThreadPlan → List MapPlan → RackPlan
-plan_of settings frames memories images threads maps = record {
-  slots = settings.slots;
-  protect = settings.protect;
-  outliers = settings.outliers;
-  region = settings.region;
-  most = settings.most;
-  threshold = settings.threshold;
-  policy = settings.policy;
-  frames = frames;
-  memories = memories;
-  images = images;
-  threads = threads;
-  maps = maps;
-}
+-- the plan with these arrays
+abbrev pub plan_of : RackPlan → List ℕ → List MemoryPlan → List ImagePlan → List ThreadPlan → List MapPlan → RackPlan
+plan_of settings frames memories images threads maps =
+    record settings { frames = frames; memories = memories; images = images; threads = threads; maps = maps }
 
 -- the top table's keys, and then its arrays in order
 abbrev pub top_judged : Members → Result RackPlan Refused

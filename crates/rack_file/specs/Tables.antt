@@ -16,7 +16,7 @@ use Rattle.mind_base.specs.declared.plans.ImagePlan.{ImagePlan}
 use Rattle.mind_base.specs.declared.plans.ThreadPlan.{ThreadPlan}
 use Rattle.mind_base.specs.declared.plans.MapPlan.{MapPlan}
 use Rattle.control_plane.specs.Outcome.{all_in, are_unmapped}
-use Rattle.rack_file.specs.Keys.{Refused, and_then, demand, Number, Text, OptionalText, Key, within, number_key, kind_judged, keys_judged, names_of, known_judged, integer_at, text_at, array_judged, optional_array_judged, items_judged, under}
+use Rattle.rack_file.specs.Keys.{Refused, and_then, demand, Number, Text, OptionalText, Key, within, number_key, kind_judged, keys_judged, names_of, known_judged, integer_at, text_at, array_judged, optional_array_judged, items_judged, elements_judged, under}
 use Rattle.rack_file.specs.declared.refusals.RackFault.TheVariants.{Limit, Overlap, Unplaced, Slots}
 use Rattle.rack_file.specs.declared.sections.Section.{Section}
 use Rattle.rack_file.specs.declared.sections.Section.TheVariants as section
@@ -97,8 +97,7 @@ abbrev pub blade_judged : List ℕ → Data → Result ℕ Refused
 blade_judged path datum = and_then (table_judged section.Blade blade_keys path datum) (λ table. Ok (integer_at (codes "frames") table))
 
 abbrev pub blades_judged : Members → Result (List ℕ) Refused
-blades_judged top =
-    and_then (array_judged (codes "blade") 1 8 (get_member (codes "blade") top)) (λ items. items_judged (λ done. blade_judged) (codes "blade") [] items)
+blades_judged top = elements_judged blade_judged (codes "blade") 8 top
 
 -- ---- memory blades
 
@@ -151,8 +150,7 @@ image_judged path datum =
     and_then (table_judged section.Image image_keys path datum) (λ table. Ok (record { name = text_at (codes "name") table; at = integer_at (codes "at") table }))
 
 abbrev pub images_judged : Members → Result (List ImagePlan) Refused
-images_judged top =
-    and_then (array_judged (codes "image") 1 16 (get_member (codes "image") top)) (λ items. items_judged (λ done. image_judged) (codes "image") [] items)
+images_judged top = elements_judged image_judged (codes "image") 16 top
 
 abbrev pub thread_at : Members → ThreadPlan
 thread_at table = record { blade = integer_at (codes "blade") table; domain = integer_at (codes "domain") table; image = integer_at (codes "image") table; queue = integer_at (codes "queue") table }
@@ -162,9 +160,7 @@ thread_judged blades images path datum =
     and_then (table_judged section.Thread (thread_keys blades images) path datum) (λ table. Ok (thread_at table))
 
 abbrev pub threads_judged : ℕ → ℕ → Members → Result (List ThreadPlan) Refused
-threads_judged blades images top =
-    and_then (array_judged (codes "thread") 1 64 (get_member (codes "thread") top)) (λ items.
-    items_judged (λ done. thread_judged blades images) (codes "thread") [] items)
+threads_judged blades images top = elements_judged (thread_judged blades images) (codes "thread") 64 top
 
 -- ---- maps
 

@@ -1,18 +1,19 @@
 //! The plan that a rack file describes, or its first fault.
 
-ghost use Rattle.std.specs.Prelude.{◌≡◌, [], IfOk};
+ghost use Rattle.std.specs.Prelude.{◌≡◌, ◌≤◌, [], IfOk};
 ghost use Rattle.mind_base.specs.Fit.{IsFit};
 ghost use Rattle.toml.specs.View.{table_view};
 ghost use Rattle.rack_file.specs.Racks.{document_of, rack_judged, top_judged};
+ghost use Rattle.rack_file.specs.Tables.{threads_judged};
 ghost use Rattle.rack_file.specs.Judged.{GivesJudged, GivesDocument};
 
-use crate::arrays::{blades_in, images_in, threads_in};
+use crate::arrays::elements_in;
 use crate::homes::memories_in;
 use crate::maps::maps_in;
 use crate::refusals::{Path, RackFault, RackRefusal};
 use crate::settings::settings_in;
-use crate::tables::Named;
-use mind_base::RackPlan;
+use crate::tables::{BladeReader, ImageReader, ThreadReader};
+use mind_base::{RackPlan, Sequence, ThreadPlan};
 use std::alloc::Global;
 use toml::Table;
 
@@ -43,6 +44,24 @@ fn document_from(alloc: Global, bytes: &[u8]) -> Result<Table, RackRefusal>
     }
 }
 
+/// The threads of a rack with so many blades and images.
+fn threads_in(
+    alloc: Global,
+    document: &Table,
+    blades: usize,
+    images: usize,
+) -> Result<Sequence<ThreadPlan>, RackRefusal>
+    requires blades { blades ≤ 8 }
+    requires images { images ≤ 16 }
+    ensures { GivesJudged (λ xs. xs) result (threads_judged blades images (table_view document.now)) }
+{
+    let reader = ThreadReader {
+        blades: blades as u8,
+        images: images as u8,
+    };
+    elements_in(alloc, &reader, document, "thread", 64)
+}
+
 /// The rack that a document describes.
 fn rack_in(alloc: Global, document: &Table) -> Result<RackPlan, RackRefusal>
     ensures { GivesJudged (λ plan. plan) result (top_judged (table_view document.now)) }
@@ -51,7 +70,7 @@ fn rack_in(alloc: Global, document: &Table) -> Result<RackPlan, RackRefusal>
         Ok(settings) => settings,
         Err(e) => return Err(e),
     };
-    let frames = match blades_in(alloc, document) {
+    let frames = match elements_in(alloc, &BladeReader, document, "blade", 8) {
         Ok(frames) => frames,
         Err(e) => return Err(e),
     };
@@ -59,32 +78,22 @@ fn rack_in(alloc: Global, document: &Table) -> Result<RackPlan, RackRefusal>
         Ok(memories) => memories,
         Err(e) => return Err(e),
     };
-    let images = match images_in(alloc, document) {
+    let images = match elements_in(alloc, &ImageReader, document, "image", 16) {
         Ok(images) => images,
         Err(e) => return Err(e),
     };
-    let named = Named {
-        blades: frames.len() as u32,
-        images: images.len() as u32,
-    };
-    let threads = match threads_in(alloc, document, named) {
+    let threads = match threads_in(alloc, document, frames.len(), images.len()) {
         Ok(threads) => threads,
         Err(e) => return Err(e),
     };
     match maps_in(alloc, document, memories.as_slice(), settings.protect) {
         Ok(maps) => Ok(RackPlan {
-            slots: settings.slots,
-            protect: settings.protect,
-            outliers: settings.outliers,
-            region: settings.region,
-            most: settings.most,
-            threshold: settings.threshold,
-            policy: settings.policy,
             frames,
             memories,
             images,
             threads,
             maps,
+            ..settings
         }),
         Err(e) => Err(e),
     }

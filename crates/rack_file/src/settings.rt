@@ -13,21 +13,9 @@ ghost use Rattle.rack_file.specs.Judged.{GivesJudged, ReadsAs};
 use crate::keys::{member_at, number_in};
 use crate::refusals::{RackFault, RackRefusal, refused_key};
 use crate::sections::{Section, check_known};
-use mind_base::PolicyKind;
+use mind_base::{PolicyKind, RackPlan, Sequence};
 use std::alloc::Global;
 use toml::Table;
-
-/// What the top table of a rack file says beside its arrays.
-#[derive(Clone, Copy, Debug, PartialEq, Eq)]
-pub(crate) struct Settings {
-    pub slots: u32,
-    pub protect: u32,
-    pub outliers: u32,
-    pub region: u8,
-    pub most: u8,
-    pub threshold: u32,
-    pub policy: PolicyKind,
-}
 
 fn policy_in(alloc: Global, table: &Table) -> Result<PolicyKind, RackRefusal>
     ensures { ReadsAs (λ kind. kind) result (key_judged (codes "") (table_view table.now) policy_key) Threshold }
@@ -55,62 +43,39 @@ fn most_in(alloc: Global, table: &Table, region: u32) -> Result<u32, RackRefusal
     number_in(alloc, "", table, "most", region, 9)
 }
 
-/// The plain keys of the top table.
-fn settings_from(alloc: Global, table: &Table) -> Result<Settings, RackRefusal>
+/// The plan of the plain keys of the top table, without its arrays.
+fn settings_from(alloc: Global, table: &Table) -> Result<RackPlan, RackRefusal>
     ensures { ReadsAs (λ settings. settings) result (keys_judged (codes "") (table_view table.now) top_keys) (settings_at (table_view table.now)) }
 {
-    let _format = match number_in(alloc, "", table, "format", 1, 1) {
-        Ok(format) => format,
-        Err(e) => return Err(e),
-    };
-    let slots = match number_in(alloc, "", table, "slots", 1, 4096) {
-        Ok(slots) => slots,
-        Err(e) => return Err(e),
-    };
-    let protect = match number_in(alloc, "", table, "protect", 1, 4096) {
-        Ok(protect) => protect,
-        Err(e) => return Err(e),
-    };
-    let outliers = match number_in(alloc, "", table, "outliers", 0, 1024) {
-        Ok(outliers) => outliers,
-        Err(e) => return Err(e),
-    };
-    let region = match number_in(alloc, "", table, "region", 0, 9) {
-        Ok(region) => region,
-        Err(e) => return Err(e),
-    };
-    let most = match most_in(alloc, table, region) {
-        Ok(most) => most,
-        Err(e) => return Err(e),
-    };
-    let threshold = match number_in(alloc, "", table, "threshold", 0, 1000000) {
-        Ok(threshold) => threshold,
-        Err(e) => return Err(e),
-    };
-    match policy_in(alloc, table) {
-        Ok(policy) => Ok(Settings {
-            slots,
-            protect,
-            outliers,
-            region: region as u8,
-            most: most as u8,
-            threshold,
-            policy,
-        }),
-        Err(e) => Err(e),
-    }
+    let _format = number_in(alloc, "", table, "format", 1, 1)?;
+    let slots = number_in(alloc, "", table, "slots", 1, 4096)?;
+    let protect = number_in(alloc, "", table, "protect", 1, 4096)?;
+    let outliers = number_in(alloc, "", table, "outliers", 0, 1024)?;
+    let region = number_in(alloc, "", table, "region", 0, 9)?;
+    let most = most_in(alloc, table, region)?;
+    let threshold = number_in(alloc, "", table, "threshold", 0, 1000000)?;
+    let policy = policy_in(alloc, table)?;
+    Ok(RackPlan {
+        slots,
+        protect,
+        outliers,
+        region: region as u8,
+        most: most as u8,
+        threshold,
+        policy,
+        frames: Sequence::new(alloc),
+        memories: Sequence::new(alloc),
+        images: Sequence::new(alloc),
+        threads: Sequence::new(alloc),
+        maps: Sequence::new(alloc),
+    })
 }
 
-/// The plain keys of the top table, which has no others but its arrays.
-pub(crate) fn settings_in(alloc: Global, table: &Table) -> Result<Settings, RackRefusal>
+/// The plan of the plain keys of the top table, which has no others but its arrays.
+pub(crate) fn settings_in(alloc: Global, table: &Table) -> Result<RackPlan, RackRefusal>
     ensures { GivesJudged (λ settings. settings) result (settings_judged (table_view table.now)) }
 {
-    let settings = match settings_from(alloc, table) {
-        Ok(settings) => settings,
-        Err(e) => return Err(e),
-    };
-    match check_known(alloc, Section::Top, "", table) {
-        Ok(()) => Ok(settings),
-        Err(e) => Err(e),
-    }
+    let settings = settings_from(alloc, table)?;
+    check_known(alloc, Section::Top, "", table)?;
+    Ok(settings)
 }

@@ -8,6 +8,7 @@ ghost use Rattle.rack_file.specs.Keys.{key_judged, keys_judged, integer_at, text
 ghost use Rattle.rack_file.specs.Tables.{pages_key, span_keys, span_at, at_key, name_key, perm_key, perm_in_file, policy_key, most_key, top_keys, blade_judged, image_judged, thread_judged, thread_keys, thread_at};
 ghost use Rattle.rack_file.specs.Judged.{GivesJudged, ReadsAs};
 
+use crate::arrays::ElementReader;
 use crate::keys::{natural_in, number_in, table_in, text_in};
 use crate::refusals::{RackFault, RackRefusal, refused_key};
 use crate::sections::{Section, check_known};
@@ -48,15 +49,19 @@ pub(crate) fn span_in(alloc: Global, path: &str, table: &Table) -> Result<Span, 
     }
 }
 
-/// The number of frames of a blade.
-pub(crate) fn blade_in(alloc: Global, path: &str, value: &Value) -> Result<u32, RackRefusal>
-    ensures { GivesJudged (λ n. n) result (blade_judged path.now (view value.now)) }
-{
-    let table = table_in(alloc, path, value)?;
-    let frames = number_in(alloc, path, table, "frames", 1, 1024)?;
-    match check_known(alloc, Section::Blade, path, table) {
-        Ok(()) => Ok(frames),
-        Err(e) => Err(e),
+/// Reads the number of frames of a blade.
+pub(crate) struct BladeReader;
+
+impl ElementReader for BladeReader {
+    type Element = u32;
+
+    ghost judged = { λ reader. blade_judged };
+
+    fn element_in(&self, alloc: Global, path: &str, value: &Value) -> Result<u32, RackRefusal> {
+        let table = table_in(alloc, path, value)?;
+        let frames = number_in(alloc, path, table, "frames", 1, 1024)?;
+        check_known(alloc, Section::Blade, path, table)?;
+        Ok(frames)
     }
 }
 
@@ -87,24 +92,51 @@ fn address_in(alloc: Global, path: &str, table: &Table) -> Result<u32, RackRefus
     }
 }
 
-/// An image's plan.
-pub(crate) fn image_in(alloc: Global, path: &str, value: &Value) -> Result<ImagePlan, RackRefusal>
-    ensures { GivesJudged (λ plan. plan) result (image_judged path.now (view value.now)) }
-{
-    let table = table_in(alloc, path, value)?;
-    let name = name_in(alloc, path, table)?;
-    let at = address_in(alloc, path, table)?;
-    match check_known(alloc, Section::Image, path, table) {
-        Ok(()) => Ok(ImagePlan { name, at }),
-        Err(e) => Err(e),
+/// Reads an image's plan.
+pub(crate) struct ImageReader;
+
+impl ElementReader for ImageReader {
+    type Element = ImagePlan;
+
+    ghost judged = { λ reader. image_judged };
+
+    fn element_in(
+        &self,
+        alloc: Global,
+        path: &str,
+        value: &Value,
+    ) -> Result<ImagePlan, RackRefusal> {
+        let table = table_in(alloc, path, value)?;
+        let name = name_in(alloc, path, table)?;
+        let at = address_in(alloc, path, table)?;
+        check_known(alloc, Section::Image, path, table)?;
+        Ok(ImagePlan { name, at })
     }
 }
 
-/// How many blades and images the threads may name, both at least one.
+/// Reads a thread's plan, where there are so many blades and images, both at least one.
 #[derive(Clone, Copy, Debug, PartialEq, Eq)]
-pub(crate) struct Named {
-    pub blades: u32,
-    pub images: u32,
+pub(crate) struct ThreadReader {
+    pub blades: u8,
+    pub images: u8,
+}
+
+impl ElementReader for ThreadReader {
+    type Element = ThreadPlan;
+
+    ghost judged = { λ reader. thread_judged reader.blades reader.images };
+
+    fn element_in(
+        &self,
+        alloc: Global,
+        path: &str,
+        value: &Value,
+    ) -> Result<ThreadPlan, RackRefusal> {
+        let table = table_in(alloc, path, value)?;
+        let plan = thread_from(alloc, path, table, *self)?;
+        check_known(alloc, Section::Thread, path, table)?;
+        Ok(plan)
+    }
 }
 
 /// The keys of a thread's table.
@@ -112,57 +144,22 @@ fn thread_from(
     alloc: Global,
     path: &str,
     table: &Table,
-    named: Named,
+    named: ThreadReader,
 ) -> Result<ThreadPlan, RackRefusal>
-    requires blades { named.blades ≤ 8 }
-    requires images { named.images ≤ 16 }
     ensures { ReadsAs (λ plan. plan) result (keys_judged path.now (table_view table.now) (thread_keys named.blades named.images)) (thread_at (table_view table.now)) }
 {
-    let blade = number_in(
-        alloc,
-        path,
-        table,
-        "blade",
-        0,
-        named.blades.saturating_sub(1),
-    )?;
+    let last_blade = u32::from(named.blades.saturating_sub(1));
+    let last_image = u32::from(named.images.saturating_sub(1));
+    let blade = number_in(alloc, path, table, "blade", 0, last_blade)?;
     let domain = number_in(alloc, path, table, "domain", 0, 15)?;
-    let image = number_in(
-        alloc,
-        path,
-        table,
-        "image",
-        0,
-        named.images.saturating_sub(1),
-    )?;
-    match number_in(alloc, path, table, "queue", 1, 64) {
-        Ok(queue) => Ok(ThreadPlan {
-            blade: blade as u8,
-            domain: domain as u8,
-            image: image as u8,
-            queue,
-        }),
-        Err(e) => Err(e),
-    }
-}
-
-/// A thread's plan.
-pub(crate) fn thread_in(
-    alloc: Global,
-    path: &str,
-    value: &Value,
-    named: Named,
-) -> Result<ThreadPlan, RackRefusal>
-    requires blades { named.blades ≤ 8 }
-    requires images { named.images ≤ 16 }
-    ensures { GivesJudged (λ plan. plan) result (thread_judged named.blades named.images path.now (view value.now)) }
-{
-    let table = table_in(alloc, path, value)?;
-    let plan = thread_from(alloc, path, table, named)?;
-    match check_known(alloc, Section::Thread, path, table) {
-        Ok(()) => Ok(plan),
-        Err(e) => Err(e),
-    }
+    let image = number_in(alloc, path, table, "image", 0, last_image)?;
+    let queue = number_in(alloc, path, table, "queue", 1, 64)?;
+    Ok(ThreadPlan {
+        blade: blade as u8,
+        domain: domain as u8,
+        image: image as u8,
+        queue,
+    })
 }
 
 /// The permission of a map.
