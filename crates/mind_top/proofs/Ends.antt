@@ -140,12 +140,10 @@ make-ended holds words rack count seed plan before now old new result is judges 
     (Make rack count seed, is, (plan, judges, refl, (refl, refl))) says
 
 -- a log that stayed empty, and no rack
-pub with-nothing : (holds : Option Files) (words : List (List ℕ)) (log : List Note) (end : Option RackView) (before now : Counts) (old new : Option (List ℕ)) (result : Status)
-    → log ≡ [] → end ≡ None → EndsWith holds words nothing before now old new result → EndsWith holds words (record { log = log; end = end }) before now old new result
-with-nothing holds words log end before now old new result empty none ends =
-    let P : List Note → Type 0 = λ l. EndsWith holds words (record { log = l; end = None }) before now old new result in
-    let Q : Option RackView → Type 0 = λ r. EndsWith holds words (record { log = log; end = r }) before now old new result in
-    subst Q (sym none) (subst P (sym empty) ends)
+pub with-nothing : (holds : Option Files) (words : List (List ℕ)) (log : List Note) (before now : Counts) (old new : Option (List ℕ)) (result : Status)
+    → log ≡ [] → EndsWith holds words nothing before now old new result → EndsWith holds words (record { log = log; end = None }) before now old new result
+with-nothing holds words log before now old new result empty ends =
+    let P : List Note → Type 0 = λ l. EndsWith holds words (record { log = l; end = None }) before now old new result in subst P (sym empty) ends
 
 -- a line that was said in another spelling
 pub line-said : (old new : Option (List ℕ)) (failed failed' : ℕ) (said text : List ℕ) (due result : Status) → said ≡ text → SaysText old new failed failed' said due result

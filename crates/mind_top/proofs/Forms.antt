@@ -1,8 +1,8 @@
 -- Words are of one form at most.
-use Rattle.std.proofs.Common.{◌≡◌, ℕ, ◌<◌, ◌≤◌, ◌∙◌, codes, List, [], ◌∷◌, length, get_or, map, string_bytes, String, Global, Result, Ok, ap, sym, refl, subst, arith}
+use Rattle.std.proofs.Common.{◌≡◌, ℕ, ◌<◌, ◌≤◌, ◌∙◌, codes, List, [], ◌∷◌, length, get_or, map, string_bytes, String, Global, Option, Result, Ok, ap, sym, refl, subst, arith}
 use Rattle.std.proofs.lemmas.List.{length-map}
 use Rattle.mind_inputs.specs.Words.{Paths}
-use Rattle.mind_top.specs.Asked.{form_asked}
+use Rattle.mind_top.specs.Asked.{form_asked, IsAsked}
 use Rattle.mind_base.specs.Number.{number_of}
 use Rattle.mind_base.specs.declared.numbers.NumberFault.{NumberFault}
 use Rattle.mind_top.specs.Words.{Form, Run, Check, Make, Load, run_word, IsNumber, IsDrawn, IsForm, IsNoForm}
@@ -79,6 +79,27 @@ no-form words (Load rack count seed) (run, journal, check, make, load) is = load
 pub asked-as : (words : List (List ℕ)) (a b : Asked) → a ≡ b → IsForm words (form_asked a) → IsForm words (form_asked b)
 asked-as words a b same is = let P : Asked → Type 0 = λ x. IsForm words (form_asked x) in subst P same is
 
+-- ---- four words
+
+-- four words by their numbers
+four-are : (words : List (String Global)) (w r t f : String Global) → 4 ≤ length words → length words < 5 → w ≡ get_or words 0 w → r ≡ get_or words 1 r → t ≡ get_or words 2 t → f ≡ get_or words 3 f
+    → map string_bytes words ≡ string_bytes w ∷ string_bytes r ∷ string_bytes t ∷ string_bytes f ∷ []
+four-are [] w r t f least most ew er et ef = absurd (omega arith)
+four-are (a ∷ []) w r t f least most ew er et ef = absurd (omega arith)
+four-are (a ∷ b ∷ []) w r t f least most ew er et ef = absurd (omega arith)
+four-are (a ∷ b ∷ c ∷ []) w r t f least most ew er et ef = absurd (omega arith)
+four-are (a ∷ b ∷ c ∷ d ∷ []) w r t f least most ew er et ef = λ i. string_bytes (sym ew i) ∷ string_bytes (sym er i) ∷ string_bytes (sym et i) ∷ string_bytes (sym ef i) ∷ []
+four-are (a ∷ b ∷ c ∷ d ∷ e ∷ more) w r t f least most ew er et ef = absurd (omega arith)
+
+-- what they ask for, as they are read one by one
+pub asked-of-four : (words : List (String Global)) (w r t f : String Global) (a b c d : List ℕ) (asked : Option Asked) → 4 ≤ length words → length words < 5
+    → w ≡ get_or words 0 w → r ≡ get_or words 1 r → t ≡ get_or words 2 t → f ≡ get_or words 3 f
+    → a ≡ string_bytes w → b ≡ string_bytes r → c ≡ string_bytes t → d ≡ string_bytes f → IsAsked (a ∷ b ∷ c ∷ d ∷ []) asked → IsAsked (map string_bytes words) asked
+asked-of-four words w r t f a b c d asked least most ew er et ef ea eb ec ed is =
+    let P : List (List ℕ) → Type 0 = λ all. IsAsked all asked in
+    let all : a ∷ b ∷ c ∷ d ∷ [] ≡ map string_bytes words = (λ i. ea i ∷ eb i ∷ ec i ∷ ed i ∷ []) ∙ sym (four-are words w r t f least most ew er et ef) in
+    subst P all is
+
 -- ---- words of no form
 
 -- as many as no form has
@@ -92,16 +113,6 @@ wrong-length words three four =
       (λ rack count seed d. four (omega (arith, long, ap length d.words_are))),
     )
 
--- four words by their numbers
-four-are : (words : List (String Global)) (w r t f : String Global) → 4 ≤ length words → length words < 5 → w ≡ get_or words 0 w → r ≡ get_or words 1 r → t ≡ get_or words 2 t → f ≡ get_or words 3 f
-    → map string_bytes words ≡ string_bytes w ∷ string_bytes r ∷ string_bytes t ∷ string_bytes f ∷ []
-four-are [] w r t f least most ew er et ef = absurd (omega arith)
-four-are (a ∷ []) w r t f least most ew er et ef = absurd (omega arith)
-four-are (a ∷ b ∷ []) w r t f least most ew er et ef = absurd (omega arith)
-four-are (a ∷ b ∷ c ∷ []) w r t f least most ew er et ef = absurd (omega arith)
-four-are (a ∷ b ∷ c ∷ d ∷ []) w r t f least most ew er et ef = λ i. string_bytes (sym ew i) ∷ string_bytes (sym er i) ∷ string_bytes (sym et i) ∷ string_bytes (sym ef i) ∷ []
-four-are (a ∷ b ∷ c ∷ d ∷ e ∷ more) w r t f least most ew er et ef = absurd (omega arith)
-
 -- no numbers that a schedule could be made by
 abbrev AreNoNumbers : List ℕ → List ℕ → Type 0
 AreNoNumbers count seed = (n m : ℕ) → IsNumber count 200000 n → IsNumber seed 4294967295 m → ⊥
@@ -112,47 +123,23 @@ none-drawn name words rack count seed is none other n m d =
     let e = sym d.words_are ∙ is in
     none n m (subst (λ w. IsNumber w 200000 n) (ap (word-at 2) e) d.count_is) (subst (λ w. IsNumber w 4294967295 m) (ap (word-at 3) e) d.seed_is)
 
-make-none : (words : List (List ℕ)) (rack count seed : List ℕ) → words ≡ codes "make" ∷ rack ∷ count ∷ seed ∷ [] → AreNoNumbers count seed → IsNoForm words
-make-none words rack count seed is none = (
-  (λ paths e. omega (arith, ap length (sym e ∙ is))),
-  (λ paths e. omega (arith, ap length (sym e ∙ is))),
-  (λ paths journal e. omega (arith, ap first-letter (sym e ∙ is))),
-  none-drawn (codes "make") words rack count seed is none,
-  (λ other n m d. omega (arith, ap first-letter (sym d.words_are ∙ is))),
-)
+-- four words, of which the first is this name and the last two are no numbers
+pub make-none : (word rack count seed : List ℕ) → word ≡ codes "make" → AreNoNumbers count seed → IsNoForm (word ∷ rack ∷ count ∷ seed ∷ [])
+make-none word rack count seed named none =
+    let is : word ∷ rack ∷ count ∷ seed ∷ [] ≡ codes "make" ∷ rack ∷ count ∷ seed ∷ [] = λ i. named i ∷ rack ∷ count ∷ seed ∷ [] in (
+      (λ paths e. omega (arith, ap length (sym e ∙ is))),
+      (λ paths e. omega (arith, ap length (sym e ∙ is))),
+      (λ paths journal e. omega (arith, ap first-letter (sym e ∙ is))),
+      none-drawn (codes "make") _ rack count seed is none,
+      (λ other n m d. omega (arith, ap first-letter (sym d.words_are ∙ is))),
+    )
 
-load-none : (words : List (List ℕ)) (rack count seed : List ℕ) → words ≡ codes "load" ∷ rack ∷ count ∷ seed ∷ [] → AreNoNumbers count seed → IsNoForm words
-load-none words rack count seed is none = (
-  (λ paths e. omega (arith, ap length (sym e ∙ is))),
-  (λ paths e. omega (arith, ap length (sym e ∙ is))),
-  (λ paths journal e. omega (arith, ap first-letter (sym e ∙ is))),
-  (λ other n m d. omega (arith, ap first-letter (sym d.words_are ∙ is))),
-  none-drawn (codes "load") words rack count seed is none,
-)
-
--- what was found of four words: the first is this name, and the last two are no numbers
-pub record AreUnnumbered (name : List ℕ) (words : List (String Global)) (w r t f : String Global) (first count seed : List ℕ) : Type 0 where
-  pub least : 4 ≤ length words
-  pub most : length words < 5
-  pub at_first : w ≡ get_or words 0 w
-  pub at_rack : r ≡ get_or words 1 r
-  pub at_third : t ≡ get_or words 2 t
-  pub at_fourth : f ≡ get_or words 3 f
-  pub named : first ≡ name
-  pub first_is : first ≡ string_bytes w
-  pub count_is : count ≡ string_bytes t
-  pub seed_is : seed ≡ string_bytes f
-  pub none : AreNoNumbers count seed
-
-words-of : (name : List ℕ) (words : List (String Global)) (w r t f : String Global) (first count seed : List ℕ) → AreUnnumbered name words w r t f first count seed
-    → map string_bytes words ≡ name ∷ string_bytes r ∷ count ∷ seed ∷ []
-words-of name words w r t f first count seed u =
-    let named : string_bytes w ≡ name = sym u.first_is ∙ u.named in
-    four-are words w r t f u.least u.most u.at_first u.at_rack u.at_third u.at_fourth
-    ∙ (λ i. named i ∷ string_bytes r ∷ sym u.count_is i ∷ sym u.seed_is i ∷ [])
-
-pub make-unnumbered : (words : List (String Global)) (w r t f : String Global) (first count seed : List ℕ) → AreUnnumbered (codes "make") words w r t f first count seed → IsNoForm (map string_bytes words)
-make-unnumbered words w r t f first count seed u = make-none (map string_bytes words) (string_bytes r) count seed (words-of (codes "make") words w r t f first count seed u) u.none
-
-pub load-unnumbered : (words : List (String Global)) (w r t f : String Global) (first count seed : List ℕ) → AreUnnumbered (codes "load") words w r t f first count seed → IsNoForm (map string_bytes words)
-load-unnumbered words w r t f first count seed u = load-none (map string_bytes words) (string_bytes r) count seed (words-of (codes "load") words w r t f first count seed u) u.none
+pub load-none : (word rack count seed : List ℕ) → word ≡ codes "load" → AreNoNumbers count seed → IsNoForm (word ∷ rack ∷ count ∷ seed ∷ [])
+load-none word rack count seed named none =
+    let is : word ∷ rack ∷ count ∷ seed ∷ [] ≡ codes "load" ∷ rack ∷ count ∷ seed ∷ [] = λ i. named i ∷ rack ∷ count ∷ seed ∷ [] in (
+      (λ paths e. omega (arith, ap length (sym e ∙ is))),
+      (λ paths e. omega (arith, ap length (sym e ∙ is))),
+      (λ paths journal e. omega (arith, ap first-letter (sym e ∙ is))),
+      (λ other n m d. omega (arith, ap first-letter (sym d.words_are ∙ is))),
+      none-drawn (codes "load") _ rack count seed is none,
+    )

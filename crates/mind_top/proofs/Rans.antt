@@ -15,8 +15,7 @@ use Rattle.mind_base.specs.declared.plans.RackPlan.{RackPlan}
 use Rattle.schedule_text.specs.Event.{IsEventOf}
 use Rattle.schedule_text.specs.Link.{ends_of}
 use Rattle.schedule_text.specs.Size.{sizes_of}
-use Rattle.mind_inputs.specs.Inputs.{IsBuilt, Accepted}
-use Rattle.mind_inputs.specs.declared.stopped.Stopped.{Stopped}
+use Rattle.mind_inputs.specs.Inputs.{IsBuilt, IsRunnable, Accepted}
 use Rattle.mind_steps.specs.Run.{setup_of, event_number, events, below, IsWholeRun, Stands}
 use Rattle.mind_steps.proofs.Fronts.{stands-whole, stands-event}
 use Rattle.rack_core.specs.Noted.{StandsIn, AreInPlace}
@@ -98,15 +97,13 @@ event-fits plan event.Epoch built is = inr tt
 event-fits plan (event.Ask command) built is = absurd (let no : false ≡ true = built in cc)
 event-fits plan event.Settle built is = inl refl
 
-pub events-fit : (plan : RackPlan) (es : List Event) → AllByRecursion IsBuilt es → AllByRecursion (IsEventOf plan) es → AllByRecursion (IsRunFor plan) es
-events-fit plan [] built are = tt
-events-fit plan (e ∷ es) built are = (event-fits plan e built.0 are.0, events-fit plan es built.1 are.1)
+built-fit : (plan : RackPlan) (es : List Event) → AllByRecursion IsBuilt es → AllByRecursion (IsEventOf plan) es → AllByRecursion (IsRunFor plan) es
+built-fit plan [] built are = tt
+built-fit plan (e ∷ es) built are = (event-fits plan e built.0 are.0, built-fit plan es built.1 are.1)
 
--- those that were brought
-pub brought_fit : (loaded : Result Accepted Stopped) → IfOk loaded (λ inputs. AllByRecursion IsBuilt inputs.events) → IfOk loaded (λ inputs. AllByRecursion (IsEventOf inputs.plan) inputs.events)
-    → IfOk loaded (λ inputs. AllByRecursion (IsRunFor inputs.plan) inputs.events)
-brought_fit (Ok inputs) built are = events-fit inputs.plan inputs.events built are
-brought_fit (Err why) built are = tt
+-- those of inputs that a rack can run
+pub events-fit : (inputs : Accepted) → IsRunnable inputs → AllByRecursion (IsRunFor inputs.plan) inputs.events
+events-fit inputs runnable = built-fit inputs.plan inputs.events runnable.built runnable.numbers
 
 -- all of them, of a rack of the same plan
 pub fit-by : (plan other : RackPlan) (es xs : List Event) → other ≡ plan → xs ≡ es → AllByRecursion (IsRunFor plan) es → AllByRecursion (IsRunFor other) xs

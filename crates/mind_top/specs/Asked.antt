@@ -1,6 +1,6 @@
 -- What the code found the words to ask for.
-use Rattle.std.specs.Prelude.{◌≤◌}
-use Rattle.mind_top.specs.Words.{Form, Run, Check, Make, Load}
+use Rattle.std.specs.Prelude.{◌≤◌, ℕ, List, Option, Some, None}
+use Rattle.mind_top.specs.Words.{Form, Run, Check, Make, Load, IsForm, IsNoForm}
 use Rattle.mind_top.specs.declared.words.Asked.{Asked}
 use Rattle.mind_top.specs.declared.words.Asked.TheVariants as asked
 
@@ -9,6 +9,11 @@ form_asked (asked.Run output rack schedule) = Run output (record { rack = rack.n
 form_asked (asked.Check rack schedule journal) = Check (record { rack = rack.now; schedule = schedule.now }) journal.now
 form_asked (asked.Make rack count seed) = Make rack.now count seed
 form_asked (asked.Load rack count seed) = Load rack.now count seed
+
+-- the words ask for this, or are of no form
+abbrev pub IsAsked : List (List ℕ) → Option Asked → Type 0
+IsAsked words (Some asked) = IsForm words (form_asked asked)
+IsAsked words None = IsNoForm words
 
 -- not too many lines are to be drawn
 abbrev pub IsFew : Asked → Type 0

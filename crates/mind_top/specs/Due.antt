@@ -1,6 +1,6 @@
 -- What is due: by the form of the words and the files that they name.
-use Rattle.std.specs.Prelude.{◌≡◌, ◌⊎◌, ℕ, false, codes, List, [], ◌∷◌, ◌++◌, Option, None, Result, Ok, Err}
-use Rattle.std.specs.Fmt.{digits}
+use Rattle.std.specs.Prelude.{◌≡◌, ◌⊎◌, ℕ, codes, List, [], ◌∷◌, ◌++◌, Option, None, Result, Ok, Err}
+use Rattle.std.specs.Fmt.{decimal}
 use Rattle.std.specs.FinMap as finite
 use Rattle.mind_base.specs.Store.{Files, Rises}
 use Rattle.mind_base.specs.declared.plans.RackPlan.{RackPlan}
@@ -32,7 +32,7 @@ abbrev pub IsStuck : Checkable → ℕ → Type 0
 IsStuck inputs label = IsStuckAt (setup_by inputs.accepted) inputs.notes label
 
 abbrev pub not_a_run_line : ℕ → List ℕ
-not_a_run_line label = codes "not a run: label " ++ digits 10 false label ++ 10 ∷ []
+not_a_run_line label = codes "not a run: label " ++ decimal label ++ 10 ∷ []
 
 -- ---- by the form
 

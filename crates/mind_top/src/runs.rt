@@ -1,10 +1,9 @@
 //! The forms that run a schedule on a rack: `run`, `journal` and `load`.
 
-ghost use Rattle.std.specs.Prelude.{◌≡◌, ◌≤◌, [], length, None, IfOk};
-ghost use Rattle.std.specs.List.{AllByRecursion};
+ghost use Rattle.std.specs.Prelude.{◌≡◌, ◌≤◌, [], length, IfOk};
 ghost use Rattle.mind_base.specs.Fit.{IsFit, FitImages};
+ghost use Rattle.mind_inputs.specs.Inputs.{IsRunnable};
 ghost use Rattle.mind_steps.specs.Run.{events, below, IsWholeRun};
-ghost use Rattle.rack_settle.specs.Ran.{IsRunFor};
 ghost use Rattle.mind_top.specs.Headline.{setup_by, IsTextOf};
 ghost use Rattle.mind_top.specs.Left.{Left};
 ghost use Rattle.mind_top.specs.Parts.{RunEnds, LoadedEnds};
@@ -34,7 +33,7 @@ fn text_of(alloc: Global, output: Output, loaded: &Loaded, log: &Log) -> Result<
     }
 }
 
-/// Ends a run that went through all its events: its rack is left, and what is asked for is written.
+/// Ends a run that went through all its events: what is asked for is written, and its rack is left.
 fn finish<K: Sink>(
     alloc: Global,
     output: Output,
@@ -42,55 +41,42 @@ fn finish<K: Sink>(
     rack: Rack,
     sink: &mut K,
     log: &Log,
-    end: &mut Option<Rack>,
-) -> Status
+) -> (Status, Option<Rack>)
     requires fit { IsFit loaded.now.plan }
     requires images { FitImages loaded.now.plan.images loaded.now.images }
     requires ran { RanThrough loaded.now log.now.notes rack }
     requires events { events log.now.notes ≡ below (length loaded.now.events) }
-    requires none { end.old ≡ None }
-    ensures ends { RunEnds output loaded.now (record { log = log.now.notes; end = end.new }) (K.written sink.old) (K.written sink.new) (K.faults sink.old) (K.faults sink.new) result }
+    ensures ends { RunEnds output loaded.now (record { log = log.now.notes; end = result.1 }) (K.written sink.old) (K.written sink.new) (K.faults sink.old) (K.faults sink.new) result.0 }
     ensures failed { K.faults sink.old ≤ K.faults sink.new }
 {
     match text_of(alloc, output, loaded, log) {
-        Ok(text) => {
-            *end = Some(rack);
-            say(sink, text.as_slice(), Status::Done)
-        }
-        Err(NoMemory) => Status::NoMemory,
+        Ok(text) => (say(sink, text.as_slice(), Status::Done), Some(rack)),
+        Err(NoMemory) => (Status::NoMemory, None),
     }
 }
 
-/// Runs accepted inputs on a rack from its start and writes what is asked for.
+/// Runs accepted inputs on a rack from its start, writes what is asked for, and leaves the rack.
 pub fn run<K: Sink>(
     alloc: Global,
     output: Output,
     loaded: &Loaded,
     sink: &mut K,
     log: &mut Log,
-    end: &mut Option<Rack>,
-) -> Status
-    requires fit { IsFit loaded.now.plan }
-    requires images { FitImages loaded.now.plan.images loaded.now.images }
-    requires events { AllByRecursion (IsRunFor loaded.now.plan) loaded.now.events }
-    requires few { length loaded.now.events ≤ 1000000 }
+) -> (Status, Option<Rack>)
+    requires runnable { IsRunnable loaded.now }
     requires empty { log.old.notes ≡ [] }
-    requires none { end.old ≡ None }
-    ensures ends { RunEnds output loaded.now (record { log = log.new.notes; end = end.new }) (K.written sink.old) (K.written sink.new) (K.faults sink.old) (K.faults sink.new) result }
+    ensures ends { RunEnds output loaded.now (record { log = log.new.notes; end = result.1 }) (K.written sink.old) (K.written sink.new) (K.faults sink.old) (K.faults sink.new) result.0 }
     ensures failed { K.faults sink.old ≤ K.faults sink.new }
 {
     let mut rack = match Rack::start(alloc, &loaded.plan) {
         Ok(rack) => rack,
-        Err(NoMemory) => return Status::NoMemory,
+        Err(NoMemory) => return (Status::NoMemory, None),
     };
     let images = loaded.images.as_slice();
     match run_all(alloc, images, loaded.events.as_slice(), &mut rack, log) {
-        Ok(()) => finish(alloc, output, loaded, rack, sink, log, end),
-        Err(Stop::Spent) => {
-            *end = Some(rack);
-            Status::Spent
-        }
-        Err(Stop::NoMemory) => Status::NoMemory,
+        Ok(()) => finish(alloc, output, loaded, rack, sink, log),
+        Err(Stop::Spent) => (Status::Spent, Some(rack)),
+        Err(Stop::NoMemory) => (Status::NoMemory, None),
     }
 }
 
@@ -101,19 +87,14 @@ pub fn run_loaded<K: Sink>(
     loaded: Result<Loaded, Stopped>,
     sink: &mut K,
     log: &mut Log,
-    end: &mut Option<Rack>,
-) -> Status
-    requires fit { IfOk loaded (λ inputs. IsFit inputs.plan) }
-    requires images { IfOk loaded (λ inputs. FitImages inputs.plan.images inputs.images) }
-    requires events { IfOk loaded (λ inputs. AllByRecursion (IsRunFor inputs.plan) inputs.events) }
-    requires few { IfOk loaded (λ inputs. length inputs.events ≤ 1000000) }
+) -> (Status, Option<Rack>)
+    requires runnable { IfOk loaded (λ inputs. IsRunnable inputs) }
     requires empty { log.old.notes ≡ [] }
-    requires none { end.old ≡ None }
-    ensures ends { LoadedEnds output (record { log = log.new.notes; end = end.new }) (K.written sink.old) (K.written sink.new) (K.faults sink.old) (K.faults sink.new) result loaded }
+    ensures ends { LoadedEnds output (record { log = log.new.notes; end = result.1 }) (K.written sink.old) (K.written sink.new) (K.faults sink.old) (K.faults sink.new) result.0 loaded }
     ensures failed { K.faults sink.old ≤ K.faults sink.new }
 {
     match &loaded {
-        Ok(loaded) => run(alloc, output, loaded, sink, log, end),
-        Err(stopped) => stop(alloc, stopped, sink),
+        Ok(loaded) => run(alloc, output, loaded, sink, log),
+        Err(stopped) => (stop(alloc, stopped, sink), None),
     }
 }

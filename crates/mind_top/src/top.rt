@@ -29,25 +29,23 @@ use std::alloc::Global;
 const USAGE_LINE: &[u8; 130] =
     b"usage: mind run RACK SCHEDULE | journal RACK SCHEDULE | check RACK SCHEDULE JOURNAL | make RACK COUNT SEED | load RACK COUNT SEED\n";
 
-#[tactic(auto, using(crate::proofs::Rans::brought_fit))]
+/// Answers the words, and gives the rack that is left.
 fn top<S: Store, K: Sink>(
     alloc: Global,
     words: &[String],
     store: &mut S,
     sink: &mut K,
     log: &mut Log,
-    end: &mut Option<Rack>,
-) -> Status
+) -> (Status, Option<Rack>)
     requires empty { log.old.notes ≡ [] }
-    requires none { end.old ≡ None }
     ensures outside { KeepsOutside (S.holds store.old) (S.holds store.new)
         (counts (S.faults store.old) (S.missed store.old) (K.faults sink.old)) (counts (S.faults store.new) (S.missed store.new) (K.faults sink.new)) }
-    ensures ends { EndsWith (S.holds store.old) (map string_bytes words.now) (record { log = log.new.notes; end = end.new })
+    ensures ends { EndsWith (S.holds store.old) (map string_bytes words.now) (record { log = log.new.notes; end = result.1 })
         (counts (S.faults store.old) (S.missed store.old) (K.faults sink.old)) (counts (S.faults store.new) (S.missed store.new) (K.faults sink.new))
-        (K.written sink.old) (K.written sink.new) result }
+        (K.written sink.old) (K.written sink.new) result.0 }
 {
     match asked_of(words) {
-        None => say(sink, USAGE_LINE, Status::Usage),
+        None => (say(sink, USAGE_LINE, Status::Usage), None),
         Some(
             Asked::Run {
                 output,
@@ -56,7 +54,7 @@ fn top<S: Store, K: Sink>(
             },
         ) => {
             let loaded = load(alloc, store, rack, schedule);
-            run_loaded(alloc, output, loaded, sink, log, end)
+            run_loaded(alloc, output, loaded, sink, log)
         }
         Some(
             Asked::Check {
@@ -64,13 +62,17 @@ fn top<S: Store, K: Sink>(
                 schedule,
                 journal,
             },
-        ) => answer_check(alloc, rack, schedule, journal, store, sink),
+        ) => {
+            let status = answer_check(alloc, rack, schedule, journal, store, sink);
+            (status, None)
+        }
         Some(Asked::Make { rack, count, seed }) => {
-            answer_make(alloc, rack, count, seed, store, sink)
+            let status = answer_make(alloc, rack, count, seed, store, sink);
+            (status, None)
         }
         Some(Asked::Load { rack, count, seed }) => {
             let loaded = load_made(alloc, store, rack, count, seed);
-            run_loaded(alloc, Output::Report, loaded, sink, log, end)
+            run_loaded(alloc, Output::Report, loaded, sink, log)
         }
     }
 }
@@ -164,5 +166,7 @@ pub fn mind<S: Store, K: Sink>(
     ensures missed { S.missed store.old ≤ S.missed store.new }
     ensures failed { K.faults sink.old ≤ K.faults sink.new }
 {
-    top(alloc, words, store, sink, log, end)
+    let (status, rack) = top(alloc, words, store, sink, log);
+    *end = rack;
+    status
 }

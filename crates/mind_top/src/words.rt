@@ -1,8 +1,8 @@
 //! The words that the program is started with.
 
-ghost use Rattle.std.specs.Prelude.{◌≡◌, ◌↔◌, ◌≤◌, ℕ, map, string_bytes, IsTrue, IfSome, MatchOption};
-ghost use Rattle.mind_top.specs.Words.{IsNumber, IsForm, IsNoForm};
-ghost use Rattle.mind_top.specs.Asked.{form_asked, IsFew};
+ghost use Rattle.std.specs.Prelude.{◌≡◌, ◌↔◌, ◌≤◌, ℕ, [], ◌∷◌, map, string_bytes, IsTrue, IfSome, MatchOption};
+ghost use Rattle.mind_top.specs.Words.{IsNumber};
+ghost use Rattle.mind_top.specs.Asked.{IsAsked, IsFew};
 
 use mind_base::number;
 
@@ -79,10 +79,48 @@ fn drawn_in(count: &str, seed: &str) -> Option<Drawn>
     Some(Drawn { count, seed })
 }
 
+/// What four words ask for, where they are of a form.
+fn asked_by_four<'a>(
+    word: &str,
+    rack: &'a str,
+    third: &'a str,
+    fourth: &'a str,
+) -> Option<Asked<'a>>
+    ensures asked { IsAsked (word.now ∷ rack.now ∷ third.now ∷ fourth.now ∷ []) result }
+    ensures few { IfSome result (λ asked. IsFew asked) }
+{
+    if is_word(word, "check") {
+        Some(Asked::Check {
+            rack,
+            schedule: third,
+            journal: fourth,
+        })
+    } else if is_word(word, "make") {
+        match drawn_in(third, fourth) {
+            Some(drawn) => Some(Asked::Make {
+                rack,
+                count: drawn.count,
+                seed: drawn.seed,
+            }),
+            None => None,
+        }
+    } else if is_word(word, "load") {
+        match drawn_in(third, fourth) {
+            Some(drawn) => Some(Asked::Load {
+                rack,
+                count: drawn.count,
+                seed: drawn.seed,
+            }),
+            None => None,
+        }
+    } else {
+        None
+    }
+}
+
 /// What the words ask for, where they are of a form.
 pub fn asked_of(words: &[String]) -> Option<Asked>
-    ensures asked { MatchOption result (IsNoForm (map string_bytes words.now))
-        (λ asked. IsForm (map string_bytes words.now) (form_asked asked)) }
+    ensures asked { IsAsked (map string_bytes words.now) result }
     ensures few { IfSome result (λ asked. IsFew asked) }
 {
     match words {
@@ -101,33 +139,14 @@ pub fn asked_of(words: &[String]) -> Option<Asked>
         } else {
             None
         },
-        [word, rack, third, fourth] => if is_word(word.as_str(), "check") {
-            Some(Asked::Check {
-                rack: rack.as_str(),
-                schedule: third.as_str(),
-                journal: fourth.as_str(),
-            })
-        } else if is_word(word.as_str(), "make") {
-            match drawn_in(third.as_str(), fourth.as_str()) {
-                Some(drawn) => Some(Asked::Make {
-                    rack: rack.as_str(),
-                    count: drawn.count,
-                    seed: drawn.seed,
-                }),
-                None => None,
-            }
-        } else if is_word(word.as_str(), "load") {
-            match drawn_in(third.as_str(), fourth.as_str()) {
-                Some(drawn) => Some(Asked::Load {
-                    rack: rack.as_str(),
-                    count: drawn.count,
-                    seed: drawn.seed,
-                }),
-                None => None,
-            }
-        } else {
-            None
-        },
+        [word, rack, third, fourth] => {
+            asked_by_four(
+                word.as_str(),
+                rack.as_str(),
+                third.as_str(),
+                fourth.as_str(),
+            )
+        }
         [] => None,
         [_] => None,
         [_, _] => None,

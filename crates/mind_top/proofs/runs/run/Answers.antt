@@ -4,21 +4,21 @@ use Rattle.mind_steps.proofs.Fronts.{stands-empty}
 use Rattle.rack_core.specs.Start.{IsStart}
 use Rattle.mind_top.specs.Headline.{setup_by}
 use Rattle.mind_top.proofs.Headlines.{all-events, is-stopped, ran-through, stands-for}
-use Rattle.mind_top.proofs.Rans.{fit-by, stopped-stands}
+use Rattle.mind_top.proofs.Rans.{events-fit, fit-by, stopped-stands}
 use Rattle.mind_top.proofs.runs.run.Goals as goal
 
 pub returns-in-Err-clause-ends : goal.returns-in-Err-clause-ends
-returns-in-Err-clause-ends g c = inl (refl, refl, c.requires.none, stands-empty (setup_by c.args.loaded.now) c.args.log.now.notes c.requires.empty)
+returns-in-Err-clause-ends g c = inl (refl, refl, refl, stands-empty (setup_by c.args.loaded.now) c.args.log.now.notes c.requires.empty)
 
 pub run_all-requires-clause-fit : goal.run_all-requires-clause-fit
 run_all-requires-clause-fit g c = fit-by c.args.loaded.now.plan c.in-Ok.rack.plan c.args.loaded.now.events c.as_slice.result.now
     (c.in-Ok.ensures.start.of_plan ∙ ap (λ (a : Accepted). a.plan) c.loaded.view_is)
-    (c.as_slice.ensures ∙ ap (λ (a : Accepted). a.events) c.loaded.view_is) c.requires.events
+    (c.as_slice.ensures ∙ ap (λ (a : Accepted). a.events) c.loaded.view_is) (events-fit c.args.loaded.now c.requires.runnable)
 
 pub finish-requires-clause-ran : goal.finish-requires-clause-ran
 finish-requires-clause-ran g c = ran-through c.args.loaded.now c.as_slice-images.result.now c.as_slice.result.now c.in-Ok.rack c.run_all.new.rack c.run_all.new.log.notes
     (c.as_slice-images.ensures ∙ ap (λ (a : Accepted). a.images) c.loaded.view_is) (c.as_slice.ensures ∙ ap (λ (a : Accepted). a.events) c.loaded.view_is)
-    c.requires.fit c.requires.events
+    c.requires.runnable.fit (events-fit c.args.loaded.now c.requires.runnable)
     (subst (λ p. IsStart p c.in-Ok.rack) (ap (λ (a : Accepted). a.plan) c.loaded.view_is) c.in-Ok.ensures.start) c.in-Ok-run_all.ensures.ok
 
 pub finish-requires-clause-events : goal.finish-requires-clause-events
@@ -29,7 +29,7 @@ pub returns-in-Err-NoMemory-clause-ends : goal.returns-in-Err-NoMemory-clause-en
 returns-in-Err-NoMemory-clause-ends g c = inl (
   refl,
   refl,
-  c.requires.none,
+  refl,
   stands-for c.args.loaded.now c.in-Ok.rack.plan c.as_slice-images.result.now c.run_all.new.log.notes
       (c.in-Ok.ensures.start.of_plan ∙ ap (λ (a : Accepted). a.plan) c.loaded.view_is)
       (c.as_slice-images.ensures ∙ ap (λ (a : Accepted). a.images) c.loaded.view_is)

@@ -1,4 +1,4 @@
-use Rattle.std.proofs.Common.{refl}
+use Rattle.std.proofs.Common.{refl, None}
 use Rattle.mind_top.specs.Words.{usage_line}
 use Rattle.mind_top.specs.declared.statuses.Status.TheVariants as status
 use Rattle.mind_top.proofs.Ends.{said, with-nothing, run-answered, load-answered}
@@ -7,24 +7,24 @@ use Rattle.mind_top.proofs.top.top.Goals as goal
 
 pub returns-in-None-clause-ends : goal.returns-in-None-clause-ends
 returns-in-None-clause-ends g c =
-    said (g.S.Store.holds c.args.store.now) _ (record { log = c.args.log.now.notes; end = c.args.end.now }) _ _ _ _ usage_line status.Usage c.say.result (c.in-None.ensures.asked, (c.requires.empty, c.requires.none), refl) c.say.ensures.says
+    said (g.S.Store.holds c.args.store.now) _ (record { log = c.args.log.now.notes; end = None }) _ _ _ _ usage_line status.Usage c.say.result (c.in-None.ensures.asked, (c.requires.empty, refl), refl) c.say.ensures.says
 
 pub returns-in-Some-Run-clause-ends : goal.returns-in-Some-Run-clause-ends
 returns-in-Some-Run-clause-ends g c =
-    run-answered (g.S.Store.holds c.args.store.now) _ _ _ c.load-loaded.result (record { log = c.run_loaded.new.log.notes; end = c.run_loaded.new.end }) _ _ _ _ c.run_loaded.result
+    run-answered (g.S.Store.holds c.args.store.now) _ _ _ c.load-loaded.result (record { log = c.run_loaded.new.log.notes; end = c.run_loaded.result.1 }) _ _ _ _ c.run_loaded.result.0
     (asked-as _ _ _ c.in-Some-Run.field-0-is c.in-Some-Run.ensures.asked) c.load-loaded.ensures.loads c.run_loaded.ensures.ends
 
 pub returns-in-Some-Check-clause-ends : goal.returns-in-Some-Check-clause-ends
 returns-in-Some-Check-clause-ends g c =
-    with-nothing (g.S.Store.holds c.args.store.now) _ c.args.log.now.notes c.args.end.now _ _ _ _ c.answer_check.result c.requires.empty c.requires.none
-    (c.answer_check.ensures.answers _ (asked-as _ _ _ c.in-Some-Check.field-0-is c.in-Some-Check.ensures.asked))
+    with-nothing (g.S.Store.holds c.args.store.now) _ c.args.log.now.notes _ _ _ _ c.answer_check-status.result c.requires.empty
+    (c.answer_check-status.ensures.answers _ (asked-as _ _ _ c.in-Some-Check.field-0-is c.in-Some-Check.ensures.asked))
 
 pub returns-in-Some-Make-clause-ends : goal.returns-in-Some-Make-clause-ends
 returns-in-Some-Make-clause-ends g c =
-    with-nothing (g.S.Store.holds c.args.store.now) _ c.args.log.now.notes c.args.end.now _ _ _ _ c.answer_make.result c.requires.empty c.requires.none
-    (c.answer_make.ensures.answers _ (asked-as _ _ _ c.in-Some-Make.field-0-is c.in-Some-Make.ensures.asked))
+    with-nothing (g.S.Store.holds c.args.store.now) _ c.args.log.now.notes _ _ _ _ c.answer_make-status.result c.requires.empty
+    (c.answer_make-status.ensures.answers _ (asked-as _ _ _ c.in-Some-Make.field-0-is c.in-Some-Make.ensures.asked))
 
 pub returns-in-Some-Load-clause-ends : goal.returns-in-Some-Load-clause-ends
 returns-in-Some-Load-clause-ends g c =
-    load-answered (g.S.Store.holds c.args.store.now) _ _ _ _ c.load_made-loaded.result (record { log = c.run_loaded-in-Some-Load.new.log.notes; end = c.run_loaded-in-Some-Load.new.end }) _ _ _ _ c.run_loaded-in-Some-Load.result
+    load-answered (g.S.Store.holds c.args.store.now) _ _ _ _ c.load_made-loaded.result (record { log = c.run_loaded-in-Some-Load.new.log.notes; end = c.run_loaded-in-Some-Load.result.1 }) _ _ _ _ c.run_loaded-in-Some-Load.result.0
     (asked-as _ _ _ c.in-Some-Load.field-0-is c.in-Some-Load.ensures.asked) c.load_made-loaded.ensures.loads c.run_loaded-in-Some-Load.ensures.ends

@@ -1,5 +1,5 @@
-use Rattle.std.proofs.Common.{refl, arith}
-use Rattle.mind_top.proofs.Forms.{wrong-length, make-unnumbered, load-unnumbered}
+use Rattle.std.proofs.Common.{arith}
+use Rattle.mind_top.proofs.Forms.{wrong-length, asked-of-four}
 use Rattle.mind_top.proofs.words.asked_of.Goals as goal
 
 pub returns-in-len1-clause-asked : goal.returns-in-len1-clause-asked
@@ -11,36 +11,9 @@ returns-in-len2-clause-asked c = wrong-length c.args.words.now (λ e. omega (ari
 pub returns-in-len5-up-clause-asked : goal.returns-in-len5-up-clause-asked
 returns-in-len5-up-clause-asked c = wrong-length c.args.words.now (λ e. omega (arith, e, c.in-len5-up.len_at_least)) (λ e. omega (arith, e, c.in-len5-up.len_at_least))
 
-pub returns-in-None-clause-asked : goal.returns-in-None-clause-asked
-returns-in-None-clause-asked c =
-    make-unnumbered c.args.words.now c.word-item-then-words-lt5.result c.rack-item-then-words-lt5.result c.third-item.result c.fourth-item.result
-    c.as_str-else-is_word-3.result.now c.as_str-then-is_word-4.result.now c.as_str-then-is_word-4-2.result.now (record {
-      least = c.in-len4.len_at_least;
-      most = c.in-len4.len_below;
-      at_first = c.word-item-then-words-lt5.is;
-      at_rack = c.rack-item-then-words-lt5.is;
-      at_third = c.third-item.is;
-      at_fourth = c.fourth-item.is;
-      named = c.if-is_word-4.ensures.0 refl;
-      first_is = c.as_str-else-is_word-3.ensures.value;
-      count_is = c.as_str-then-is_word-4.ensures.value;
-      seed_is = c.as_str-then-is_word-4-2.ensures.value;
-      none = c.in-None.ensures;
-    })
-
-pub returns-in-None-drawn_in-clause-asked : goal.returns-in-None-drawn_in-clause-asked
-returns-in-None-drawn_in-clause-asked c =
-    load-unnumbered c.args.words.now c.word-item-then-words-lt5.result c.rack-item-then-words-lt5.result c.third-item.result c.fourth-item.result
-    c.as_str-else-is_word-4.result.now c.as_str-then-is_word-5.result.now c.as_str-then-is_word-5-2.result.now (record {
-      least = c.in-len4.len_at_least;
-      most = c.in-len4.len_below;
-      at_first = c.word-item-then-words-lt5.is;
-      at_rack = c.rack-item-then-words-lt5.is;
-      at_third = c.third-item.is;
-      at_fourth = c.fourth-item.is;
-      named = c.if-is_word-5.ensures.0 refl;
-      first_is = c.as_str-else-is_word-4.ensures.value;
-      count_is = c.as_str-then-is_word-5.ensures.value;
-      seed_is = c.as_str-then-is_word-5-2.ensures.value;
-      none = c.in-None-drawn_in.ensures;
-    })
+pub returns-in-len4-clause-asked : goal.returns-in-len4-clause-asked
+returns-in-len4-clause-asked c =
+    asked-of-four c.args.words.now c.word-item-then-words-lt5.result c.rack-item-then-words-lt5.result c.third-item.result c.fourth-item.result
+    c.as_str-in-len4.result.now c.as_str-in-len4-2.result.now c.as_str-in-len4-3.result.now c.as_str-in-len4-4.result.now c.asked_by_four.result
+    c.in-len4.len_at_least c.in-len4.len_below c.word-item-then-words-lt5.is c.rack-item-then-words-lt5.is c.third-item.is c.fourth-item.is
+    c.as_str-in-len4.ensures.value c.as_str-in-len4-2.ensures.value c.as_str-in-len4-3.ensures.value c.as_str-in-len4-4.ensures.value c.asked_by_four.ensures.asked
