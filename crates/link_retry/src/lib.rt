@@ -5,8 +5,6 @@
 
 mod laws;
 mod links;
-#[cfg(test)]
-mod tests;
 mod wires;
 
 pub use laws::in_order;

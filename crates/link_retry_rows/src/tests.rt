@@ -1,6 +1,6 @@
 //! Frames that are lost, repeated and come early, by rows.
 
-use crate::Link;
+use link_retry::Link;
 use mind_base::Side;
 use std::alloc::Global;
 use std::process::Abort;
