@@ -5,6 +5,3 @@ mod queues;
 
 pub use mind_base::Pending;
 pub use queues::StoreQueue;
-
-#[cfg(test)]
-mod tests;

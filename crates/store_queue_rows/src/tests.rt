@@ -1,26 +1,28 @@
 //! A full queue.
 
-use super::*;
 use std::test::Fail;
+use store_queue::{Pending, StoreQueue};
 
 #[test]
 fn a_queue_of_two_refuses_the_third_store(rt: HostRuntime) -> Result<(), Fail> {
     let mut queue = StoreQueue::new(rt.alloc(), 2)?;
-    let word = Pending {
-        address: 0x1000,
-        size: 4,
-        value: 0x1122_3344,
-    };
-    let half = Pending {
-        address: 0x1002,
-        size: 2,
-        value: 0xaabb,
-    };
-    let byte = Pending {
-        address: 7,
-        size: 1,
-        value: 9,
-    };
+    let [word, half, byte] = [
+        Pending {
+            address: 0x1000,
+            size: 4,
+            value: 0x1122_3344,
+        },
+        Pending {
+            address: 0x1002,
+            size: 2,
+            value: 0xaabb,
+        },
+        Pending {
+            address: 7,
+            size: 1,
+            value: 9,
+        },
+    ];
     assert_eq!(rt; queue.front(), None);
     assert_eq!(rt; queue.push(word), Ok(()));
     assert!(rt; !queue.is_full());
