@@ -1,5 +1,5 @@
 -- A blade one of whose harts changes is a blade still.
-use Rattle.std.proofs.Common.{◌≡◌, ℕ, zero, suc, ◌<◌, ◌==◌, Bool, true, false, List, [], ◌∷◌, length, map, slice_get, slice_set, Option, Some, None, is_some, option_and_then, refl, sym, ap, subst, ◌∙◌, arith}
+use Rattle.std.proofs.Common.{◌≡◌, ℕ, zero, suc, ◌<◌, ◌==◌, Bool, true, false, List, [], ◌∷◌, length, map, get_or, slice_get, slice_set, Option, Some, None, IsSome, is_some, option_and_then, refl, sym, ap, subst, ◌∙◌, arith}
 use Rattle.std.specs.Prelude.{if◌then◌else◌}
 use Rattle.std.proofs.lemmas.List.{length-map, length-set}
 use Rattle.mind_base.specs.Fit.{IsFit}
@@ -10,7 +10,7 @@ use Rattle.page_cache.specs.PageCache.{CacheView}
 use Rattle.compute_blade.specs.Blade.{HartView, BladeView, IsBlade, IsHartOf, IsLike, StaysBlade, hart_of}
 use Rattle.compute_blade.specs.Harts.{first_hart}
 use Rattle.compute_blade.specs.Start.{first_blade, hart_for}
-use Rattle.compute_blade.proofs.Moving.{IsRead, moved, own_read, inner}
+use Rattle.compute_blade.proofs.Moving.{moved, own_read, read_here, inner}
 
 abbrev at : List (Option HartView) → ℕ → Option HartView
 at harts h = option_and_then (λ o. o) (slice_get harts h)
@@ -52,12 +52,12 @@ still_blade blade h hart hart' cache' is own same frames =
     }
 
 -- and stays the blade that it was, where the hart was read at its place
-pub stays_read : {blade now : BladeView} {i h : ℕ} {place : Option HartView} {hart : HartView} (hart' : HartView) (cache' : CacheView) → IsRead blade now i h place hart → IsBlade blade → IsLike hart hart'
-    → cache'.frames ≡ blade.cache.frames → StaysBlade now (moved blade i hart' cache')
-stays_read {blade} {now} {i} {h} {place} {hart} hart' cache' r is same frames = record {
-  plan = ap (λ b. b.plan) r.view;
-  number = ap (λ b. b.number) r.view;
-  shape = subst (λ j. IsBlade (moved blade j hart' cache')) (sym r.index) (still_blade blade h hart hart' cache' is (own_read blade now i h place hart r) same frames);
+pub stays_here : {blade now : BladeView} {i h : ℕ} {place : Option HartView} {hart : HartView} (hart' : HartView) (cache' : CacheView) → blade ≡ now → IsSome (hart_of now h) → i ≡ h → place ≡ get_or blade.harts i place → place ≡ Some hart
+    → IsBlade blade → IsLike hart hart' → cache'.frames ≡ blade.cache.frames → StaysBlade now (moved blade i hart' cache')
+stays_here {blade} {now} {i} {h} {place} {hart} hart' cache' view own index value is shape same frames = record {
+  plan = ap (λ b. b.plan) view;
+  number = ap (λ b. b.number) view;
+  shape = subst (λ j. IsBlade (moved blade j hart' cache')) (sym index) (still_blade blade h hart hart' cache' shape (own_read blade now i h place hart (read_here view own index value is)) same frames);
 }
 
 -- ---- a blade that starts

@@ -1,5 +1,5 @@
 -- What a hart's code does with the hart and with the cache, said of the two alone.
-use Rattle.std.specs.Prelude.{◌≡◌, ℕ, ◌<◌, false, List, [], Option, Some, None}
+use Rattle.std.specs.Prelude.{◌≡◌, ℕ, ◌<◌, false, List, [], Option, Some, None, IsSome}
 use Rattle.hart_core.specs.Registers.{zero_registers}
 use Rattle.hart_effect.specs.Deed.{Deed, AsksWellFormed}
 use Rattle.hart_effect.specs.declared.finds.Found.{Found}
@@ -8,7 +8,7 @@ use Rattle.mind_base.specs.Pending.{PendingView}
 use Rattle.mind_base.specs.declared.ends.End.TheVariants.{Running}
 use Rattle.page_cache.specs.PageCache.{CacheView}
 use Rattle.page_cache.specs.declared.frames.Frame.{Frame}
-use Rattle.compute_blade.specs.Blade.{HartView}
+use Rattle.compute_blade.specs.Blade.{HartView, BladeView, hart_of}
 use Rattle.compute_blade.specs.Denials.{faulting}
 use Rattle.compute_blade.specs.Messages.{awake}
 use Rattle.compute_blade.specs.Steps.{hart_after, frames_after_deed, frames_with, next_tag, one_more_store, waiting}
@@ -21,7 +21,11 @@ use Rattle.compute_blade.specs.declared.kept.Mover.{Mover}
 abbrev pub IsMover : Mover → Type 0
 IsMover mover = (mover.hart < 64) × (mover.plan.domain < 16)
 
--- and what it found has its fields in their ranges
+-- and the mover is one of the blade's harts
+abbrev pub IsOwnMover : BladeView → Mover → Type 0
+IsOwnMover blade mover = IsMover mover × IsSome (hart_of blade mover.hart)
+
+-- what a mover found has its fields in their ranges
 abbrev pub IsDoing : Doing → Type 0
 IsDoing doing = IsMover doing.mover × AsksWellFormed doing.found
 
@@ -53,6 +57,10 @@ abbrev pub Does : ℕ → ℕ → Found → HartView → CacheView → HartView 
 Does h domain found hart cache hart' cache' deed =
     (hart' ≡ hart_after domain found cache.entries hart deed)
     × (cache' ≡ holding cache (frames_after_deed h domain found cache.entries hart deed))
+
+-- the deed is that of the hart that is to take a step, for what it found
+abbrev pub DoesAs : Doing → HartView → CacheView → HartView → CacheView → Deed → Type 0
+DoesAs doing = Does doing.mover.hart doing.mover.plan.domain doing.found
 
 -- there is a deed, and they are as it leaves them
 abbrev pub DoesSome : ℕ → ℕ → Found → HartView → CacheView → HartView → CacheView → Option Deed → Type 0

@@ -9,7 +9,7 @@ ghost use Rattle.hart_effect.specs.declared.finds.Found.TheVariants as found_of;
 ghost use Rattle.mind_base.specs.declared.failures.Stop.TheVariants.{Spent};
 ghost use Rattle.compute_blade.specs.Blade.{IsLike, last_store};
 ghost use Rattle.compute_blade.specs.Frames.{around_held, thread_of};
-ghost use Rattle.compute_blade.specs.Harts.{first_hart, hart_changed, holding, IsDoing, IsMover, Does, DoesSome, TakesEffect};
+ghost use Rattle.compute_blade.specs.Harts.{first_hart, hart_changed, holding, IsDoing, IsMover, DoesAs, DoesSome, TakesEffect};
 ghost use Rattle.compute_blade.specs.Steps.{frames_after, used_by, kept_now as kept_now_of, kept_by as kept_by_of, kept_unless_denied, need_in as need_in_found};
 
 use crate::frames::{Sight, tag_of};
@@ -183,8 +183,7 @@ impl Hart {
         cache: &mut PageCache,
     ) -> Result<(), NoMemory>
         requires doing { IsDoing doing }
-        ensures ok { OnOk result (Does doing.mover.hart doing.mover.plan.domain doing.found self.old cache.old self.new cache.new
-            (Alone (with_core (core_changed change) (thread_of cache.old.entries self.old)))) }
+        ensures ok { OnOk result (DoesAs doing self.old cache.old self.new cache.new (Alone (with_core (core_changed change) (thread_of cache.old.entries self.old)))) }
         ensures err { OnErr result ((self.new ≡ self.old) × (cache.new ≡ cache.old)) }
         ensures like { IsLike self.old self.new }
     {
@@ -205,8 +204,7 @@ impl Hart {
         requires doing { IsDoing doing }
         requires ready { drains_first_of doing.found self.old.queue.stores self.old.queue.capacity ≡ false }
         requires fits { WorkFitsFound doing.found doing.mover.plan.domain (Work.Accesses effect next) }
-        ensures ok { OnOk result (Does doing.mover.hart doing.mover.plan.domain doing.found self.old cache.old self.new cache.new
-            (deed_with effect (with_core (core_continued next)) (thread_of cache.old.entries self.old))) }
+        ensures ok { OnOk result (DoesAs doing self.old cache.old self.new cache.new (deed_with effect (with_core (core_continued next)) (thread_of cache.old.entries self.old))) }
         ensures spent { OnErr result (self.old.stores ≡ last_store) }
         ensures err { OnErr result ((self.new ≡ self.old) × (cache.new ≡ cache.old)) }
         ensures like { IsLike self.old self.new }
@@ -242,8 +240,7 @@ impl Hart {
     /// The core goes on, and the page that was needed is used.
     fn go_on(&mut self, next: Continued, doing: Doing, cache: &mut PageCache)
         requires doing { IsDoing doing }
-        ensures done { Does doing.mover.hart doing.mover.plan.domain doing.found self.old cache.old self.new cache.new
-            (Alone (with_core (core_continued next) (thread_of cache.old.entries self.old))) }
+        ensures done { DoesAs doing self.old cache.old self.new cache.new (Alone (with_core (core_continued next) (thread_of cache.old.entries self.old))) }
         ensures like { IsLike self.old self.new }
     {
         let kept = kept_now(doing.found, doing.mover.plan.domain, cache, self.reserved);
@@ -276,8 +273,7 @@ impl Hart {
         cache: &mut PageCache,
     ) -> Result<(), Stop>
         requires doing { IsDoing doing }
-        ensures ok { OnOk result (Does doing.mover.hart doing.mover.plan.domain doing.found self.old cache.old self.new cache.new
-            (Storing (with_core (core_continued next) (thread_of cache.old.entries self.old)) store)) }
+        ensures ok { OnOk result (DoesAs doing self.old cache.old self.new cache.new (Storing (with_core (core_continued next) (thread_of cache.old.entries self.old)) store)) }
         ensures spent { OnErr result (self.old.stores ≡ last_store) }
         ensures err { OnErr result ((self.new ≡ self.old) × (cache.new ≡ cache.old)) }
         ensures like { IsLike self.old self.new }
@@ -377,13 +373,7 @@ fn kept_for(
             let place = Place::of(domain, address);
             kept_by(kind, tag_of(cache, place.granule()), place, kept)
         }
-        Act::Next { .. }
-        | Act::Load { .. }
-        | Act::Store { .. }
-        | Act::Fence { .. }
-        | Act::Call
-        | Act::Jumped { .. }
-        | Act::Broke => kept,
+        _ => kept,
     }
 }
 

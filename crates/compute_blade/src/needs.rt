@@ -93,13 +93,7 @@ fn act_writes_at_once(asked: Act) -> bool
 {
     match asked {
         Act::Locked { kind, .. } => writes(kind),
-        Act::Next { .. }
-        | Act::Load { .. }
-        | Act::Store { .. }
-        | Act::Fence { .. }
-        | Act::Call
-        | Act::Jumped { .. }
-        | Act::Broke => false,
+        _ => false,
     }
 }
 

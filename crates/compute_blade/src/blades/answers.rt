@@ -4,7 +4,7 @@ ghost use Rattle.std.specs.Prelude.{◌≡◌, ◌<◌, is_some, Err, OnOk, OnEr
 ghost use Rattle.mind_base.specs.declared.failures.Stop.TheVariants.{Spent};
 ghost use Rattle.compute_blade.specs.Blade.{Did, IsBlade, StaysBlade, OnlyNotes, HasSpent, hart_of, requests_without, with_hart, request_for as request_for_of};
 ghost use Rattle.compute_blade.specs.Denials.{refused_by, denial_in as denial_in_found};
-ghost use Rattle.compute_blade.specs.Harts.{IsDoing, IsMover};
+ghost use Rattle.compute_blade.specs.Harts.{IsDoing, IsOwnMover};
 ghost use Rattle.compute_blade.specs.Messages.{awake, need_asked, resumed_with, resumed_at, resumed_by, resumed_for};
 
 use crate::blades::{ComputeBlade, image_for};
@@ -72,8 +72,7 @@ impl ComputeBlade {
         out: &mut Vec<Msg>,
         log: &mut Log,
     ) -> Result<(), Stop>
-        requires mover { IsMover mover }
-        requires own { IsSome (hart_of self.old mover.hart) }
+        requires own { IsOwnMover self.old mover }
         ensures ok { OnOk result (IfSome (hart_of self.old mover.hart) (λ hart.
             Did (resumed_by asked.now.waits answer (need_asked asked.now) images.now mover.hart mover.plan self.old hart) self.new out.old.items out.new.items log.old.notes log.new.notes)) }
         ensures spent { result ≡ Err Spent → HasSpent mover.hart self.old × (self.new ≡ self.old) }
@@ -95,8 +94,7 @@ impl ComputeBlade {
         images: &[Image],
         log: &mut Log,
     ) -> Result<(), Stop>
-        requires mover { IsMover mover }
-        requires own { IsSome (hart_of self.old mover.hart) }
+        requires own { IsOwnMover self.old mover }
         ensures ok { OnOk result (IfSome (hart_of self.old mover.hart) (λ hart.
             OnlyNotes (resumed_at hart.end answer need images.now mover.hart mover.plan self.old hart) self.new log.old.notes log.new.notes)) }
         ensures spent { result ≡ Err Spent → HasSpent mover.hart self.old × (self.new ≡ self.old) }

@@ -5,7 +5,7 @@ ghost use Rattle.hart_effect.specs.Deed.{drains_first as drains_first_of};
 ghost use Rattle.mind_base.specs.Fit.{FitImages};
 ghost use Rattle.mind_base.specs.declared.failures.Stop.TheVariants.{Spent};
 ghost use Rattle.compute_blade.specs.Blade.{BeginsWith, Did, DidSome, IsBlade, StaysBlade, OnlyNotes, OnlySends, HasSpent, hart_of, with_hart};
-ghost use Rattle.compute_blade.specs.Harts.{IsDoing, IsMover, hart_changed};
+ghost use Rattle.compute_blade.specs.Harts.{IsDoing, IsOwnMover, hart_changed};
 ghost use Rattle.compute_blade.specs.Steps.{performed, asking, drained, draining_by, drain_of, stepping_by, step_at, after_step, blade_after_drain};
 
 use crate::blades::{ComputeBlade, image_for};
@@ -71,8 +71,7 @@ impl ComputeBlade {
         out: &mut Vec<Msg>,
         log: &mut Log,
     ) -> Result<(), Stop>
-        requires mover { IsMover mover }
-        requires own { IsSome (hart_of self.old mover.hart) }
+        requires own { IsOwnMover self.old mover }
         ensures ok { OnOk result (IfSome (hart_of self.old mover.hart) (λ hart.
             Did (step_at hart.end mover.hart mover.plan image.now self.old hart) self.new out.old.items out.new.items log.old.notes log.new.notes)) }
         ensures spent { result ≡ Err Spent → HasSpent mover.hart self.old × (self.new ≡ self.old) }
@@ -118,8 +117,7 @@ impl ComputeBlade {
     }
 
     fn drain_of(&mut self, mover: Mover, out: &mut Vec<Msg>, log: &mut Log) -> Result<(), Stop>
-        requires mover { IsMover mover }
-        requires own { IsSome (hart_of self.old mover.hart) }
+        requires own { IsOwnMover self.old mover }
         ensures ok { OnOk result (IfSome (hart_of self.old mover.hart) (λ hart.
             Did (drain_of mover.hart mover.plan self.old hart) self.new out.old.items out.new.items log.old.notes log.new.notes)) }
         ensures spent { result ≡ Err Spent → HasSpent mover.hart self.old × (self.new ≡ self.old) }
@@ -155,8 +153,7 @@ impl ComputeBlade {
 
     /// The oldest store of the hart leaves its queue and takes effect.
     fn drain_oldest(&mut self, mover: Mover, log: &mut Log) -> Result<(), Stop>
-        requires mover { IsMover mover }
-        requires own { IsSome (hart_of self.old mover.hart) }
+        requires own { IsOwnMover self.old mover }
         ensures ok { OnOk result (IfSome (hart_of self.old mover.hart) (λ hart. IfSome (slice_get hart.queue.stores 0) (λ oldest.
             OnlyNotes (drained mover.hart mover.plan oldest (drop 1 hart.queue.stores) self.old hart) self.new log.old.notes log.new.notes))) }
         ensures spent { result ≡ Err Spent → HasSpent mover.hart self.old × (self.new ≡ self.old) }
@@ -211,8 +208,7 @@ impl ComputeBlade {
         out: &mut Vec<Msg>,
         log: &mut Log,
     ) -> Result<(), Stop>
-        requires mover { IsMover mover }
-        requires own { IsSome (hart_of self.old mover.hart) }
+        requires own { IsOwnMover self.old mover }
         ensures ok { OnOk result (IfSome (hart_of self.old mover.hart) (λ hart.
             Did (draining_by mover.hart mover.plan hart.queue.stores self.old hart) self.new out.old.items out.new.items log.old.notes log.new.notes)) }
         ensures spent { result ≡ Err Spent → HasSpent mover.hart self.old × (self.new ≡ self.old) }

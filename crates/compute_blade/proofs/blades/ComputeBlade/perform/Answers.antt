@@ -1,7 +1,7 @@
 use Rattle.std.proofs.Common.{◌≡◌, rules}
 use Rattle.compute_blade.specs.Blade.{last_store}
 use Rattle.compute_blade.proofs.Moving.{read_here, spent_at, performed_own}
-use Rattle.compute_blade.proofs.Placing.{stays_read}
+use Rattle.compute_blade.proofs.Placing.{stays_here}
 use Rattle.compute_blade.proofs.blades.ComputeBlade.perform.Goals as goal
 
 pub returns-in_err-perform-clause-spent : goal.returns-in_err-perform-clause-spent
@@ -16,21 +16,13 @@ returns-clause-ok c =
     performed_own _ c.args.doing.mover.plan c.args.doing.found c.args.doing.pc _ _ _ _ _ c.perform.new.self c.perform.new.cache _ _ read c.in_ok-perform.ensures.ok c.in_ok-add.ensures.ok
 
 pub invariant_of-self-in_err-add : goal.invariant_of-self-in_err-add
-invariant_of-self-in_err-add c =
-    let read = read_here c.self.view_is c.requires.own c.from.ensures c.index_mut.ensures.value c.in-Some.is in
-    (stays_read c.perform.new.self c.perform.new.cache read c.self.invariant c.perform.ensures.like c.perform.ensures.frames).shape
+invariant_of-self-in_err-add c = (stays_here c.perform.new.self c.perform.new.cache c.self.view_is c.requires.own c.from.ensures c.index_mut.ensures.value c.in-Some.is c.self.invariant c.perform.ensures.like c.perform.ensures.frames).shape
 
 pub returns-in_err-add-clause-keeps : goal.returns-in_err-add-clause-keeps
-returns-in_err-add-clause-keeps c =
-    let read = read_here c.self.view_is c.requires.own c.from.ensures c.index_mut.ensures.value c.in-Some.is in
-    stays_read c.perform.new.self c.perform.new.cache read c.self.invariant c.perform.ensures.like c.perform.ensures.frames
+returns-in_err-add-clause-keeps c = stays_here c.perform.new.self c.perform.new.cache c.self.view_is c.requires.own c.from.ensures c.index_mut.ensures.value c.in-Some.is c.self.invariant c.perform.ensures.like c.perform.ensures.frames
 
 pub invariant_of-self-2 : goal.invariant_of-self-2
-invariant_of-self-2 c =
-    let read = read_here c.self.view_is c.requires.own c.from.ensures c.index_mut.ensures.value c.in-Some.is in
-    (stays_read c.perform.new.self c.perform.new.cache read c.self.invariant c.perform.ensures.like c.perform.ensures.frames).shape
+invariant_of-self-2 c = (stays_here c.perform.new.self c.perform.new.cache c.self.view_is c.requires.own c.from.ensures c.index_mut.ensures.value c.in-Some.is c.self.invariant c.perform.ensures.like c.perform.ensures.frames).shape
 
 pub returns-clause-keeps : goal.returns-clause-keeps
-returns-clause-keeps c =
-    let read = read_here c.self.view_is c.requires.own c.from.ensures c.index_mut.ensures.value c.in-Some.is in
-    stays_read c.perform.new.self c.perform.new.cache read c.self.invariant c.perform.ensures.like c.perform.ensures.frames
+returns-clause-keeps c = stays_here c.perform.new.self c.perform.new.cache c.self.view_is c.requires.own c.from.ensures c.index_mut.ensures.value c.in-Some.is c.self.invariant c.perform.ensures.like c.perform.ensures.frames
