@@ -3,6 +3,7 @@ use Rattle.std.proofs.Common.{◌≡◌, ℕ, ◌+◌, ◌<◌, ◌≤◌, Bool,
 use Rattle.std.specs.List.{AllByRecursion, Any, find, flat_map, slice_get, slice_index_or}
 use Rattle.std.specs.Option.{is_some, option_map, IfSome}
 use Rattle.std.specs.Prelude.{Result, Ok, Err, OnOk}
+use Rattle.mind_base.specs.declared.failures.NoMemory.{NoMemory}
 use Rattle.mind_base.specs.declared.failures.Stop.{Stop}
 use Rattle.std.proofs.lemmas.Bool.{cases_Bool, eqb-true, false≢true}
 use Rattle.std.proofs.lemmas.Grind.{flat_map-append}
@@ -364,11 +365,11 @@ none-length (r ∷ rs) e = absurd (omega arith)
 
 -- ---- a message is handled, and then the switch serves
 
-pub back-comes : (result : Result (Unit {0}) Stop) (s : SwitchView) (o o' : List (LinkName × Msg)) (n : List Note) (page : PageView) (image : PageImageView) → OnOk result (IsSwitch s) → OnOk result (o' ≡ o ++ (went_back page image s).sent) → OnOk result (Comes (start_at s o n) (went_back page image s) s o' n)
+pub back-comes : (result : Result (Unit {0}) NoMemory) (s : SwitchView) (o o' : List (LinkName × Msg)) (n : List Note) (page : PageView) (image : PageImageView) → OnOk result (IsSwitch s) → OnOk result (o' ≡ o ++ (went_back page image s).sent) → OnOk result (Comes (start_at s o n) (went_back page image s) s o' n)
 back-comes (Ok u) s o o' n page image h e = record { after = refl; sent = e; noted = sym (append-nil n); plan = refl; sendable = λ all. written-sendable s page image h; allowed = λ all. all }
 back-comes (Err x) s o o' n page image h e = h
 
-pub asked-comes : (result : Result (Unit {0}) Stop) (s s' : SwitchView) (o : List (LinkName × Msg)) (n : List Note) (blade : ℕ) (page : PageView) (write : Bool) → OnOk result (s' ≡ (request_noted blade page write s).switch) → OnOk result (Comes (start_at s o n) (request_noted blade page write s) s' o n)
+pub asked-comes : (result : Result (Unit {0}) NoMemory) (s s' : SwitchView) (o : List (LinkName × Msg)) (n : List Note) (blade : ℕ) (page : PageView) (write : Bool) → OnOk result (s' ≡ (request_noted blade page write s).switch) → OnOk result (Comes (start_at s o n) (request_noted blade page write s) s' o n)
 asked-comes (Ok u) s s' o n blade page write e = record {
   after = e;
   sent = sym (append-nil o);
@@ -380,7 +381,7 @@ asked-comes (Ok u) s s' o n blade page write e = record {
 }
 asked-comes (Err x) s s' o n blade page write e = e
 
-pub answered-comes : (result : Result (Unit {0}) Stop) (s s' : SwitchView) (o : List (LinkName × Msg)) (n n' : List Note) (number blade count : ℕ) → OnOk result (s' ≡ (all_ended (acknowledged number blade count s.directory.entries) s).switch)
+pub answered-comes : (result : Result (Unit {0}) NoMemory) (s s' : SwitchView) (o : List (LinkName × Msg)) (n n' : List Note) (number blade count : ℕ) → OnOk result (s' ≡ (all_ended (acknowledged number blade count s.directory.entries) s).switch)
     → OnOk result (n' ≡ n ++ (all_ended (acknowledged number blade count s.directory.entries) s).noted) → OnOk result (Comes (start_at s o n) (answered number blade count s) s' o n')
 answered-comes (Ok u) s s' o n n' number blade count e f =
     subst (λ (x : SwitchEffect). Comes (start_at s o n) x s' o n') (sym (answered-is number blade count s)) (record {

@@ -1,6 +1,7 @@
 -- What is seen of the switch, and what one call on it does.
 use Rattle.std.specs.Prelude.{ℕ, List, [], ◌++◌, Option}
 use Rattle.mind_base.specs.Page.{PageView}
+use Rattle.mind_base.specs.declared.links.LinkKind.{LinkKind}
 use Rattle.mind_base.specs.declared.links.LinkKind.TheVariants.{Down, To}
 use Rattle.mind_base.specs.declared.links.LinkName.{LinkName}
 use Rattle.mind_base.specs.declared.notes.Note.{Note}
@@ -47,15 +48,17 @@ only switch = record { switch = switch; sent = []; noted = [] }
 
 -- one thing after another
 abbrev pub and_then : SwitchEffect → (SwitchView → SwitchEffect) → SwitchEffect
-and_then first next = record {
-  switch = (next first.switch).switch;
-  sent = first.sent ++ (next first.switch).sent;
-  noted = first.noted ++ (next first.switch).noted;
-}
+and_then first next =
+    let last : SwitchEffect = next first.switch in
+    record { switch = last.switch; sent = first.sent ++ last.sent; noted = first.noted ++ last.noted }
 
--- a message to a compute blade, and one to a memory blade
+-- a message on a link
+abbrev pub on_link : LinkKind → ℕ → Msg → LinkName × Msg
+on_link kind number message = (record { kind = kind; number = number }, message)
+
+-- one to a compute blade, and one to a memory blade
 abbrev pub to_blade : ℕ → Msg → LinkName × Msg
-to_blade blade message = (record { kind = Down; number = blade }, message)
+to_blade = on_link Down
 
 abbrev pub to_memory : ℕ → Msg → LinkName × Msg
-to_memory memory message = (record { kind = To; number = memory }, message)
+to_memory = on_link To

@@ -127,11 +127,16 @@ with_transition i busy messages switch = record {
   noted = [];
 }
 
+-- one that leads to this state, for which these blades give up what they hold of the block: for a page that is
+-- asked for, or to make room
+abbrev pub with_invalidations : ℕ → RangeView → Option PageView → ℕ → State → SwitchView → SwitchEffect
+with_invalidations i range asked blades target switch = with_transition i
+    (record { number = switch.last + 1; waiting = blades; target = target; for_room = is_none asked })
+    (invalidations (switch.last + 1) range asked blades) switch
+
 -- all holders give up what they hold of the block, to make room
 abbrev pub cleared : ℕ → Entry → SwitchView → SwitchEffect
-cleared i entry switch = with_transition i
-    (record { number = switch.last + 1; waiting = holders entry.state; target = I; for_room = true })
-    (invalidations (switch.last + 1) entry.range None (holders entry.state)) switch
+cleared i entry switch = with_invalidations i entry.range None (holders entry.state) I switch
 
 -- for a write all other holders give up; the asking blade stays a sharer if it was one
 abbrev pub left_to : ℕ → State → State
@@ -140,9 +145,8 @@ left_to blade (S sharers) = if has_blade sharers blade then S (2 ^ blade) else I
 left_to blade (M owner) = I
 
 abbrev pub invalidated : Request → ℕ → Entry → SwitchView → SwitchEffect
-invalidated r i entry switch = with_transition i
-    (record { number = switch.last + 1; waiting = without_blade (holders entry.state) r.blade; target = left_to r.blade entry.state; for_room = false })
-    (invalidations (switch.last + 1) entry.range (Some r.page) (without_blade (holders entry.state) r.blade)) switch
+invalidated r i entry switch =
+    with_invalidations i entry.range (Some r.page) (without_blade (holders entry.state) r.blade) (left_to r.blade entry.state) switch
 
 -- for a read the owner stays a sharer, and may write no longer
 abbrev pub lowered : Request → ℕ → ℕ → Entry → SwitchView → SwitchEffect

@@ -6,5 +6,6 @@ mod messages;
 mod stands;
 mod states;
 mod switches;
+mod visits;
 
 pub use switches::SwitchCore;

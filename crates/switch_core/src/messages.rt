@@ -3,7 +3,7 @@
 ghost use Rattle.std.specs.Prelude.{◌≡◌, ◌<◌, [], ◌∷◌, ◌++◌, OnOk, OnErr};
 ghost use Rattle.switch_core.specs.Handling.{writing};
 ghost use Rattle.switch_core.specs.Sending.{Begins};
-ghost use Rattle.switch_core.specs.Switch.{to_blade, to_memory};
+ghost use Rattle.switch_core.specs.Switch.{on_link};
 ghost use Rattle.switch_core.specs.Treating.{invalidations, noted_change, reading};
 
 use crate::states::same_state;
@@ -17,29 +17,12 @@ use wire_msg::Msg;
 /// The messages that go out, each with its link.
 pub(crate) type Out = Vec<(LinkName, Msg)>;
 
-/// Puts a message to a compute blade at the end.
-pub fn tell_blade(out: &mut Out, blade: u8, msg: Msg) -> Result<(), NoMemory>
-    ensures ok { OnOk result (out.new.items ≡ out.old.items ++ to_blade blade msg ∷ []) }
+/// Puts a message for the link of this kind and number at the end.
+pub fn tell(out: &mut Out, kind: LinkKind, number: u8, msg: Msg) -> Result<(), NoMemory>
+    ensures ok { OnOk result (out.new.items ≡ out.old.items ++ on_link kind number msg ∷ []) }
     ensures err { OnErr result (out.new.items ≡ out.old.items) }
 {
-    let link = LinkName {
-        kind: LinkKind::Down,
-        number: blade,
-    };
-    out.push((link, msg))?;
-    Ok(())
-}
-
-/// Puts a message to a memory blade at the end.
-pub fn tell_memory(out: &mut Out, memory: u8, msg: Msg) -> Result<(), NoMemory>
-    ensures ok { OnOk result (out.new.items ≡ out.old.items ++ to_memory memory msg ∷ []) }
-    ensures err { OnErr result (out.new.items ≡ out.old.items) }
-{
-    let link = LinkName {
-        kind: LinkKind::To,
-        number: memory,
-    };
-    out.push((link, msg))?;
+    out.push((LinkName { kind, number }, msg))?;
     Ok(())
 }
 
@@ -62,7 +45,7 @@ pub fn tell_all(
             range: *range,
             asked: *asked,
         };
-        tell_blade(out, cast.blade, msg)?;
+        tell(out, LinkKind::Down, cast.blade, msg)?;
     }
     Ok(())
 }
@@ -80,8 +63,7 @@ pub fn read_from(out: &mut Out, r: &Request, place: Option<(u8, u32)>) -> Result
         blade: Some(r.blade),
         page: r.page,
     };
-    tell_memory(out, memory, msg)?;
-    Ok(())
+    tell(out, LinkKind::To, memory, msg)
 }
 
 /// Sends the memory blade where the page lies its image.
@@ -92,8 +74,7 @@ pub fn write_to(out: &mut Out, place: Option<(u8, u32)>, image: PageImage) -> Re
     let Some((memory, phys)) = place else {
         return Ok(());
     };
-    tell_memory(out, memory, Msg::Write { phys, image })?;
-    Ok(())
+    tell(out, LinkKind::To, memory, Msg::Write { phys, image })
 }
 
 /// Notes the state of a block, where it has changed.

@@ -7,28 +7,27 @@ ghost use Rattle.invalidate_multicast.specs.Blades.{without_blade};
 ghost use Rattle.region_directory.specs.Entry.{MeetsNone};
 ghost use Rattle.switch_core.specs.Invariant.{IsFitState, IsSpent, IsSwitch};
 ghost use Rattle.switch_core.specs.Sending.{Begins};
-ghost use Rattle.switch_core.specs.Treating.{with_transition, cleared, denied_request, dropped, entered, granted, holders, invalidated, left_to, lowered};
+ghost use Rattle.switch_core.specs.Treating.{with_invalidations, with_transition, cleared, denied_request, dropped, entered, granted, holders, invalidated, left_to, lowered};
 
 use super::SwitchCore;
-use crate::messages::{Out, note_change, read_from, tell_all, tell_blade};
+use crate::messages::{Out, note_change, read_from, tell, tell_all};
 use crate::states::{granted_state, holders, left_to};
 use invalidate_multicast::{begin, without};
-use mind_base::{Log, Note, Range, State, Stop};
+use mind_base::{LinkKind, Log, NoMemory, Note, Page, Range, State, Stop};
 use region_directory::{Busy, Entry};
 use request_list::Request;
 use wire_msg::Msg;
 
 impl SwitchCore {
     /// A request is denied, and ends.
-    pub(super) fn deny(&mut self, r: &Request, out: &mut Out) -> Result<(), Stop>
+    pub(super) fn deny(&mut self, r: &Request, out: &mut Out) -> Result<(), NoMemory>
         ensures switch { OnOk result (self.new ≡ (denied_request r.now self.old).switch) }
         ensures sent { OnOk result (out.new.items ≡ out.old.items ++ (denied_request r.now self.old).sent) }
         ensures was { OnOk result (IsSwitch self.old) }
         ensures unchanged { OnErr result (self.new ≡ self.old) }
         ensures out { Begins out.old.items out.new.items }
-        ensures spent { result ≢ Err Spent }
     {
-        tell_blade(out, r.blade, Msg::Deny { page: r.page })?;
+        tell(out, LinkKind::Down, r.blade, Msg::Deny { page: r.page })?;
         let _ended = self.requests.done(r.blade, r.page);
         Ok(())
     }
@@ -42,7 +41,7 @@ impl SwitchCore {
         entry: &Entry,
         out: &mut Out,
         log: &mut Log,
-    ) -> Result<(), Stop>
+    ) -> Result<(), NoMemory>
         requires blade { r.now.blade < length self.old.plan.frames }
         requires place { slice_get self.old.requests at ≡ Some r.now }
         requires waits { r.now.fetching ≡ false }
@@ -54,7 +53,6 @@ impl SwitchCore {
         ensures unchanged { OnErr result (self.new ≡ self.old) }
         ensures out { Begins out.old.items out.new.items }
         ensures log { Begins log.old.notes log.new.notes }
-        ensures spent { result ≢ Err Spent }
     {
         let place = self.table.place(r.page);
         let state = granted_state(r.write, r.blade, entry.state);
@@ -77,6 +75,40 @@ impl SwitchCore {
         self.last = busy.number;
     }
 
+    /// Each blade of the set is told to give up what it holds of the entry's block, for the page that is
+    /// asked for or to make room, and a transition begins that leads to the target.
+    fn send_invalidations(
+        &mut self,
+        i: u32,
+        entry: &Entry,
+        asked: Option<Page>,
+        blades: u8,
+        target: State,
+        out: &mut Out,
+    ) -> Result<(), Stop>
+        requires entry { slice_get self.old.directory.entries i ≡ Some entry.now }
+        requires idle { entry.now.busy ≡ None }
+        requires waits { blades ≢ 0 }
+        requires target { IsFitState (length self.old.plan.frames) target }
+        ensures switch { OnOk result (self.new ≡ (with_invalidations i entry.now.range asked blades target self.old).switch) }
+        ensures sent { OnOk result (out.new.items ≡ out.old.items ++ (with_invalidations i entry.now.range asked blades target self.old).sent) }
+        ensures was { OnOk result (IsSwitch self.old) }
+        ensures unchanged { OnErr result (self.new ≡ self.old) }
+        ensures out { Begins out.old.items out.new.items }
+        ensures spent { result ≡ Err Spent → IsSpent self.new }
+    {
+        let number = self.next_number()?;
+        tell_all(self.alloc, out, number, &entry.range, &asked, blades)?;
+        let busy = Busy {
+            number,
+            waiting: blades,
+            target,
+            for_room: asked.is_none(),
+        };
+        self.begin(i, entry, &busy);
+        Ok(())
+    }
+
     /// All holders of the entry with this index are told to give up what they hold of the block, to
     /// make room.
     pub(super) fn clear(&mut self, i: u32, entry: &Entry, out: &mut Out) -> Result<(), Stop>
@@ -90,17 +122,8 @@ impl SwitchCore {
         ensures out { Begins out.old.items out.new.items }
         ensures spent { result ≡ Err Spent → IsSpent self.new }
     {
-        let number = self.next_number()?;
         let blades = self.holders_in(i, entry);
-        tell_all(self.alloc, out, number, &entry.range, &None, blades)?;
-        let busy = Busy {
-            number,
-            waiting: blades,
-            target: State::I,
-            for_room: true,
-        };
-        self.begin(i, entry, &busy);
-        Ok(())
+        self.send_invalidations(i, entry, None, blades, State::I, out)
     }
 
     /// The blades that the state of the entry with this index names.
@@ -133,17 +156,9 @@ impl SwitchCore {
         ensures out { Begins out.old.items out.new.items }
         ensures spent { result ≡ Err Spent → IsSpent self.new }
     {
-        let number = self.next_number()?;
         let blades = without(self.holders_in(i, entry), r.blade);
-        tell_all(self.alloc, out, number, &entry.range, &Some(r.page), blades)?;
-        let busy = Busy {
-            number,
-            waiting: blades,
-            target: self.left_in(r, entry),
-            for_room: false,
-        };
-        self.begin(i, entry, &busy);
-        Ok(())
+        let target = self.left_in(r, entry);
+        self.send_invalidations(i, entry, Some(r.page), blades, target, out)
     }
 
     /// What the write of a blade leaves of the state of an entry.
@@ -182,7 +197,7 @@ impl SwitchCore {
             range: entry.range,
             asked: r.page,
         };
-        tell_blade(out, owner, msg)?;
+        tell(out, LinkKind::Down, owner, msg)?;
         let busy = Busy {
             number,
             waiting,
@@ -194,7 +209,7 @@ impl SwitchCore {
     }
 
     /// An entry for a block is put in its place.
-    pub(super) fn enter(&mut self, range: &Range, log: &mut Log) -> Result<(), Stop>
+    pub(super) fn enter(&mut self, range: &Range, log: &mut Log) -> Result<(), NoMemory>
         requires space { length self.old.directory.entries < self.old.directory.slots }
         requires free { MeetsNone self.old.directory.entries range.now }
         ensures switch { OnOk result (self.new ≡ (entered range.now self.old).switch) }
@@ -202,7 +217,6 @@ impl SwitchCore {
         ensures was { OnOk result (IsSwitch self.old) }
         ensures unchanged { OnErr result (self.new ≡ self.old) }
         ensures log { Begins log.old.notes log.new.notes }
-        ensures spent { result ≢ Err Spent }
     {
         log.add(Note::Region {
             range: *range,
@@ -213,14 +227,18 @@ impl SwitchCore {
     }
 
     /// The entry with this index is dropped.
-    pub(super) fn remove_entry(&mut self, i: u32, entry: &Entry, log: &mut Log) -> Result<(), Stop>
+    pub(super) fn remove_entry(
+        &mut self,
+        i: u32,
+        entry: &Entry,
+        log: &mut Log,
+    ) -> Result<(), NoMemory>
         requires entry { slice_get self.old.directory.entries i ≡ Some entry.now }
         ensures switch { OnOk result (self.new ≡ (dropped i entry.now self.old).switch) }
         ensures noted { OnOk result (log.new.notes ≡ log.old.notes ++ (dropped i entry.now self.old).noted) }
         ensures was { OnOk result (IsSwitch self.old) }
         ensures unchanged { OnErr result (self.new ≡ self.old) }
         ensures log { Begins log.old.notes log.new.notes }
-        ensures spent { result ≢ Err Spent }
     {
         log.add(Note::Gone { range: entry.range })?;
         self.directory.remove(i);

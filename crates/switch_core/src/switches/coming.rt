@@ -39,17 +39,7 @@ impl SwitchCore {
             Msg::Get { page, .. } => self.is_new(blade, *page),
             Msg::Back { page, .. } => self.table.home(*page).is_some(),
             Msg::Ack { number, .. } => is_awaited(&self.directory, *number, blade),
-            Msg::Fill { .. }
-            | Msg::Deny { .. }
-            | Msg::Inv { .. }
-            | Msg::Lower { .. }
-            | Msg::Close { .. }
-            | Msg::Closed { .. }
-            | Msg::Reopen { .. }
-            | Msg::Read { .. }
-            | Msg::Image { .. }
-            | Msg::Write { .. }
-            | Msg::Zero { .. } => false,
+            _ => false,
         }
     }
 

@@ -11,6 +11,7 @@ ghost use Rattle.switch_core.specs.Switch.{SwitchEffect};
 use super::SwitchCore;
 use crate::messages::Out;
 use crate::stands::Stand;
+use crate::visits::Visit;
 use mind_base::{Log, Stop};
 
 impl SwitchCore {
@@ -24,8 +25,13 @@ impl SwitchCore {
         if stand.at >= count {
             return Ok(());
         }
-        let r = self.requests.get(stand.at);
-        self.treat(&r, stand, out, log)
+        let mut visit = Visit {
+            request: self.requests.get(stand.at),
+            stand: *stand,
+        };
+        self.treat(&mut visit, out, log)?;
+        *stand = visit.stand;
+        Ok(())
     }
 
     /// One pass over all requests in order of arrival; whether it changed anything.

@@ -13,8 +13,8 @@ ghost use Rattle.request_list.specs.Requests.{fetched_pages};
 
 use super::SwitchCore;
 use crate::messages::Out;
-use crate::stands::Stand;
 use crate::states::grants;
+use crate::visits::Visit;
 use mind_base::{Log, Range, State, Stop};
 use region_directory::{Entry, Room, has_any};
 use request_list::Request;
@@ -56,75 +56,69 @@ impl SwitchCore {
     /// The request has an entry for its page, which is idle.
     fn treat_idle(
         &mut self,
-        r: &Request,
+        visit: &mut Visit,
         i: u32,
         entry: &Entry,
-        stand: &mut Stand,
         out: &mut Out,
         log: &mut Log,
     ) -> Result<(), Stop>
-        requires treatable { IsTreatable self.old stand.old r.now }
+        requires treatable { IsTreatable self.old visit.old.stand visit.old.request }
         requires entry { slice_get self.old.directory.entries i ≡ Some entry.now }
-        requires has { InRange entry.now.range r.now.page }
+        requires has { InRange entry.now.range visit.old.request.page }
         requires idle { entry.now.busy ≡ None }
-        ensures goes_on { OnOk result (PassGoesOn (with_idle r.now i entry.now) self.old stand.old out.old.items log.old.notes self.new stand.new out.new.items log.new.notes) }
+        ensures goes_on { OnOk result (PassGoesOn (with_idle visit.old.request i entry.now) self.old visit.old.stand out.old.items log.old.notes self.new visit.new.stand out.new.items log.new.notes) }
         ensures keeps { KeepsStart (start_at self.old out.old.items log.old.notes) self.new out.new.items log.new.notes }
         ensures spent { result ≡ Err Spent → IsSpent self.new }
     {
+        let r = visit.request;
         if grants(r.write, r.blade, entry.state) {
-            self.grant(r, stand.at, i, entry, out, log)?;
-            stand.change();
-            stand.pass_by();
+            self.grant(&r, visit.stand.at, i, entry, out, log)?;
+            visit.stand.change();
+            visit.stand.pass_by();
             return Ok(());
         }
         if self.is_fetched(&entry.range) {
-            stand.pass_by();
+            visit.stand.pass_by();
             return Ok(());
         }
-        self.change_for(r, i, entry, out)?;
-        stand.change();
-        stand.pass_by();
+        self.change_for(&r, i, entry, out)?;
+        visit.stand.change();
+        visit.stand.pass_by();
         Ok(())
     }
 
     /// The entry with this index has the page of the request.
     fn treat_found(
         &mut self,
-        r: &Request,
+        visit: &mut Visit,
         i: u32,
-        stand: &mut Stand,
         out: &mut Out,
         log: &mut Log,
     ) -> Result<(), Stop>
-        requires treatable { IsTreatable self.old stand.old r.now }
-        requires has { HasPage self.old.directory.entries i r.now.page }
-        ensures goes_on { OnOk result (PassGoesOn (at_entry r.now i) self.old stand.old out.old.items log.old.notes self.new stand.new out.new.items log.new.notes) }
+        requires treatable { IsTreatable self.old visit.old.stand visit.old.request }
+        requires has { HasPage self.old.directory.entries i visit.old.request.page }
+        ensures goes_on { OnOk result (PassGoesOn (at_entry visit.old.request i) self.old visit.old.stand out.old.items log.old.notes self.new visit.new.stand out.new.items log.new.notes) }
         ensures keeps { KeepsStart (start_at self.old out.old.items log.old.notes) self.new out.new.items log.new.notes }
         ensures spent { result ≡ Err Spent → IsSpent self.new }
     {
         let entry = self.directory.entry(i);
         if entry.busy.is_some() {
-            stand.pass_by();
+            visit.stand.pass_by();
             return Ok(());
         }
-        self.treat_idle(r, i, &entry, stand, out, log)
+        self.treat_idle(visit, i, &entry, out, log)
     }
 
     /// The request's page has no entry, and gets one.
-    fn treat_new(
-        &mut self,
-        r: &Request,
-        stand: &mut Stand,
-        out: &mut Out,
-        log: &mut Log,
-    ) -> Result<(), Stop>
-        requires treatable { IsTreatable self.old stand.old r.now }
-        requires none { NoneHas self.old.directory.entries r.now.page }
+    fn treat_new(&mut self, visit: &mut Visit, out: &mut Out, log: &mut Log) -> Result<(), Stop>
+        requires treatable { IsTreatable self.old visit.old.stand visit.old.request }
+        requires none { NoneHas self.old.directory.entries visit.old.request.page }
         requires space { length self.old.directory.entries < self.old.directory.slots }
-        ensures goes_on { OnOk result (PassGoesOn (enters r.now) self.old stand.old out.old.items log.old.notes self.new stand.new out.new.items log.new.notes) }
+        ensures goes_on { OnOk result (PassGoesOn (enters visit.old.request) self.old visit.old.stand out.old.items log.old.notes self.new visit.new.stand out.new.items log.new.notes) }
         ensures keeps { KeepsStart (start_at self.old out.old.items log.old.notes) self.new out.new.items log.new.notes }
         ensures spent { result ≡ Err Spent → IsSpent self.new }
     {
+        let r = visit.request;
         let range = self.directory.new_range(r.page, self.plan.region);
         let place = self.directory.place(&range);
         self.enter(&range, log)?;
@@ -134,24 +128,18 @@ impl SwitchCore {
             busy: None,
             hits: 0,
         };
-        self.grant(r, stand.at, place, &entry, out, log)?;
-        stand.change();
-        stand.pass_by();
+        self.grant(&r, visit.stand.at, place, &entry, out, log)?;
+        visit.stand.change();
+        visit.stand.pass_by();
         Ok(())
     }
 
     /// The request's page has no entry, and all slots have one.
-    fn make_room(
-        &mut self,
-        r: &Request,
-        stand: &mut Stand,
-        out: &mut Out,
-        log: &mut Log,
-    ) -> Result<(), Stop>
-        requires treatable { IsTreatable self.old stand.old r.now }
-        requires none { NoneHas self.old.directory.entries r.now.page }
+    fn make_room(&mut self, visit: &mut Visit, out: &mut Out, log: &mut Log) -> Result<(), Stop>
+        requires treatable { IsTreatable self.old visit.old.stand visit.old.request }
+        requires none { NoneHas self.old.directory.entries visit.old.request.page }
         requires full { length self.old.directory.entries ≡ self.old.directory.slots }
-        ensures goes_on { OnOk result (PassGoesOn (with_room r.now (room_of self.old.directory (fetched_pages self.old.requests))) self.old stand.old out.old.items log.old.notes self.new stand.new out.new.items log.new.notes) }
+        ensures goes_on { OnOk result (PassGoesOn (with_room visit.old.request (room_of self.old.directory (fetched_pages self.old.requests))) self.old visit.old.stand out.old.items log.old.notes self.new visit.new.stand out.new.items log.new.notes) }
         ensures keeps { KeepsStart (start_at self.old out.old.items log.old.notes) self.new out.new.items log.new.notes }
         ensures spent { result ≡ Err Spent → IsSpent self.new }
     {
@@ -159,74 +147,68 @@ impl SwitchCore {
             Room::Drop { index } => {
                 let entry = self.directory.entry(index);
                 self.remove_entry(index, &entry, log)?;
-                stand.change();
-                self.treat_new(r, stand, out, log)
+                visit.stand.change();
+                self.treat_new(visit, out, log)
             }
             Room::Evict { index } => {
                 let entry = self.directory.entry(index);
                 self.clear(index, &entry, out)?;
-                stand.change();
-                stand.block();
+                visit.stand.change();
+                visit.stand.block();
                 Ok(())
             }
             Room::Merge { .. } | Room::Wait => {
-                stand.block();
+                visit.stand.block();
                 Ok(())
             }
         }
     }
 
     /// No entry has the page of the request.
-    fn treat_missing(
-        &mut self,
-        r: &Request,
-        stand: &mut Stand,
-        out: &mut Out,
-        log: &mut Log,
-    ) -> Result<(), Stop>
-        requires treatable { IsTreatable self.old stand.old r.now }
-        requires none { NoneHas self.old.directory.entries r.now.page }
-        ensures goes_on { OnOk result (PassGoesOn (without_entry r.now) self.old stand.old out.old.items log.old.notes self.new stand.new out.new.items log.new.notes) }
+    fn treat_missing(&mut self, visit: &mut Visit, out: &mut Out, log: &mut Log) -> Result<(), Stop>
+        requires treatable { IsTreatable self.old visit.old.stand visit.old.request }
+        requires none { NoneHas self.old.directory.entries visit.old.request.page }
+        ensures goes_on { OnOk result (PassGoesOn (without_entry visit.old.request) self.old visit.old.stand out.old.items log.old.notes self.new visit.new.stand out.new.items log.new.notes) }
         ensures keeps { KeepsStart (start_at self.old out.old.items log.old.notes) self.new out.new.items log.new.notes }
         ensures spent { result ≡ Err Spent → IsSpent self.new }
     {
-        if stand.blocked {
-            stand.pass_by();
+        if visit.stand.blocked {
+            visit.stand.pass_by();
             return Ok(());
         }
         if self.directory.is_full() {
-            return self.make_room(r, stand, out, log);
+            return self.make_room(visit, out, log);
         }
-        self.treat_new(r, stand, out, log)
+        self.treat_new(visit, out, log)
     }
 
     /// The request at the stand's place is denied or granted, or a transition begins for it, or it
     /// waits.
     pub(super) fn treat(
         &mut self,
-        r: &Request,
-        stand: &mut Stand,
+        visit: &mut Visit,
         out: &mut Out,
         log: &mut Log,
     ) -> Result<(), Stop>
-        requires at { stand.old.at < 4294967295 }
-        requires place { slice_get self.old.requests stand.old.at ≡ Some r.now }
-        ensures goes_on { OnOk result (PassGoesOn (treated r.now) self.old stand.old out.old.items log.old.notes self.new stand.new out.new.items log.new.notes) }
+        requires at { visit.old.stand.at < 4294967295 }
+        requires place { slice_get self.old.requests visit.old.stand.at ≡ Some visit.old.request }
+        ensures goes_on { OnOk result (PassGoesOn (treated visit.old.request) self.old visit.old.stand out.old.items log.old.notes self.new visit.new.stand out.new.items log.new.notes) }
         ensures keeps { KeepsStart (start_at self.old out.old.items log.old.notes) self.new out.new.items log.new.notes }
         ensures spent { result ≡ Err Spent → IsSpent self.new }
     {
+        let r = visit.request;
         if r.fetching {
-            stand.pass_by();
+            visit.stand.pass_by();
             return Ok(());
         }
         if !self.protect.perm(r.page).allows(r.write) {
-            self.deny(r, out)?;
-            stand.change();
+            self.deny(&r, out)?;
+            visit.stand.change();
             return Ok(());
         }
         match self.directory.find(r.page) {
-            Some(i) => self.treat_found(r, i, stand, out, log),
-            None => self.treat_missing(r, stand, out, log),
+            Some(i) => self.treat_found(visit, i, out, log),
+            None => self.treat_missing(visit, out, log),
         }
     }
 }

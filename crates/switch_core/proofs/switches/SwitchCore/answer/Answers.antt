@@ -6,8 +6,3 @@ pub invariant_of-self : goal.invariant_of-self
 invariant_of-self c =
     let s : SwitchView = record { plan = c.self.inside.plan; table = c.self.inside.table; protect = c.self.inside.protect; directory = c.self.inside.directory; requests = c.self.inside.requests; last = c.self.inside.last } in
     switch-answered s c.args.number c.args.blade c.args.count c.ack.new.directory c.end_all.new.directory c.self.invariant c.ack.ensures.acknowledged c.ack.ensures.count c.end_all.ensures.count c.end_all.ensures.slots c.end_all.ensures.fit c.end_all.ensures.waits
-
-pub invariant_of-self-2 : goal.invariant_of-self-2
-invariant_of-self-2 c =
-    let s : SwitchView = record { plan = c.self.inside.plan; table = c.self.inside.table; protect = c.self.inside.protect; directory = c.self.inside.directory; requests = c.self.inside.requests; last = c.self.inside.last } in
-    switch-answered s c.args.number c.args.blade c.args.count c.ack.new.directory c.end_all.new.directory c.self.invariant c.ack.ensures.acknowledged c.ack.ensures.count c.end_all.ensures.count c.end_all.ensures.slots c.end_all.ensures.fit c.end_all.ensures.waits

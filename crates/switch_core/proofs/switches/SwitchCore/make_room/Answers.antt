@@ -21,14 +21,14 @@ use Rattle.switch_core.proofs.switches.SwitchCore.make_room.Goals as goal
 pub treat_new-requires-clause-treatable : goal.treat_new-requires-clause-treatable
 treat_new-requires-clause-treatable c =
     let h = c.requires.treatable in
-    subst (λ (v : SwitchView). IsTreatable v c.change.new.self c.args.r.now) (sym c.in_ok-remove_entry-in-Drop.ensures.switch)
-    (subst (λ (x : Stand). IsTreatable (dropped c.in-Drop.index c.entry-entry.result c.args.self.now).switch x c.args.r.now) (sym c.change.ensures)
+    subst (λ (v : SwitchView). IsTreatable v c.change.new.self c.args.visit.now.request) (sym c.in_ok-remove_entry-in-Drop.ensures.switch)
+    (subst (λ (x : Stand). IsTreatable (dropped c.in-Drop.index c.entry-entry.result c.args.self.now).switch x c.args.visit.now.request) (sym c.change.ensures)
     (record { at = h.at; place = h.place; blade = h.blade; waits = h.waits; allowed = h.allowed }))
 
 pub treat_new-requires-clause-none : goal.treat_new-requires-clause-none
 treat_new-requires-clause-none c =
     let es = c.args.self.now.directory.entries in
-    let page : PageView = c.args.r.now.page in
+    let page : PageView = c.args.visit.now.request.page in
     subst (λ (v : SwitchView). NoneHas v.directory.entries page) (sym c.in_ok-remove_entry-in-Drop.ensures.switch)
     (all-left (λ entry. InRange entry.range page → ⊥) es c.in-Drop.index c.requires.none)
 
@@ -57,8 +57,8 @@ returns-in_ok-remove_entry-in-Drop-clause-goes_on c =
     let s1 : SwitchView = c.remove_entry.new.self in
     let inside : InPass start (does (dropped c.in-Drop.index entry) pass) s1 c.change.new.self c.args.out.now.items c.remove_entry.new.log.notes =
     subst (λ (x : Stand). InPass start (does (dropped c.in-Drop.index entry) pass) s1 x c.args.out.now.items c.remove_entry.new.log.notes) (sym c.change.ensures)
-    (in-dropped start pass s c.args.stand.now c.args.out.now.items c.args.log.now.notes h s1 c.remove_entry.new.log.notes c.in-Drop.index entry c.in_ok-remove_entry-in-Drop.ensures.was d.found d.idle c.in_ok-remove_entry-in-Drop.ensures.switch c.in_ok-remove_entry-in-Drop.ensures.noted) in
-    goes-dropped start pass s c.args.stand.now c.args.out.now.items c.args.log.now.notes h c.treat_new.new.self c.treat_new.new.stand c.treat_new.new.out.items c.treat_new.new.log.notes c.args.r.now (room_in s) c.in-Drop.index entry d.room d.found
+    (in-dropped start pass s c.args.visit.now.stand c.args.out.now.items c.args.log.now.notes h s1 c.remove_entry.new.log.notes c.in-Drop.index entry c.in_ok-remove_entry-in-Drop.ensures.was d.found d.idle c.in_ok-remove_entry-in-Drop.ensures.switch c.in_ok-remove_entry-in-Drop.ensures.noted) in
+    goes-dropped start pass s c.args.visit.now.stand c.args.out.now.items c.args.log.now.notes h c.treat_new.new.self c.treat_new.new.visit.stand c.treat_new.new.out.items c.treat_new.new.log.notes c.args.visit.now.request (room_in s) c.in-Drop.index entry d.room d.found
     (goes start (does (dropped c.in-Drop.index entry) pass) inside))
     c.treat_new.ensures.goes_on
 
@@ -77,10 +77,10 @@ returns-in_ok-clear-in-Evict-clause-goes_on c = λ start pass h.
     let s : SwitchView = c.args.self.now in
     let entry : Entry = c.entry-entry-in-Evict.result in
     let e : IsEvicted s c.in-Evict.index entry = is-evicted c.self.view_is c.self.invariant.entries c.entry-entry-in-Evict.ensures.entry c.in-Evict.ensures.room c.fetching_pages.ensures.pages in
-    let stand : Stand = c.args.stand.now in
+    let stand : Stand = c.args.visit.now.stand in
     let now : c.block.new.self ≡ record stand { at = stand.at + 1; blocked = true; changed = true } = c.block.ensures ∙ ap (λ (x : Stand). record x { at = x.at + 1; blocked = true }) c.change-in-Evict.ensures in
-    subst (λ (x : Stand). InPass start (with_room c.args.r.now (room_in s) pass) c.clear.new.self x c.clear.new.out.items c.args.log.now.notes) (sym now)
-    (goes-evicted start pass s stand c.args.out.now.items c.args.log.now.notes h c.clear.new.self c.clear.new.out.items c.args.log.now.notes c.args.r.now (room_in s) c.in-Evict.index entry e.room c.in_ok-clear-in-Evict.ensures.was e.found e.idle e.held
+    subst (λ (x : Stand). InPass start (with_room c.args.visit.now.request (room_in s) pass) c.clear.new.self x c.clear.new.out.items c.args.log.now.notes) (sym now)
+    (goes-evicted start pass s stand c.args.out.now.items c.args.log.now.notes h c.clear.new.self c.clear.new.out.items c.args.log.now.notes c.args.visit.now.request (room_in s) c.in-Evict.index entry e.room c.in_ok-clear-in-Evict.ensures.was e.found e.idle e.held
     c.in_ok-clear-in-Evict.ensures.switch c.in_ok-clear-in-Evict.ensures.sent (sym (append-nil c.args.log.now.notes)))
 
 pub returns-in_ok-clear-in-Evict-clause-keeps : goal.returns-in_ok-clear-in-Evict-clause-keeps
@@ -95,11 +95,11 @@ returns-in_ok-clear-in-Evict-clause-keeps c =
 pub returns-in-Merge-clause-goes_on : goal.returns-in-Merge-clause-goes_on
 returns-in-Merge-clause-goes_on c = λ start pass h.
     let s : SwitchView = c.args.self.now in
-    let stand : Stand = c.args.stand.now in
+    let stand : Stand = c.args.visit.now.stand in
     let room : room_in s ≡ c.room.result = sym (c.room.ensures.room ∙ ap (room_of c.self.inside.directory) c.fetching_pages.ensures.pages ∙ ap room_in c.self.view_is) in
-    let blocked : InPass start (with_room c.args.r.now (room_in s) pass) s (record stand { at = stand.at + 1; blocked = true }) c.args.out.now.items c.args.log.now.notes =
+    let blocked : InPass start (with_room c.args.visit.now.request (room_in s) pass) s (record stand { at = stand.at + 1; blocked = true }) c.args.out.now.items c.args.log.now.notes =
     elim c.in-Merge.is [
-      | inl merge ↦ goes-merged start pass s stand c.args.out.now.items c.args.log.now.notes h c.args.r.now (room_in s) merge.0 (room ∙ merge.1)
-      | inr wait ↦ goes-roomless start pass s stand c.args.out.now.items c.args.log.now.notes h c.args.r.now (room_in s) (room ∙ wait)
+      | inl merge ↦ goes-merged start pass s stand c.args.out.now.items c.args.log.now.notes h c.args.visit.now.request (room_in s) merge.0 (room ∙ merge.1)
+      | inr wait ↦ goes-roomless start pass s stand c.args.out.now.items c.args.log.now.notes h c.args.visit.now.request (room_in s) (room ∙ wait)
     ] in
-    subst (λ (x : Stand). InPass start (with_room c.args.r.now (room_in s) pass) s x c.args.out.now.items c.args.log.now.notes) (sym c.block-in-Merge.ensures) blocked
+    subst (λ (x : Stand). InPass start (with_room c.args.visit.now.request (room_in s) pass) s x c.args.out.now.items c.args.log.now.notes) (sym c.block-in-Merge.ensures) blocked

@@ -7,5 +7,5 @@ pub returns-then-is_full-clause-goes_on : goal.returns-then-is_full-clause-goes_
 returns-then-is_full-clause-goes_on c =
     let full : is_full c.args.self.now ≡ true = ap is_full (sym c.self.view_is) ∙ full-test _ _ (c.is_full.ensures.full.0 c.if-is_full.true) in
     on_ok_weaker c.make_room.result
-    (λ goes start pass h. goes-full start pass c.args.self.now c.args.stand.now c.args.out.now.items c.args.log.now.notes h c.make_room.new.self c.make_room.new.stand c.make_room.new.out.items c.make_room.new.log.notes c.args.r.now c.if-stand.false full (goes start pass h))
+    (λ goes start pass h. goes-full start pass c.args.self.now c.args.visit.now.stand c.args.out.now.items c.args.log.now.notes h c.make_room.new.self c.make_room.new.visit.stand c.make_room.new.out.items c.make_room.new.log.notes c.args.visit.now.request c.if-visit.false full (goes start pass h))
     c.make_room.ensures.goes_on

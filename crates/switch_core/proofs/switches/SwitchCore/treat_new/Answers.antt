@@ -37,23 +37,23 @@ returns-clause-keeps c =
     let place-is : c.place-place.result ≡ entry_place c.args.self.now.directory.entries range = c.place-place.ensures.place ∙ ap (λ (v : SwitchView). entry_place v.directory.entries range) c.self.view_is in
     let within : c.place-place.result ≤ length c.args.self.now.directory.entries = subst (λ (v : SwitchView). c.place-place.result ≤ length v.directory.entries) c.self.view_is c.place-place.ensures.within in
     let found = entered-found c.args.self.now c.enter.new.self range c.place-place.result c.in_ok-enter.ensures.switch place-is within in
-    let there : slice_get c.enter.new.self.requests c.args.stand.now.at ≡ Some c.args.r.now = ap (λ (v : SwitchView). slice_get v.requests c.args.stand.now.at) c.in_ok-enter.ensures.switch ∙ c.requires.treatable.place in
-    let allowed : allows c.args.r.now.write (permission_at c.enter.new.self.protect c.args.r.now.page) ≡ true = ap (λ (v : SwitchView). allows c.args.r.now.write (permission_at v.protect c.args.r.now.page)) c.in_ok-enter.ensures.switch ∙ c.requires.treatable.allowed in
+    let there : slice_get c.enter.new.self.requests c.args.visit.now.stand.at ≡ Some c.args.visit.now.request = ap (λ (v : SwitchView). slice_get v.requests c.args.visit.now.stand.at) c.in_ok-enter.ensures.switch ∙ c.requires.treatable.place in
+    let allowed : allows c.args.visit.now.request.write (permission_at c.enter.new.self.protect c.args.visit.now.request.page) ≡ true = ap (λ (v : SwitchView). allows c.args.visit.now.request.write (permission_at v.protect c.args.visit.now.request.page)) c.in_ok-enter.ensures.switch ∙ c.requires.treatable.allowed in
     keeps-then c.args.self.now c.enter.new.self c.grant.new.self c.args.out.now.items c.args.out.now.items c.grant.new.out.items c.args.log.now.notes c.enter.new.log.notes c.grant.new.log.notes
     (keeps-done c.args.self.now c.enter.new.self (entered c.new_range-range.result c.args.self.now) c.args.out.now.items c.args.out.now.items c.args.log.now.notes c.enter.new.log.notes
     (safe-entered c.args.self.now c.new_range-range.result c.in_ok-enter.ensures.was c.requires.space) c.in_ok-enter.ensures.switch (sym (append-nil c.args.out.now.items)) c.in_ok-enter.ensures.noted)
     (keeps-done c.enter.new.self c.grant.new.self _ c.args.out.now.items c.grant.new.out.items c.enter.new.log.notes c.grant.new.log.notes
-    (safe-granted c.enter.new.self c.args.r.now c.args.stand.now.at c.place-place.result (fresh_entry c.new_range-range.result) c.in_ok-grant.ensures.was there allowed found)
+    (safe-granted c.enter.new.self c.args.visit.now.request c.args.visit.now.stand.at c.place-place.result (fresh_entry c.new_range-range.result) c.in_ok-grant.ensures.was there allowed found)
     c.in_ok-grant.ensures.switch c.in_ok-grant.ensures.sent c.in_ok-grant.ensures.noted)
 
 pub returns-clause-goes_on : goal.returns-clause-goes_on
 returns-clause-goes_on c = λ start pass h.
-    let stand : Stand = c.args.stand.now in
+    let stand : Stand = c.args.visit.now.stand in
     let range = c.new_range-range.result in
     let now : c.pass_by.new.self ≡ record stand { at = stand.at + 1; changed = true } = c.pass_by.ensures ∙ ap (λ (x : Stand). record x { at = x.at + 1 }) c.change.ensures in
-    let range-is : range ≡ new_range c.args.r.now.page c.args.self.now = c.new_range-range.ensures.new ∙ ap (new_range c.args.r.now.page) c.self.view_is in
+    let range-is : range ≡ new_range c.args.visit.now.request.page c.args.self.now = c.new_range-range.ensures.new ∙ ap (new_range c.args.visit.now.request.page) c.self.view_is in
     let place-is : c.place-place.result ≡ entry_place c.args.self.now.directory.entries range = c.place-place.ensures.place ∙ ap (λ (v : SwitchView). entry_place v.directory.entries range) c.self.view_is in
     let within : c.place-place.result ≤ length c.args.self.now.directory.entries = subst (λ (v : SwitchView). c.place-place.result ≤ length v.directory.entries) c.self.view_is c.place-place.ensures.within in
-    subst (λ (x : Stand). InPass start (enters c.args.r.now pass) c.grant.new.self x c.grant.new.out.items c.grant.new.log.notes) (sym now)
-    (goes-new start pass c.args.self.now stand c.args.out.now.items c.args.log.now.notes h c.enter.new.self c.grant.new.self c.grant.new.out.items c.enter.new.log.notes c.grant.new.log.notes c.args.r.now range c.place-place.result
+    subst (λ (x : Stand). InPass start (enters c.args.visit.now.request pass) c.grant.new.self x c.grant.new.out.items c.grant.new.log.notes) (sym now)
+    (goes-new start pass c.args.self.now stand c.args.out.now.items c.args.log.now.notes h c.enter.new.self c.grant.new.self c.grant.new.out.items c.enter.new.log.notes c.grant.new.log.notes c.args.visit.now.request range c.place-place.result
     c.in_ok-enter.ensures.was c.requires.space c.requires.treatable.place c.requires.treatable.waits c.requires.treatable.allowed range-is place-is within c.in_ok-grant.ensures.was c.in_ok-enter.ensures.switch c.in_ok-enter.ensures.noted c.in_ok-grant.ensures.switch c.in_ok-grant.ensures.sent c.in_ok-grant.ensures.noted)
