@@ -23,18 +23,9 @@ use toml::{Table, Value};
 fn home_in(alloc: Global, path: &str, value: &Value, homes: &Protect) -> Result<Span, RackRefusal>
     ensures { GivesJudged (λ span. span) result (home_judged (are_unmapped (permission_at homes.now)) path.now (view value.now)) }
 {
-    let table = match table_in(alloc, path, value) {
-        Ok(table) => table,
-        Err(e) => return Err(e),
-    };
-    let span = match span_in(alloc, path, table) {
-        Ok(span) => span,
-        Err(e) => return Err(e),
-    };
-    match check_known(alloc, Section::Home, path, table) {
-        Ok(()) => {}
-        Err(e) => return Err(e),
-    }
+    let table = table_in(alloc, path, value)?;
+    let span = span_in(alloc, path, table)?;
+    check_known(alloc, Section::Home, path, table)?;
     if is_unmapped(homes, &span) {
         Ok(span)
     } else {
@@ -52,10 +43,7 @@ fn next_home(
 ) -> Result<Span, RackRefusal>
     ensures { GivesJudged (λ span. span) result (home_judged (are_unmapped (permission_at table.now)) (member_path path.now (length homes.now)) (view value.now)) }
 {
-    let place = match element_path(alloc, path, homes.len()) {
-        Ok(place) => place,
-        Err(e) => return Err(e),
-    };
+    let place = element_path(alloc, path, homes.len())?;
     home_in(alloc, place.as_str(), value, table)
 }
 
@@ -98,14 +86,8 @@ fn homes_in(
 ) -> Result<Sequence<Span>, RackRefusal>
     ensures { GivesJudged (λ homes. homes) result (homes_judged (all_homes memories.now) path.now (table_view table.now)) }
 {
-    let values = match array_in(alloc, path, table, "homes", 1, 16) {
-        Ok(values) => values,
-        Err(e) => return Err(e),
-    };
-    let place = match key_path(alloc, path, "homes") {
-        Ok(place) => place,
-        Err(e) => return Err(e),
-    };
+    let values = array_in(alloc, path, table, "homes", 1, 16)?;
+    let place = key_path(alloc, path, "homes")?;
     homes_of(alloc, place.as_str(), values, memories)
 }
 
@@ -118,22 +100,11 @@ fn memory_in(
 ) -> Result<MemoryPlan, RackRefusal>
     ensures { GivesJudged (λ memory. memory) result (memory_judged memories.now path.now (view value.now)) }
 {
-    let table = match table_in(alloc, path, value) {
-        Ok(table) => table,
-        Err(e) => return Err(e),
-    };
-    let spare = match number_in(alloc, path, table, "spare", 0, 4096) {
-        Ok(spare) => spare,
-        Err(e) => return Err(e),
-    };
-    let homes = match homes_in(alloc, path, table, memories) {
-        Ok(homes) => homes,
-        Err(e) => return Err(e),
-    };
-    match check_known(alloc, Section::Memory, path, table) {
-        Ok(()) => Ok(MemoryPlan { homes, spare }),
-        Err(e) => Err(e),
-    }
+    let table = table_in(alloc, path, value)?;
+    let spare = number_in(alloc, path, table, "spare", 0, 4096)?;
+    let homes = homes_in(alloc, path, table, memories)?;
+    check_known(alloc, Section::Memory, path, table)?;
+    Ok(MemoryPlan { homes, spare })
 }
 
 fn next_memory(
@@ -143,10 +114,7 @@ fn next_memory(
 ) -> Result<MemoryPlan, RackRefusal>
     ensures { GivesJudged (λ memory. memory) result (memory_judged memories.now (member_path (codes "memory") (length memories.now)) (view value.now)) }
 {
-    let place = match element_path(alloc, "memory", memories.len()) {
-        Ok(place) => place,
-        Err(e) => return Err(e),
-    };
+    let place = element_path(alloc, "memory", memories.len())?;
     memory_in(alloc, place.as_str(), value, memories.as_slice())
 }
 
@@ -155,10 +123,7 @@ fn memories_of(alloc: Global, values: &[Value]) -> Result<Sequence<MemoryPlan>, 
 {
     let mut memories = Sequence::new(alloc);
     for value in values {
-        let memory = match next_memory(alloc, value, &memories) {
-            Ok(memory) => memory,
-            Err(e) => return Err(e),
-        };
+        let memory = next_memory(alloc, value, &memories)?;
         if memories.push(memory).is_err() {
             return Err(RackRefusal::NoMemory);
         }
@@ -202,14 +167,8 @@ pub(crate) fn memories_in(
 ) -> Result<Sequence<MemoryPlan>, RackRefusal>
     ensures { GivesJudged (λ memories. memories) result (memories_judged (table_view document.now)) }
 {
-    let values = match array_in(alloc, "", document, "memory", 1, 8) {
-        Ok(values) => values,
-        Err(e) => return Err(e),
-    };
-    let memories = match memories_of(alloc, values) {
-        Ok(memories) => memories,
-        Err(e) => return Err(e),
-    };
+    let values = array_in(alloc, "", document, "memory", 1, 8)?;
+    let memories = memories_of(alloc, values)?;
     if has_room(16384, memories.as_slice()) {
         Ok(memories)
     } else {

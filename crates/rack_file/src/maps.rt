@@ -26,14 +26,9 @@ use toml::{Table, Value};
 fn map_from(alloc: Global, path: &str, table: &Table) -> Result<MapPlan, RackRefusal>
     ensures { ReadsAs (λ entry. entry) result (keys_judged path.now (table_view table.now) map_keys) (map_at (table_view table.now)) }
 {
-    let span = match span_in(alloc, path, table) {
-        Ok(span) => span,
-        Err(e) => return Err(e),
-    };
-    match perm_in(alloc, path, table) {
-        Ok(perm) => Ok(MapPlan { span, perm }),
-        Err(e) => Err(e),
-    }
+    let span = span_in(alloc, path, table)?;
+    let perm = perm_in(alloc, path, table)?;
+    Ok(MapPlan { span, perm })
 }
 
 /// The map that a value describes, where these pages have a home and those are mapped.
@@ -46,18 +41,9 @@ fn map_in(
 ) -> Result<MapPlan, RackRefusal>
     ensures { GivesJudged (λ entry. entry) result (map_judged (are_placed homes.now.homes) (permission_at mapped.now) path.now (view value.now)) }
 {
-    let table = match table_in(alloc, path, value) {
-        Ok(table) => table,
-        Err(e) => return Err(e),
-    };
-    let entry = match map_from(alloc, path, table) {
-        Ok(entry) => entry,
-        Err(e) => return Err(e),
-    };
-    match check_known(alloc, Section::Map, path, table) {
-        Ok(()) => {}
-        Err(e) => return Err(e),
-    }
+    let table = table_in(alloc, path, value)?;
+    let entry = map_from(alloc, path, table)?;
+    check_known(alloc, Section::Map, path, table)?;
     if !is_placed(homes, &entry.span) {
         return Err(refused(alloc, RackFault::Unplaced, path));
     }
@@ -78,10 +64,7 @@ fn next_map(
     requires { permission_at mapped.now ≡ permission_of maps.now }
     ensures { GivesJudged (λ entry. entry) result (map_judged (are_placed homes.now.homes) (permission_of maps.now) (member_path (codes "map") (length maps.now)) (view value.now)) }
 {
-    let place = match element_path(alloc, "map", maps.len()) {
-        Ok(place) => place,
-        Err(e) => return Err(e),
-    };
+    let place = element_path(alloc, "map", maps.len())?;
     map_in(alloc, place.as_str(), value, homes, mapped)
 }
 
@@ -141,10 +124,7 @@ fn maps_within(
 ) -> Result<Sequence<MapPlan>, RackRefusal>
     ensures { GivesJudged (λ maps. maps) result (maps_within (are_placed homes.now.homes) most (items_view values.now)) }
 {
-    let mapped = match maps_of(alloc, values, homes) {
-        Ok(mapped) => mapped,
-        Err(e) => return Err(e),
-    };
+    let mapped = maps_of(alloc, values, homes)?;
     if mapped.cover > most {
         return Err(refused(alloc, RackFault::Slots, "map"));
     }
@@ -164,10 +144,7 @@ pub(crate) fn maps_in(
     requires spare { All (λ memory. memory.spare ≤ 4096) memories.now }
     ensures { GivesJudged (λ maps. maps) result (maps_judged (are_placed memories.now) most (table_view document.now)) }
 {
-    let values = match map_values(alloc, document) {
-        Ok(values) => values,
-        Err(e) => return Err(e),
-    };
+    let values = map_values(alloc, document)?;
     let homes = match range_translate::Table::new(alloc, memories, 0) {
         Ok(homes) => homes,
         Err(_) => return Err(RackRefusal::NoMemory),

@@ -105,12 +105,7 @@ pub fn rack_of(alloc: Global, bytes: &[u8]) -> Result<RackPlan, RackRefusal>
     ensures judged { GivesJudged (λ plan. plan) result (rack_judged (document_of bytes.now)) }
     ensures fit { IfOk result (λ plan. IsFit plan) }
 {
-    let document = match document_from(alloc, bytes) {
-        Ok(document) => document,
-        Err(e) => return Err(e),
-    };
-    match rack_in(alloc, &document) {
-        Ok(plan) => Ok(plan),
-        Err(e) => Err(e),
-    }
+    let document = document_from(alloc, bytes)?;
+    let plan = rack_in(alloc, &document)?;
+    Ok(plan)
 }

@@ -39,14 +39,12 @@ pub(crate) fn span_in(alloc: Global, path: &str, table: &Table) -> Result<Span, 
 {
     let domain = number_in(alloc, path, table, "domain", 0, 15)?;
     let base = number_in(alloc, path, table, "page", 0, 1048575)?;
-    match pages_in(alloc, path, table, base) {
-        Ok(pages) => Ok(Span {
-            domain: domain as u8,
-            base,
-            pages,
-        }),
-        Err(e) => Err(e),
-    }
+    let pages = pages_in(alloc, path, table, base)?;
+    Ok(Span {
+        domain: domain as u8,
+        base,
+        pages,
+    })
 }
 
 /// Reads the number of frames of a blade.
