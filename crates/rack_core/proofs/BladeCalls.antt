@@ -193,16 +193,12 @@ pub invalidate : (images : List Image) (w : World) (c : ℕ) (blade : BladeView)
     → HasBlade c blade w → IsSoundBlade w.perms blade → w.downs c ≡ Inv number range asked ∷ behind
     → DoesMoves w (took c behind w) c (after_message images (Inv number range asked) blade)
 invalidate images w c blade number range asked behind h sound head =
-    let pages = held_in range blade in
-    let after = (each_in given_up pages blade).blade in
     acknowledges w c blade is_some given_up (stands_in (run_of_block range)) (Inv number range asked) behind _ given_up-changes refl h sound head
-    (λ v has downs gone. answers_inv c after v number range asked (spared asked pages) behind has downs (λ page inside. not_some (frame_of page after.cache.entries) (gone page (λ frame o. inside))))
+    (λ v has downs gone. answers_inv c _ v number range asked (spared asked (held_in range blade)) behind has downs (λ page inside. not_some _ (gone page (λ frame o. inside))))
 
 pub lower : (images : List Image) (w : World) (c : ℕ) (blade : BladeView) (number : ℕ) (range : RangeView) (asked : PageView) (behind : List Msg)
     → HasBlade c blade w → IsSoundBlade w.perms blade → w.downs c ≡ Lower number range asked ∷ behind
     → DoesMoves w (took c behind w) c (after_message images (Lower number range asked) blade)
 lower images w c blade number range asked behind h sound head =
-    let pages = writable_in range blade in
-    let after = (each_in lowered pages blade).blade in
     acknowledges w c blade is_writable lowered (stands_writable_in (run_of_block range)) (Lower number range asked) behind _ lowered-changes refl h sound head
-    (λ v has downs gone. answers_lower c after v number range asked (spared (Some asked) pages) behind has downs (λ page inside. gone page (λ frame o. and_from _ _ inside o)))
+    (λ v has downs gone. answers_lower c _ v number range asked (spared (Some asked) (writable_in range blade)) behind has downs (λ page inside. gone page (λ frame o. and_from _ _ inside o)))

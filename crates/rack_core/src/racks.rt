@@ -8,8 +8,8 @@ ghost use Rattle.compute_blade.specs.Blade.{BeginsWith};
 ghost use Rattle.rack_net.specs.Net.{FindsFrame, FindsKept};
 ghost use Rattle.rack_core.specs.Calls.{HasNoFrame, HasSpentNumber, IsEventFor, IsKept, IsQuiet, KeepsNothing, Notes};
 ghost use Rattle.rack_core.specs.Events.{Leads};
+ghost use Rattle.rack_core.specs.Leaves.{Leaves};
 ghost use Rattle.rack_core.specs.Noted.{AreInPlace, CarriesOn};
-ghost use Rattle.rack_core.specs.Shape.{IsShaped};
 ghost use Rattle.rack_core.specs.StandLog.{StandsForLog};
 ghost use Rattle.rack_core.specs.Start.{IsStart};
 
@@ -135,10 +135,7 @@ impl Rack {
         requires fits { IsEventFor self.old.plan event.now }
         requires images { FitImages self.old.plan.images images.now }
         ensures leads { OnOk result (Notes (Leads images.now event.now self.old self.new) log.old.notes log.new.notes) }
-        ensures shape { OnOk result (IsShaped self.new) }
-        ensures spent { result ≡ Err Spent → HasSpentNumber self.new }
-        ensures err { OnErr result (BeginsWith log.old.notes log.new.notes) }
-        ensures plan { self.new.plan ≡ self.old.plan }
+        ensures leaves { Leaves result self.old self.new log.old.notes log.new.notes }
     {
         match *event {
             Event::Step { hart } => self.step(hart, images, log),

@@ -1,6 +1,6 @@
 //! Events at which a compute blade acts by itself.
 
-ghost use Rattle.std.specs.Prelude.{◌≡◌, ◌<◌, List, Some, length, slice_get, Err, OnErr, OnOk};
+ghost use Rattle.std.specs.Prelude.{◌≡◌, ◌<◌, List, Some, length, slice_get, Err, OnOk};
 ghost use Rattle.std.specs.List.{AllByRecursion};
 ghost use Rattle.mind_base.specs.Fit.{FitImages};
 ghost use Rattle.mind_base.specs.declared.events.Event.TheVariants as event;
@@ -9,12 +9,11 @@ ghost use Rattle.mind_base.specs.declared.images.Image.{Image as image};
 ghost use Rattle.mind_base.specs.declared.links.LinkKind.TheVariants.{Up};
 ghost use Rattle.mind_base.specs.declared.plans.ThreadPlan.{ThreadPlan};
 ghost use Rattle.wire_msg.specs.WellFormed.{FieldsAgree};
-ghost use Rattle.compute_blade.specs.Blade.{BeginsWith};
 ghost use Rattle.rack_net.specs.Net.{IsNet, NetView};
-ghost use Rattle.rack_core.specs.Calls.{HasSpentLink, HasSpentNumber, IsKept, Notes};
+ghost use Rattle.rack_core.specs.Calls.{HasSpentLink, IsKept, Notes};
 ghost use Rattle.rack_core.specs.Events.{Leads, SendsAll, on};
+ghost use Rattle.rack_core.specs.Leaves.{Leaves};
 ghost use Rattle.rack_core.specs.Rack.{with_net};
-ghost use Rattle.rack_core.specs.Shape.{IsShaped};
 
 use crate::racks::Rack;
 use crate::sends::send_each;
@@ -28,10 +27,7 @@ impl Rack {
         requires hart { hart < length self.old.plan.threads }
         requires images { FitImages self.old.plan.images images.now }
         ensures leads { OnOk result (Notes (Leads images.now (event.Step hart) self.old self.new) log.old.notes log.new.notes) }
-        ensures shape { OnOk result (IsShaped self.new) }
-        ensures spent { result ≡ Err Spent → HasSpentNumber self.new }
-        ensures err { OnErr result (BeginsWith log.old.notes log.new.notes) }
-        ensures plan { self.new.plan ≡ self.old.plan }
+        ensures leaves { Leaves result self.old self.new log.old.notes log.new.notes }
     {
         let number = self.blade_of(hart);
         let mut sent = Vec::new(self.alloc);
@@ -44,10 +40,7 @@ impl Rack {
         requires kept { IsKept self.old }
         requires hart { hart < length self.old.plan.threads }
         ensures leads { (images : List image) → OnOk result (Notes (Leads images (event.Drain hart) self.old self.new) log.old.notes log.new.notes) }
-        ensures shape { OnOk result (IsShaped self.new) }
-        ensures spent { result ≡ Err Spent → HasSpentNumber self.new }
-        ensures err { OnErr result (BeginsWith log.old.notes log.new.notes) }
-        ensures plan { self.new.plan ≡ self.old.plan }
+        ensures leaves { Leaves result self.old self.new log.old.notes log.new.notes }
     {
         let number = self.blade_of(hart);
         let mut sent = Vec::new(self.alloc);
@@ -60,10 +53,7 @@ impl Rack {
         requires kept { IsKept self.old }
         requires number { number < length self.old.plan.frames }
         ensures leads { (images : List image) → OnOk result (Notes (Leads images (event.Evict number page) self.old self.new) log.old.notes log.new.notes) }
-        ensures shape { OnOk result (IsShaped self.new) }
-        ensures spent { result ≡ Err Spent → HasSpentNumber self.new }
-        ensures err { OnErr result (BeginsWith log.old.notes log.new.notes) }
-        ensures plan { self.new.plan ≡ self.old.plan }
+        ensures leaves { Leaves result self.old self.new log.old.notes log.new.notes }
     {
         let mut sent = Vec::new(self.alloc);
         self.blades[usize::from(number)].evict(page, &mut sent, log)?;

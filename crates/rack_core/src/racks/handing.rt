@@ -1,19 +1,18 @@
 //! A frame is delivered: what its link gives is handed to the node at its end, message by message.
 
-ghost use Rattle.std.specs.Prelude.{◌≡◌, ◌<◌, [], All, length, Err, OnErr, OnOk, reverse};
+ghost use Rattle.std.specs.Prelude.{◌≡◌, ◌<◌, [], All, length, Err, OnOk, reverse};
 ghost use Rattle.mind_base.specs.Fit.{FitImages};
 ghost use Rattle.mind_base.specs.declared.events.Event.TheVariants as event;
 ghost use Rattle.mind_base.specs.declared.failures.Stop.TheVariants.{Spent};
 ghost use Rattle.mind_base.specs.declared.links.LinkKind.TheVariants.{Down, To};
 ghost use Rattle.wire_msg.specs.WellFormed.{IsWellFormed};
-ghost use Rattle.compute_blade.specs.Blade.{BeginsWith};
 ghost use Rattle.switch_core.specs.Handling.{MayComeToSwitch};
 ghost use Rattle.switch_core.specs.Sending.{AreFetchesAllowed};
-ghost use Rattle.rack_core.specs.BladeMoves.{AreBladesSound};
 ghost use Rattle.rack_core.specs.Calls.{HasLink, HasSpentNumber, IsKept, MayBeHanded, Notes};
 ghost use Rattle.rack_core.specs.Events.{HandsTo, HandsAll, Leads, MemoryHears, SwitchHears};
 ghost use Rattle.rack_core.specs.Shape.{IsShaped};
-ghost use Rattle.rack_core.specs.Handing.{IsHanding};
+ghost use Rattle.rack_core.specs.Handing.{IsHanding, IsReady};
+ghost use Rattle.rack_core.specs.Leaves.{Leaves};
 
 use crate::racks::Rack;
 use crate::sends::{send, send_all};
@@ -34,10 +33,7 @@ impl Rack {
         requires link { HasLink self.old.plan link }
         requires images { FitImages self.old.plan.images images.now }
         ensures leads { OnOk result (Notes (Leads images.now (event.Deliver link side k) self.old self.new) log.old.notes log.new.notes) }
-        ensures shape { OnOk result (IsShaped self.new) }
-        ensures spent { result ≡ Err Spent → HasSpentNumber self.new }
-        ensures err { OnErr result (BeginsWith log.old.notes log.new.notes) }
-        ensures plan { self.new.plan ≡ self.old.plan }
+        ensures leaves { Leaves result self.old self.new log.old.notes log.new.notes }
     {
         let mut taken = self.net.deliver(link, side, k)?;
         taken.reverse();
@@ -58,10 +54,7 @@ impl Rack {
         requires formed { All IsWellFormed left.items }
         requires images { FitImages self.old.plan.images images.now }
         ensures ok { OnOk result (Notes (HandsAll images.now link (reverse left.items) self.old self.new) log.old.notes log.new.notes) }
-        ensures shape { OnOk result (IsShaped self.new) }
-        ensures spent { result ≡ Err Spent → HasSpentNumber self.new }
-        ensures err { OnErr result (BeginsWith log.old.notes log.new.notes) }
-        ensures plan { self.new.plan ≡ self.old.plan }
+        ensures leaves { Leaves result self.old self.new log.old.notes log.new.notes }
     {
         while let Some(msg) = left.pop() {
             self.hand(link, msg, images, log)?;
@@ -77,18 +70,13 @@ impl Rack {
         images: &[Image],
         log: &mut Log,
     ) -> Result<(), Stop>
-        requires shape { IsShaped self.old }
-        requires sound { AreBladesSound self.old }
+        requires ready { IsReady images.now self.old }
         requires link { HasLink self.old.plan link }
         requires may { MayBeHanded link.kind link.number msg self.old }
         requires formed { IsWellFormed msg }
         requires allowed { AreFetchesAllowed self.old.switch }
-        requires images { FitImages self.old.plan.images images.now }
         ensures ok { OnOk result (Notes (HandsTo link.kind images.now link.number msg self.old self.new) log.old.notes log.new.notes) }
-        ensures shape { OnOk result (IsShaped self.new) }
-        ensures spent { result ≡ Err Spent → HasSpentNumber self.new }
-        ensures err { OnErr result (BeginsWith log.old.notes log.new.notes) }
-        ensures plan { self.new.plan ≡ self.old.plan }
+        ensures leaves { Leaves result self.old self.new log.old.notes log.new.notes }
     {
         match link.kind {
             LinkKind::Up => self.hand_to_switch(link, msg, log),
@@ -104,10 +92,7 @@ impl Rack {
         requires formed { IsWellFormed msg }
         requires allowed { AreFetchesAllowed self.old.switch }
         ensures ok { OnOk result (Notes (SwitchHears link msg self.old self.new) log.old.notes log.new.notes) }
-        ensures shape { OnOk result (IsShaped self.new) }
-        ensures spent { result ≡ Err Spent → HasSpentNumber self.new }
-        ensures err { OnErr result (BeginsWith log.old.notes log.new.notes) }
-        ensures plan { self.new.plan ≡ self.old.plan }
+        ensures leaves { Leaves result self.old self.new log.old.notes log.new.notes }
     {
         let mut sent = Vec::new(self.alloc);
         self.switch.receive(link, msg, &mut sent, log)?;
@@ -121,16 +106,11 @@ impl Rack {
         images: &[Image],
         log: &mut Log,
     ) -> Result<(), Stop>
-        requires shape { IsShaped self.old }
-        requires sound { AreBladesSound self.old }
+        requires ready { IsReady images.now self.old }
         requires number { number < length self.old.plan.frames }
         requires may { MayBeHanded Down number msg self.old }
-        requires images { FitImages self.old.plan.images images.now }
         ensures ok { OnOk result (Notes (HandsTo Down images.now number msg self.old self.new) log.old.notes log.new.notes) }
-        ensures shape { OnOk result (IsShaped self.new) }
-        ensures spent { result ≡ Err Spent → HasSpentNumber self.new }
-        ensures err { OnErr result (BeginsWith log.old.notes log.new.notes) }
-        ensures plan { self.new.plan ≡ self.old.plan }
+        ensures leaves { Leaves result self.old self.new log.old.notes log.new.notes }
     {
         let mut sent = Vec::new(self.alloc);
         self.blades[usize::from(number)].receive(msg, images, &mut sent, log)?;

@@ -12,14 +12,6 @@ drain-requires c =
     blade-own c.args.self.now c.args.hart c.blade_of-number.result c.index_mut.result.now c.requires.kept.shape c.blade_of-number.ensures
     (there _ c.args.self.now _ c.blade_of-number.result c.index_mut.result.now (hart-at _ c.args.self.now _ _ c.args.hart _ c.self.view_is c.from.ensures c.index_mut.ensures.value c.requires.kept.shape c.blade_of-number.ensures))
 
-pub returns-in_err-drain-clause-spent : goal.returns-in_err-drain-clause-spent
-returns-in_err-drain-clause-spent c = λ err.
-    let is : c.drain.result ≡ Err Spent = search rules in
-    let spent = c.drain.ensures.spent is in
-    inr (inr (spent-place _ c.args.self.now _ c.blade_of-number.result c.index_mut.result.now c.drain.new.self c.args.hart
-    (hart-at _ c.args.self.now _ _ c.args.hart _ c.self.view_is c.from.ensures c.index_mut.ensures.value c.requires.kept.shape c.blade_of-number.ensures)
-    (subst (λ (b : BladeView). HasSpent c.args.hart b) (sym spent.1) spent.0)))
-
 pub send_up-requires-clause-of_rack : goal.send_up-requires-clause-of_rack
 send_up-requires-clause-of_rack c = of-net c.blade_of-number.result c.args.self.now c.self.inside.net.blades (ap (λ (r : RackView). r.net.blades) c.self.view_is) c.requires.kept.shape (blade-within c.args.self.now c.args.hart c.blade_of-number.result c.requires.kept.shape c.blade_of-number.ensures)
 
@@ -35,7 +27,21 @@ returns-clause-leads c = λ images.
     c.blade_of-number.ensures
     (did-sent (blade_after_drain c.args.hart c.index_mut.result.now) c.drain.new.self _ c.drain.new.out.items c.as_slice.result.now c.args.log.now.notes c.drain.new.log.notes c.new-sent.ensures.items c.as_slice.ensures.value c.in_ok-drain.ensures.ok) c.send_up.ensures.ok
 
-pub returns-clause-shape : goal.returns-clause-shape
-returns-clause-shape c =
-    shape-acted _ c.args.self.now c.send_up.new.self _ c.blade_of-number.result c.index_mut.result.now c.drain.new.self c.as_slice.result.now c.send_up.result
-    (hart-at _ c.args.self.now _ _ c.args.hart _ c.self.view_is c.from.ensures c.index_mut.ensures.value c.requires.kept.shape c.blade_of-number.ensures) c.drain.ensures.keeps c.send_up.ensures.net c.requires.kept.shape c.send_up.ensures.ok
+pub returns-clause-leaves : goal.returns-clause-leaves
+returns-clause-leaves c =
+    let shape = shape-acted _ c.args.self.now c.send_up.new.self _ c.blade_of-number.result c.index_mut.result.now c.drain.new.self c.as_slice.result.now c.send_up.result
+    (hart-at _ c.args.self.now _ _ c.args.hart _ c.self.view_is c.from.ensures c.index_mut.ensures.value c.requires.kept.shape c.blade_of-number.ensures) c.drain.ensures.keeps c.send_up.ensures.net c.requires.kept.shape c.send_up.ensures.ok in
+    record { shape = shape; spent = search rules; err = search rules; plan = search rules }
+
+pub returns-in_err-drain-clause-leaves : goal.returns-in_err-drain-clause-leaves
+returns-in_err-drain-clause-leaves c = record {
+  shape = search rules;
+  spent = λ err.
+      let is : c.drain.result ≡ Err Spent = search rules in
+      let spent = c.drain.ensures.spent is in
+      inr (inr (spent-place _ c.args.self.now _ c.blade_of-number.result c.index_mut.result.now c.drain.new.self c.args.hart
+      (hart-at _ c.args.self.now _ _ c.args.hart _ c.self.view_is c.from.ensures c.index_mut.ensures.value c.requires.kept.shape c.blade_of-number.ensures)
+      (subst (λ (b : BladeView). HasSpent c.args.hart b) (sym spent.1) spent.0)));
+  err = search rules;
+  plan = search rules;
+}

@@ -8,7 +8,7 @@ use Rattle.rack_core.proofs.racks.Rack.event.Goals as goal
 pub returns-clause-kept : goal.returns-clause-kept
 returns-clause-kept c = both-ok c.lead.result
     (λ shape leads. kept-after c.args.images.now c.args.event.now c.args.self.now c.lead.new.self c.args.log.now.notes c.lead.new.log.notes c.requires.kept c.requires.fits shape leads)
-    c.lead.ensures.shape c.lead.ensures.leads
+    c.lead.ensures.leaves.shape c.lead.ensures.leads
 
 pub returns-clause-stands : goal.returns-clause-stands
 returns-clause-stands c = both-ok c.lead.result
@@ -18,7 +18,7 @@ returns-clause-stands c = both-ok c.lead.result
           (of-rack c.args.self.now.plan c.args.event.now c.requires.kept.shape.fit c.requires.fits) stands leads.1 (shaped-counted c.lead.new.self shape),
       leads.2,
     ))
-    c.lead.ensures.shape c.lead.ensures.leads
+    c.lead.ensures.leaves.shape c.lead.ensures.leads
 
 pub returns-clause-places : goal.returns-clause-places
 returns-clause-places c = when-ok c.lead.result

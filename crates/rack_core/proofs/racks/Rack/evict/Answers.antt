@@ -1,4 +1,4 @@
-use Rattle.std.proofs.Common.{ap, Some}
+use Rattle.std.proofs.Common.{ap, Some, rules}
 use Rattle.compute_blade.specs.Pages.{given_up}
 use Rattle.compute_blade.proofs.Acting.{gives}
 use Rattle.rack_core.specs.Rack.{RackView}
@@ -21,7 +21,8 @@ returns-clause-leads c = λ images.
     (number-at _ c.args.self.now _ _ _ c.self.view_is c.from.ensures c.index_mut.ensures.value c.requires.kept.shape c.requires.number)
     (did-sent (Some (given_up c.args.page c.index_mut.result.now)) c.evict.new.self _ c.evict.new.out.items c.as_slice.result.now c.args.log.now.notes c.evict.new.log.notes c.new-sent.ensures.items c.as_slice.ensures.value c.in_ok-evict.ensures.ok) c.send_up.ensures.ok
 
-pub returns-clause-shape : goal.returns-clause-shape
-returns-clause-shape c =
-    shape-acted _ c.args.self.now c.send_up.new.self _ c.args.number c.index_mut.result.now c.evict.new.self c.as_slice.result.now c.send_up.result
-    (number-at _ c.args.self.now _ _ _ c.self.view_is c.from.ensures c.index_mut.ensures.value c.requires.kept.shape c.requires.number) c.evict.ensures.keeps c.send_up.ensures.net c.requires.kept.shape c.send_up.ensures.ok
+pub returns-clause-leaves : goal.returns-clause-leaves
+returns-clause-leaves c =
+    let shape = shape-acted _ c.args.self.now c.send_up.new.self _ c.args.number c.index_mut.result.now c.evict.new.self c.as_slice.result.now c.send_up.result
+    (number-at _ c.args.self.now _ _ _ c.self.view_is c.from.ensures c.index_mut.ensures.value c.requires.kept.shape c.requires.number) c.evict.ensures.keeps c.send_up.ensures.net c.requires.kept.shape c.send_up.ensures.ok in
+    record { shape = shape; spent = search rules; err = search rules; plan = search rules }

@@ -24,8 +24,8 @@ loop-msg-preserved c =
     let rest = c.pop.new.self.items in
     let items : c.loop-msg.left.items ≡ rest ++ c.in-Some.msg ∷ [] = search rules in
     let first : reverse c.loop-msg.left.items ≡ c.in-Some.msg ∷ reverse rest = last-first c.loop-msg.left.items rest c.in-Some.msg items in (
-      c.in_ok-hand.ensures.shape,
-      c.hand.ensures.plan ∙ c.loop-msg.invariant.1,
+      c.in_ok-hand.ensures.leaves.shape,
+      c.hand.ensures.leaves.plan ∙ c.loop-msg.invariant.1,
       handing-next c.args.images.now c.args.link c.in-Some.msg (reverse rest) c.loop-msg.self c.hand.new.self c.loop-msg.log.notes c.hand.new.log.notes c.loop-msg.invariant.0.fit
           (subst (λ p. HasLink p c.args.link) (sym c.loop-msg.invariant.1) c.requires.link)
           (subst (λ ms. IsHanding c.args.link ms c.loop-msg.self) first c.loop-msg.invariant.2) c.in_ok-hand.ensures.ok,
