@@ -6,6 +6,7 @@
 use hart_core::{Act, Regs, act, amo, extend, load_size};
 use rv32_decode::{AmoKind, LoadKind, decode};
 use std::alloc::Global;
+use std::process::Abort;
 use std::test::Fail;
 
 // A word, what x5 and x6 contain, the pc, and the value for x7.
@@ -69,36 +70,35 @@ static VALUES: [(u32, u32, u32, u32, u32); 57] = [
     (0xffff_f397, 0, 0, 0x2000, 0x1000),
 ];
 
-// A jump or a branch, what x5 and x6 contain, the pc, and where it leads.
-static JUMPS: [(u32, u32, u32, u32, u32); 28] = [
-    (0xfe62_8ce3, 5, 5, 256, 248),
-    (0xfe62_8ce3, 0xffff_ffff, 1, 256, 260),
-    (0xfe62_8ce3, 1, 0xffff_ffff, 256, 260),
-    (0xfe62_9ce3, 5, 5, 256, 260),
-    (0xfe62_9ce3, 0xffff_ffff, 1, 256, 248),
-    (0xfe62_9ce3, 1, 0xffff_ffff, 256, 248),
-    (0xfe62_cce3, 5, 5, 256, 260),
-    (0xfe62_cce3, 0xffff_ffff, 1, 256, 248),
-    (0xfe62_cce3, 1, 0xffff_ffff, 256, 260),
-    (0xfe62_dce3, 5, 5, 256, 248),
-    (0xfe62_dce3, 0xffff_ffff, 1, 256, 260),
-    (0xfe62_dce3, 1, 0xffff_ffff, 256, 248),
-    (0xfe62_ece3, 5, 5, 256, 260),
-    (0xfe62_ece3, 0xffff_ffff, 1, 256, 260),
-    (0xfe62_ece3, 1, 0xffff_ffff, 256, 248),
-    (0xfe62_fce3, 5, 5, 256, 248),
-    (0xfe62_fce3, 0xffff_ffff, 1, 256, 248),
-    (0xfe62_fce3, 1, 0xffff_ffff, 256, 260),
+// What x5 and x6 contain.
+static PAIRS: [(u32, u32); 3] = [(5, 5), (0xffff_ffff, 1), (1, 0xffff_ffff)];
+
+// A branch at 256 by -8, and where it leads with each of the pairs.
+static BRANCHES: [(u32, [u32; 3]); 6] = [
+    (0xfe62_8ce3, [248, 260, 260]),
+    (0xfe62_9ce3, [260, 248, 248]),
+    (0xfe62_cce3, [260, 248, 260]),
+    (0xfe62_dce3, [248, 260, 248]),
+    (0xfe62_ece3, [260, 260, 248]),
+    (0xfe62_fce3, [248, 248, 260]),
+];
+
+// A branch, what x5 and x6 contain, the pc, and where it leads.
+static FAR_BRANCHES: [(u32, u32, u32, u32, u32); 3] = [
     (0x0062_8363, 1, 1, 256, 262),
     (0x0062_8363, 1, 2, 256, 260),
     (0x8062_9063, 1, 2, 0, 0xffff_f000),
-    (0xff9f_f3ef, 0, 0, 0, 0xffff_fff8),
-    (0x7fff_f3ef, 0, 0, 4, 0x10_0002),
-    (0x0020_006f, 0, 0, 0, 2),
-    (0x0012_83e7, 0x2000, 0, 8, 0x2000),
-    (0xfff2_83e7, 0x2000, 0, 8, 0x1ffe),
-    (0xffc2_82e7, 0, 0, 8, 0xffff_fffc),
-    (0x0060_0067, 0, 0, 24, 6),
+];
+
+// A jump, what x5 contains, the pc, and where it leads.
+static JUMPS: [(u32, u32, u32, u32); 7] = [
+    (0xff9f_f3ef, 0, 0, 0xffff_fff8),
+    (0x7fff_f3ef, 0, 4, 0x10_0002),
+    (0x0020_006f, 0, 0, 2),
+    (0x0012_83e7, 0x2000, 8, 0x2000),
+    (0xfff2_83e7, 0x2000, 8, 0x1ffe),
+    (0xffc2_82e7, 0, 8, 0xffff_fffc),
+    (0x0060_0067, 0, 24, 6),
 ];
 
 // A fence, and whether it is ordering.
@@ -337,15 +337,33 @@ fn operations_compute_values(rt: HostRuntime) {
     }
 }
 
+/// The jump or branch leads there with these words in x5 and x6, or would, where that is no multiple of 4.
+fn leads(rt: &impl Abort, word: u32, operands: (u32, u32), pc: u32, target: u32) {
+    let (x5, x6) = operands;
+    let led = match asked(word, x5, x6, pc) {
+        Some(Act::Next { pc: next, .. }) => (true, next),
+        Some(Act::Jumped { target: fault }) => (false, fault),
+        _ => (false, 0),
+    };
+    assert_eq!(rt; led, (target % 4 == 0, target), "{word:08x} of {x5:08x}");
+}
+
 #[test]
-fn jumps_and_branches_lead_on(rt: HostRuntime) {
-    for (word, x5, x6, pc, target) in &JUMPS {
-        let led = match asked(*word, *x5, *x6, *pc) {
-            Some(Act::Next { pc: next, .. }) => (true, next),
-            Some(Act::Jumped { target: fault }) => (false, fault),
-            _ => (false, 0),
-        };
-        assert_eq!(rt; led, (*target % 4 == 0, *target), "{word:08x} of {x5:08x}");
+fn branches_lead_on(rt: HostRuntime) {
+    for (word, targets) in &BRANCHES {
+        for (operands, target) in PAIRS.iter().zip(targets) {
+            leads(&rt, *word, *operands, 256, *target);
+        }
+    }
+    for (word, x5, x6, pc, target) in &FAR_BRANCHES {
+        leads(&rt, *word, (*x5, *x6), *pc, *target);
+    }
+}
+
+#[test]
+fn jumps_lead_on(rt: HostRuntime) {
+    for (word, x5, pc, target) in &JUMPS {
+        leads(&rt, *word, (*x5, 0), *pc, *target);
     }
 }
 
