@@ -50,6 +50,3 @@ pub use sequences::Sequence;
 pub use sinks::{Sink, WriteError};
 pub use spans::Span;
 pub use stores::{ReadError, Store};
-
-#[cfg(test)]
-mod tests;

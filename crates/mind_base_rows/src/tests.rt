@@ -1,5 +1,9 @@
 //! What no contract says: real files and real output, and each call with ample memory.
-use crate::*;
+use mind_base::{
+    DirStore, Image, ImagePlan, Log, MemSink, MemStore, MemoryPlan, Name, Note, NumberFault,
+    OutSink, Page, Place, PolicyKind, RackPlan, Range, ReadError, Sequence, Sink, Span, Store,
+    ThreadPlan, WriteError, number,
+};
 use std::fs;
 use std::test::Fail;
 
