@@ -6,6 +6,3 @@ mod kept_pages;
 mod memories;
 
 pub use memories::FlatMemory;
-
-#[cfg(test)]
-mod tests;

@@ -2,7 +2,7 @@
 
 ghost use Rattle.mind_base.specs.Pending.{IsPending};
 
-use super::*;
+use flat_memory::FlatMemory;
 use mind_base::{Pending, Place, Span};
 use std::test::Fail;
 
