@@ -1,7 +1,5 @@
 //! Stores and zeroed spans, read back by rows.
 
-ghost use Rattle.mind_base.specs.Pending.{IsPending};
-
 use flat_memory::FlatMemory;
 use mind_base::{Pending, Place, Span};
 use std::test::Fail;
@@ -12,16 +10,6 @@ type Row = (u8, u32, u8);
 fn holds(memory: &FlatMemory, row: &Row) -> bool {
     let (domain, address, byte) = *row;
     domain < 16 && memory.byte(Place::of(domain, address)) == byte
-}
-
-fn store(address: u32, size: u8, value: u32) -> Pending
-    requires { IsPending address size }
-{
-    Pending {
-        address,
-        size,
-        value,
-    }
 }
 
 #[test]
@@ -38,7 +26,7 @@ fn a_word_is_read_back_low_byte_first(rt: HostRuntime) -> Result<(), Fail> {
         (15, 0xffff_ffff, 0x00),
     ];
     let mut memory = FlatMemory::new(rt.alloc())?;
-    memory.store(3, store(0x5ffc, 4, 0x1122_3344))?;
+    memory.store(3, Pending::of(0x5ffc, 4, 0x1122_3344))?;
     for row in &rows {
         let (domain, address, _) = *row;
         assert!(rt; holds(&memory, row), "domain {domain}, address {address}");
@@ -57,9 +45,9 @@ fn smaller_stores_change_their_own_bytes_alone(rt: HostRuntime) -> Result<(), Fa
         (15, 0x0000_0000, 0x00),
     ];
     let mut memory = FlatMemory::new(rt.alloc())?;
-    memory.store(15, store(0xffff_fffc, 4, 0x1122_3344))?;
-    memory.store(15, store(0xffff_fffc, 2, 0x9988_5566))?;
-    memory.store(15, store(0xffff_ffff, 1, 0x9988_7777))?;
+    memory.store(15, Pending::of(0xffff_fffc, 4, 0x1122_3344))?;
+    memory.store(15, Pending::of(0xffff_fffc, 2, 0x9988_5566))?;
+    memory.store(15, Pending::of(0xffff_ffff, 1, 0x9988_7777))?;
     for row in &rows {
         let (domain, address, _) = *row;
         assert!(rt; holds(&memory, row), "domain {domain}, address {address}");
@@ -80,7 +68,7 @@ fn the_pages_of_a_span_become_zero_and_no_others(rt: HostRuntime) -> Result<(), 
     let mut memory = FlatMemory::new(rt.alloc())?;
     for (domain, address, _) in &rows {
         if *domain < 16 {
-            memory.store(*domain, store(*address, 1, 0xaa))?;
+            memory.store(*domain, Pending::of(*address, 1, 0xaa))?;
         }
     }
     let span = Span {

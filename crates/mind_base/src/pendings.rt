@@ -1,7 +1,7 @@
 //! A store that waits in a buffer.
 
 ghost use Rattle.std.specs.Prelude.{◌≡◌, None, Some, if◌then◌else◌};
-ghost use Rattle.mind_base.specs.Pending.{covers, byte_at};
+ghost use Rattle.mind_base.specs.Pending.{IsPending, covers, byte_at};
 
 use std::marker::Model;
 
@@ -27,6 +27,18 @@ impl Model for Pending {
 }
 
 impl Pending {
+    /// The store of the low bytes of a value.
+    pub fn of(address: u32, size: u8, value: u32) -> Pending
+        requires { IsPending address size }
+        ensures { result ≡ record { address = address; size = size; value = value } }
+    {
+        Pending {
+            address,
+            size,
+            value,
+        }
+    }
+
     /// The byte that the store has at an address, where it covers it.
     pub fn covered_byte(&self, address: u32) -> Option<u8>
         ensures { result ≡ (if covers self.now address then Some (byte_at self.now address) else None) }

@@ -1,26 +1,14 @@
 //! A full queue.
 
-ghost use Rattle.mind_base.specs.Pending.{IsPending};
-
 use std::test::Fail;
 use store_queue::{Pending, StoreQueue};
-
-fn pending(address: u32, size: u8, value: u32) -> Pending
-    requires { IsPending address size }
-{
-    Pending {
-        address,
-        size,
-        value,
-    }
-}
 
 #[test]
 fn a_queue_of_two_refuses_the_third_store(rt: HostRuntime) -> Result<(), Fail> {
     let mut queue = StoreQueue::new(rt.alloc(), 2)?;
-    let word = pending(0x1000, 4, 0x1122_3344);
-    let half = pending(0x1002, 2, 0xaabb);
-    let byte = pending(7, 1, 9);
+    let word = Pending::of(0x1000, 4, 0x1122_3344);
+    let half = Pending::of(0x1002, 2, 0xaabb);
+    let byte = Pending::of(7, 1, 9);
     assert_eq!(rt; queue.front(), None);
     assert_eq!(rt; queue.push(word), Ok(()));
     assert!(rt; !queue.is_full());

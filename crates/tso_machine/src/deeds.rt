@@ -23,11 +23,7 @@ pub fn take_effect(store: Pending, domain: u8, memory: &mut FlatMemory) -> Resul
     ensures err { OnErr result (memory.new ≡ memory.old) }
 {
     let place = Place::of(domain, store.address);
-    let there = Pending {
-        address: place.address,
-        size: store.size,
-        value: store.value,
-    };
+    let there = Pending::of(place.address, store.size, store.value);
     memory.store(place.domain, there)?;
     Ok(())
 }
