@@ -57,11 +57,12 @@ abbrev pub still_reserved : List (PageView × Frame) → Option Reservation → 
 still_reserved entries None = None
 still_reserved entries (Some kept) = if_same_tag (held_tag entries kept.granule) kept
 
--- the thread that a hart is, where this granule is reserved
-abbrev pub thread_with : Option Granule → HartView → Thread
-thread_with reserved hart =
-    record { regs = hart.regs; end = hart.end; output = hart.output; buffer = hart.queue.stores; reserved = reserved }
-
 -- a hart as its instructions see it
 abbrev pub thread_of : List (PageView × Frame) → HartView → Thread
-thread_of entries hart = thread_with (still_reserved entries hart.reserved) hart
+thread_of entries hart = record {
+  regs = hart.regs;
+  end = hart.end;
+  output = hart.output;
+  buffer = hart.queue.stores;
+  reserved = still_reserved entries hart.reserved;
+}
