@@ -22,29 +22,27 @@ pub enum RackFault {
 
 /// Where in a rack file: names and numbers, counted from 0, with dots between them.
 #[derive(Debug, Drop)]
-pub struct Path {
-    text: String,
-}
+pub struct Path(String);
 
 impl Model for Path {
     ghost use Rattle.std.specs.Prelude.{ℕ, List, string_bytes};
 
     ghost Value = { List ℕ };
 
-    ghost view = { λ p. string_bytes p.text };
+    ghost view = { λ p. string_bytes p.0 };
 }
 
 impl Path {
     pub(crate) fn from_text(text: String) -> Path
         ensures { result ≡ string_bytes text }
     {
-        Path { text }
+        Path(text)
     }
 
     pub fn as_bytes(&self) -> &[u8]
         ensures { result.now ≡ self.now }
     {
-        self.text.as_bytes()
+        self.0.as_bytes()
     }
 }
 
@@ -96,7 +94,7 @@ pub(crate) fn refused(alloc: Global, what: RackFault, path: &str) -> RackRefusal
     match String::from_str(alloc, path) {
         Ok(text) => RackRefusal::Refused {
             what,
-            path: Path::from_text(text),
+            path: Path(text),
         },
         Err(_) => RackRefusal::NoMemory,
     }
@@ -109,7 +107,7 @@ pub(crate) fn refused_key(alloc: Global, what: RackFault, path: &str, name: &str
     match key_path(alloc, path, name) {
         Ok(text) => RackRefusal::Refused {
             what,
-            path: Path::from_text(text),
+            path: Path(text),
         },
         Err(_) => RackRefusal::NoMemory,
     }
