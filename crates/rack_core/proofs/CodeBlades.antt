@@ -6,6 +6,7 @@ use Rattle.std.proofs.lemmas.Bool.{eq-eqb}
 use Rattle.std.proofs.lemmas.List.{length-set}
 use Rattle.std.proofs.lemmas.Option.{same_Some, none-some, slice_get-get_or}
 use Rattle.mind_base.specs.Fit.{IsFitThread}
+use Rattle.mind_base.specs.declared.images.Image.{Image}
 use Rattle.mind_base.specs.declared.links.LinkKind.TheVariants.{Up}
 use Rattle.mind_base.specs.declared.notes.Note.{Note}
 use Rattle.mind_base.specs.declared.plans.RackPlan.{RackPlan}
@@ -15,9 +16,13 @@ use Rattle.wire_msg.specs.declared.msgs.Msg.{Msg}
 use Rattle.compute_blade.specs.Actions.{IsActions}
 use Rattle.compute_blade.specs.Blade.{BladeView, BladeEffect, Did, DidSome, StaysBlade, HasSpent, hart_of}
 use Rattle.compute_blade.specs.declared.kept.Asked.{Asked}
+use Rattle.compute_blade.proofs.Acting.{step_acts, drain_acts}
 use Rattle.rack_net.specs.Net.{IsNet, NetView}
 use Rattle.rack_core.specs.Calls.{HasSpentHart, Notes}
-use Rattle.rack_core.specs.Events.{BladeDoes, Acts, ActsWith, HartDoes, SendsAll, on}
+use Rattle.rack_core.specs.Events.{BladeDoes, Acts, ActsWith, HartDoes, Leads, SendsAll, on}
+use Rattle.rack_core.specs.HartActs.{acted, event_of}
+use Rattle.rack_core.specs.declared.acts.HartAct.{HartAct}
+use Rattle.rack_core.specs.declared.acts.HartAct.TheVariants.{Step, Drain}
 use Rattle.rack_core.specs.Rack.{RackView, with_blade_at, with_net}
 use Rattle.rack_core.specs.Shape.{IsShaped, IsBladeOf}
 use Rattle.rack_core.proofs.Lookups.{slice_get-set, slice_get-set_other}
@@ -222,3 +227,18 @@ pub shape-acted : {A E : Type 0} (inside now new : RackView) (i c : ℕ) (blade 
     → (IsNet inside.net → IsNet new.net) → IsShaped now → OnOk r (SentUp inside i c after sent new) → OnOk r (IsShaped new)
 shape-acted inside now new i c blade after sent r at keeps net shape sends =
     when-ok r (λ done. shape-went c blade after sent now new (went inside now new i c blade after sent at done) keeps (net (subst (λ (x : RackView). IsNet x.net) (sym at.view) shape.net)) shape) sends
+
+-- ---- a hart is let act
+
+pub acted-acts : (act : HartAct) (images : List Image) (h : ℕ) (blade : BladeView) → IfSome (acted act images h blade) (IsActions blade)
+acted-acts Step images h blade = step_acts images h blade
+acted-acts Drain images h blade = drain_acts h blade
+
+acted-leads : (act : HartAct) (images : List Image) (h : ℕ) (old new : RackView) (noted : List Note) → HartDoes (slice_get old.plan.threads h) (acted act images h) old new noted
+    → Leads images (event_of act h) old new noted
+acted-leads Step images h old new noted does = does
+acted-leads Drain images h old new noted does = does
+
+pub act-leads : {A E : Type 0} (act : HartAct) (images : List Image) (h : ℕ) (old new : RackView) (notes notes' : List Note) (r : Result A E)
+    → OnOk r (Notes (HartDoes (slice_get old.plan.threads h) (acted act images h) old new) notes notes') → OnOk r (Notes (Leads images (event_of act h) old new) notes notes')
+act-leads act images h old new notes notes' r = when-ok r (λ done. (done.0, acted-leads act images h old new done.0 done.1, done.2))

@@ -5,6 +5,7 @@ pub mod Calls
 pub mod Events
 pub mod Frames
 pub mod Handing
+pub mod HartActs
 pub mod Leaves
 pub mod Newest
 pub mod Noted

@@ -2,6 +2,7 @@
 //! caches agree at every moment, and why what the rack notes is a run of the abstract machine.
 #![tactic(auto)]
 
+mod acts;
 mod laws;
 mod laws_at_once;
 mod laws_of_accesses;

@@ -17,6 +17,7 @@ mod blades;
 mod handing;
 mod network;
 
+use crate::acts::HartAct;
 use crate::starts::{start_blades, start_memories};
 use compute_blade::ComputeBlade;
 use memory_blade::MemoryBlade;
@@ -138,8 +139,8 @@ impl Rack {
         ensures leaves { Leaves result self.old self.new log.old.notes log.new.notes }
     {
         match *event {
-            Event::Step { hart } => self.step(hart, images, log),
-            Event::Drain { hart } => self.drain(hart, log),
+            Event::Step { hart } => self.act(HartAct::Step, hart, images, log),
+            Event::Drain { hart } => self.act(HartAct::Drain, hart, images, log),
             Event::Evict { blade, page } => self.evict(blade, page, log),
             Event::Deliver { link, side, k } => self.deliver(link, side, k, images, log),
             Event::Lose { link, side, k } => {

@@ -12,39 +12,35 @@ ghost use Rattle.wire_msg.specs.WellFormed.{FieldsAgree};
 ghost use Rattle.rack_net.specs.Net.{IsNet, NetView};
 ghost use Rattle.rack_core.specs.Calls.{HasSpentLink, IsKept, Notes};
 ghost use Rattle.rack_core.specs.Events.{Leads, SendsAll, on};
+ghost use Rattle.rack_core.specs.HartActs.{event_of};
 ghost use Rattle.rack_core.specs.Leaves.{Leaves};
 ghost use Rattle.rack_core.specs.Rack.{with_net};
 
+use crate::acts::{HartAct, let_act};
 use crate::racks::Rack;
 use crate::sends::send_each;
 use mind_base::{Image, LinkKind, LinkName, Log, Page, Stop};
 use wire_msg::Msg;
 
 impl Rack {
-    /// A step of the rack's hart `hart`.
-    pub(super) fn step(&mut self, hart: u8, images: &[Image], log: &mut Log) -> Result<(), Stop>
+    /// A step or a drain of the rack's hart `hart`.
+    pub(super) fn act(
+        &mut self,
+        act: HartAct,
+        hart: u8,
+        images: &[Image],
+        log: &mut Log,
+    ) -> Result<(), Stop>
         requires kept { IsKept self.old }
         requires hart { hart < length self.old.plan.threads }
         requires images { FitImages self.old.plan.images images.now }
-        ensures leads { OnOk result (Notes (Leads images.now (event.Step hart) self.old self.new) log.old.notes log.new.notes) }
+        ensures leads { OnOk result (Notes (Leads images.now (event_of act hart) self.old self.new) log.old.notes log.new.notes) }
         ensures leaves { Leaves result self.old self.new log.old.notes log.new.notes }
     {
         let number = self.blade_of(hart);
         let mut sent = Vec::new(self.alloc);
-        self.blades[usize::from(number)].step(hart, images, &mut sent, log)?;
-        self.send_up(number, sent.as_slice())
-    }
-
-    /// A drain of the rack's hart `hart`.
-    pub(super) fn drain(&mut self, hart: u8, log: &mut Log) -> Result<(), Stop>
-        requires kept { IsKept self.old }
-        requires hart { hart < length self.old.plan.threads }
-        ensures leads { (images : List image) → OnOk result (Notes (Leads images (event.Drain hart) self.old self.new) log.old.notes log.new.notes) }
-        ensures leaves { Leaves result self.old self.new log.old.notes log.new.notes }
-    {
-        let number = self.blade_of(hart);
-        let mut sent = Vec::new(self.alloc);
-        self.blades[usize::from(number)].drain(hart, &mut sent, log)?;
+        let blade = &mut self.blades[usize::from(number)];
+        let_act(act, hart, blade, images, &mut sent, log)?;
         self.send_up(number, sent.as_slice())
     }
 

@@ -6,9 +6,6 @@ use Rattle.rack_core.specs.Events.{Leads}
 use Rattle.rack_core.proofs.CodeEvents.{silent}
 use Rattle.rack_core.proofs.racks.Rack.lead.Goals as goal
 
-pub returns-in-Drain-clause-leads : goal.returns-in-Drain-clause-leads
-returns-in-Drain-clause-leads c = (subst (λ (e : Event). OnOk c.drain.result (Notes (Leads c.args.images.now e c.args.self.now c.drain.new.self) c.args.log.now.notes c.drain.new.log.notes)) (sym c.in-Drain.is) (c.drain.ensures.leads c.args.images.now))
-
 pub returns-in-Evict-clause-leads : goal.returns-in-Evict-clause-leads
 returns-in-Evict-clause-leads c = (subst (λ (e : Event). OnOk c.evict.result (Notes (Leads c.args.images.now e c.args.self.now c.evict.new.self) c.args.log.now.notes c.evict.new.log.notes)) (sym c.in-Evict.is) (c.evict.ensures.leads c.args.images.now))
 
