@@ -9,14 +9,17 @@ use rack_core::Rack;
 use std::alloc::Global;
 use std::test::Fail;
 
+/// The words for the report of a run.
 pub const RUN: [&str; 3] = ["run", "r.toml", "s.txt"];
 
+/// The words for its journal.
 pub const JOURNAL: [&str; 3] = ["journal", "r.toml", "s.txt"];
 
+/// The words for the check of a journal.
 pub const CHECK: [&str; 4] = ["check", "r.toml", "s.txt", "j.txt"];
 
-/// How a call ended: its status, what it wrote and in how many pieces, the reads with their limits, a line each, its log,
-/// and whether it left a rack.
+/// How a call ended: its status, what it wrote and in how many pieces, a line for each read with its limit, its log, and
+/// whether it left a rack.
 #[derive(Drop)]
 pub struct Ran {
     pub status: Status,
