@@ -14,6 +14,3 @@ pub use laws::one_judgement;
 pub use reading::journal_of;
 pub use refusals::{JournalFault, JournalRefusal};
 pub use writing::journal;
-
-#[cfg(test)]
-mod tests;

@@ -1,5 +1,5 @@
 //! Journals written and read.
-use crate::{JournalFault, JournalRefusal, journal, journal_of};
+use journal_text::{JournalFault, JournalRefusal, journal, journal_of};
 use mind_base::{Log, Note, Outcome, Page, Range, State};
 use std::process::Abort;
 use std::test::Fail;
@@ -32,12 +32,10 @@ fn five_steps_of_one_hart(rt: HostRuntime) -> Result<(), Fail> {
     both_ways(&rt, notes.as_slice(), text)
 }
 
-fn last_page() -> Page {
-    Page {
-        domain: 15,
-        number: 1048575,
-    }
-}
+const LAST_PAGE: Page = Page {
+    domain: 15,
+    number: 1048575,
+};
 
 fn a_block() -> Range {
     Range {
@@ -47,43 +45,70 @@ fn a_block() -> Range {
     }
 }
 
+/// The journal of these notes is their lines behind the heading, and is read as them.
+fn line_by_line<R: AllocGlobal + Abort>(rt: &R, rows: &[(Note, &[u8])]) -> Result<(), Fail> {
+    let mut notes = Vec::new(rt.alloc());
+    let mut text = Vec::from_slice(rt.alloc(), b"mind journal 1\n")?;
+    for (note, line) in rows {
+        notes.push(*note)?;
+        text.extend_from_slice(line)?;
+    }
+    both_ways(rt, notes.as_slice(), text.as_slice())
+}
+
 #[test]
 fn notes_of_labels_and_moves(rt: HostRuntime) -> Result<(), Fail> {
-    let outcome = Outcome::Fine;
-    let notes = [
-        Note::Event { index: 999999 },
-        Note::Exec { hart: 63 },
-        Note::Drain { hart: 10 },
-        Note::Command { index: 7 },
-        Note::Moved { index: 8, outcome },
+    let rows: [(Note, &[u8]); 5] = [
+        (Note::Event { index: 999999 }, b"e 999999\n"),
+        (Note::Exec { hart: 63 }, b"x 63\n"),
+        (Note::Drain { hart: 10 }, b"d 10\n"),
+        (Note::Command { index: 7 }, b"c 7\n"),
+        (
+            Note::Moved {
+                index: 8,
+                outcome: Outcome::Fine,
+            },
+            b"m 8 ok\n",
+        ),
     ];
-    both_ways(
-        &rt,
-        &notes,
-        b"mind journal 1\ne 999999\nx 63\nd 10\nc 7\nm 8 ok\n",
-    )
+    line_by_line(&rt, &rows)
 }
 
 #[test]
 fn notes_of_blades(rt: HostRuntime) -> Result<(), Fail> {
-    let page = last_page();
-    let notes = [
-        Note::Take {
-            blade: 7,
-            page,
-            writable: true,
-        },
-        Note::Take {
-            blade: 0,
-            page,
-            writable: false,
-        },
-        Note::Give { blade: 1, page },
-        Note::Down { blade: 2, page },
+    let rows: [(Note, &[u8]); 4] = [
+        (
+            Note::Take {
+                blade: 7,
+                page: LAST_PAGE,
+                writable: true,
+            },
+            b"t 7 15 1048575 w\n",
+        ),
+        (
+            Note::Take {
+                blade: 0,
+                page: LAST_PAGE,
+                writable: false,
+            },
+            b"t 0 15 1048575 r\n",
+        ),
+        (
+            Note::Give {
+                blade: 1,
+                page: LAST_PAGE,
+            },
+            b"g 1 15 1048575\n",
+        ),
+        (
+            Note::Down {
+                blade: 2,
+                page: LAST_PAGE,
+            },
+            b"l 2 15 1048575\n",
+        ),
     ];
-    let text =
-        b"mind journal 1\nt 7 15 1048575 w\nt 0 15 1048575 r\ng 1 15 1048575\nl 2 15 1048575\n";
-    both_ways(&rt, &notes, text)
+    line_by_line(&rt, &rows)
 }
 
 #[test]
