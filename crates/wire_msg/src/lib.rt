@@ -5,8 +5,6 @@ mod laws;
 mod msgs;
 mod reading;
 mod refusals;
-#[cfg(test)]
-mod tests;
 mod writing;
 
 pub use laws::no_spelling_begins_another;

@@ -2,17 +2,12 @@
 
 ghost use Rattle.wire_msg.specs.WellFormed.{FieldsAgree};
 
-use crate::{Msg, WireRefusal, decode, encode};
 use mind_base::{Page, Perm, Range, Span};
 use page_image::PageImage;
 use std::alloc::{AllocError, Global};
 use std::process::Abort;
 use std::test::Fail;
-
-const FIRST: Page = Page {
-    domain: 0,
-    number: 0,
-};
+use wire_msg::{Msg, WireRefusal, decode, encode};
 
 const LAST: Page = Page {
     domain: 15,
@@ -88,7 +83,14 @@ fn pages_and_ranges_are_spelled_by_their_rows(rt: HostRuntime) -> Result<(), Fai
         },
         b"\x01\0\xff\xff\xff\0",
     )?;
-    is_spelled(&rt, alloc, &Msg::Deny { page: FIRST }, b"\x03\0\0\0\0")?;
+    is_spelled(
+        &rt,
+        alloc,
+        &Msg::Deny {
+            page: Page::of(0, 0),
+        },
+        b"\x03\0\0\0\0",
+    )?;
     is_spelled(
         &rt,
         alloc,
@@ -198,7 +200,7 @@ fn numbers_are_spelled_by_their_rows(rt: HostRuntime) -> Result<(), Fail> {
         &Msg::Read {
             phys: 0,
             blade: None,
-            page: FIRST,
+            page: Page::of(0, 0),
         },
         b"\x0b\0\0\0\0\xff\0\0\0\0",
     )?;
@@ -226,7 +228,7 @@ fn numbers_are_spelled_by_their_rows(rt: HostRuntime) -> Result<(), Fail> {
 fn images_are_spelled_by_their_rows(rt: HostRuntime) -> Result<(), Fail> {
     let alloc = rt.alloc();
     let fill = Msg::Fill {
-        page: FIRST,
+        page: Page::of(0, 0),
         perm: Perm::R,
         writable: false,
         image: image(alloc)?,
@@ -268,7 +270,7 @@ fn images_are_spelled_by_their_rows(rt: HostRuntime) -> Result<(), Fail> {
     )?;
     let sent = Msg::Image {
         blade: Some(0),
-        page: FIRST,
+        page: Page::of(0, 0),
         image: image(alloc)?,
     };
     is_spelled(&rt, alloc, &sent, &before_image(alloc, b"\x0c\0\0\0\0\0")?)?;
