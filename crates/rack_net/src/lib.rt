@@ -6,7 +6,5 @@ mod carried;
 mod nets;
 mod places;
 mod rows;
-#[cfg(test)]
-mod tests;
 
 pub use nets::Net;

@@ -3,8 +3,8 @@
 ghost use Rattle.std.specs.Prelude.{◌≡◌, OnOk};
 ghost use Rattle.rack_net.specs.Net.{IsLinkOf};
 
-use super::*;
 use mind_base::{LinkKind, LinkName, Side};
+use rack_net::Net;
 use std::process::Abort;
 use std::test::Fail;
 use wire_msg::Msg;
