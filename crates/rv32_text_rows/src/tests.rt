@@ -430,101 +430,78 @@ static ANSWERS: [(&str, &str); 104] = [
     ("on: jal x1, off \x01\non: ecall", "text 1"),
 ];
 
-/// The words of small programs for one hart or two, one behind the other.
-static PROGRAMS: [u32; 93] = [
-    0x0000_12b7,
-    0x0000_2337,
-    0x0010_0393,
-    0x0072_a023,
-    0x0003_2503,
-    0x0010_0893,
-    0x0000_0073,
-    0x0000_22b7,
-    0x0000_1337,
-    0x0010_0393,
-    0x0072_a023,
-    0x0003_2503,
-    0x0010_0893,
-    0x0000_0073,
-    0x0000_12b7,
-    0x1122_33b7,
-    0x3443_8393,
-    0x0072_a023,
-    0x07f0_0413,
-    0x0082_80a3,
-    0x0002_a503,
-    0x0010_0893,
-    0x0000_0073,
-    0x0085_5513,
-    0x0000_0073,
-    0x0000_12b7,
-    0x0000_2337,
-    0x0010_0393,
-    0x0072_a023,
-    0x0120_000f,
-    0x0003_2503,
-    0x0010_0893,
-    0x0000_0073,
-    0x0000_22b7,
-    0x0000_1337,
-    0x0010_0393,
-    0x0072_a023,
-    0x0120_000f,
-    0x0003_2503,
-    0x0010_0893,
-    0x0000_0073,
-    0x0000_12b7,
-    0x0000_2337,
-    0x0010_0393,
-    0x0072_a023,
-    0x0073_2023,
-    0x0000_12b7,
-    0x0000_2337,
-    0x0002_a403,
-    0x0003_2503,
-    0x0010_0893,
-    0x0000_0073,
-    0x0002_a503,
-    0x0000_0073,
-    0x0000_12b7,
-    0x1002_a3af,
-    0x1872_a52f,
-    0x0010_0893,
-    0x0000_0073,
-    0x0000_12b7,
-    0x0002_a023,
-    0x0000_12b7,
-    0x0000_3337,
-    0x0010_0393,
-    0x0072_a023,
-    0x0073_2223,
-    0x0000_12b7,
-    0x0010_0393,
-    0x0072_a023,
-    0x0002_a503,
-    0x0010_0893,
-    0x0000_0073,
-    0x0000_12b7,
-    0x0002_a503,
-    0x0002_a503,
-    0x0000_22b7,
-    0x0002_a503,
-    0x0002_a503,
-    0x0000_22b7,
-    0x0000_3337,
-    0x0002_a403,
-    0x0003_2483,
-    0x0053_2023,
-    0x0000_22b7,
-    0x0010_0393,
-    0x0072_a023,
-    0xffc0_0293,
-    0x0010_0393,
-    0x0072_a023,
-    0x0002_a503,
-    0x0010_0893,
-    0x0000_0073,
-    0x0060_0067,
+/// lui x5, 1; lui x6, 2.
+const PAGES: &[u32] = &[0x0000_12b7, 0x0000_2337];
+
+/// lui x5, 2; lui x6, 1.
+const EXCHANGED: &[u32] = &[0x0000_22b7, 0x0000_1337];
+
+/// addi x7, x0, 1; sw x7, 0(x5).
+const STORE: &[u32] = &[0x0010_0393, 0x0072_a023];
+
+/// lw x10, 0(x6).
+const LOAD: &[u32] = &[0x0003_2503];
+
+/// addi x17, x0, 1; ecall.
+const PUT: &[u32] = &[0x0010_0893, 0x0000_0073];
+
+/// fence w, r.
+const FENCE: &[u32] = &[0x0120_000f];
+
+/// The pieces of small programs, of which some run on two harts, one program behind the other.
+static PROGRAMS: [&[&[u32]]; 16] = [
+    // Each of two harts stores to one page and loads from the other.
+    &[PAGES, STORE, LOAD, PUT],
+    &[EXCHANGED, STORE, LOAD, PUT],
+    // A byte is stored over a word, and the word is put byte by byte.
+    &[&[0x0000_12b7, 0x1122_33b7, 0x3443_8393, 0x0072_a023]],
+    &[
+        &[0x07f0_0413, 0x0082_80a3, 0x0002_a503],
+        PUT,
+        &[0x0085_5513, 0x0000_0073],
+    ],
+    // Each hart stores, fences and loads.
+    &[PAGES, STORE, FENCE, LOAD, PUT],
+    &[EXCHANGED, STORE, FENCE, LOAD, PUT],
+    // Two stores of one hart, seen by two loads of another.
+    &[PAGES, STORE, &[0x0073_2023]],
+    &[
+        PAGES,
+        &[0x0002_a403],
+        LOAD,
+        PUT,
+        &[0x0002_a503, 0x0000_0073],
+    ],
+    // A word is reserved, and stored to where the reservation holds.
+    &[
+        &[0x0000_12b7, 0x1002_a3af, 0x1872_a52f],
+        PUT,
+        &[0x0000_12b7, 0x0002_a023],
+    ],
+    // A store to a page that is read only.
+    &[&[0x0000_12b7, 0x0000_3337], STORE, &[0x0073_2223]],
+    // A word is stored, loaded and put.
+    &[&[0x0000_12b7], STORE, &[0x0002_a503], PUT],
+    // Two pages of one region.
+    &[&[0x0000_12b7, 0x0002_a503, 0x0002_a503]],
+    &[&[0x0000_22b7, 0x0002_a503, 0x0002_a503]],
+    &[&[
+        0x0000_22b7,
+        0x0000_3337,
+        0x0002_a403,
+        0x0003_2483,
+        0x0053_2023,
+    ]],
+    // Stores behind each other, one to the last word of memory, and a jump to a target that is no multiple of 4.
+    &[
+        &[0x0000_22b7],
+        STORE,
+        &[0xffc0_0293],
+        STORE,
+        &[0x0002_a503],
+        PUT,
+    ],
+    &[&[0x0060_0067]],
 ];
 
 const LOCK: &str =
@@ -701,7 +678,12 @@ fn a_reservation_by_names_of_use(rt: HostRuntime) -> Result<(), Fail> {
 
 #[test]
 fn programs_come_back_through_their_text(rt: HostRuntime) -> Result<(), Fail> {
-    let image = bytes_of(rt.alloc(), &PROGRAMS)?;
+    let mut image = Vec::new(rt.alloc());
+    for program in &PROGRAMS {
+        for piece in *program {
+            image.extend_from_slice(&bytes_of(rt.alloc(), piece)?)?;
+        }
+    }
     let text = text_of(rt.alloc(), &image)?;
     let again = image_of(rt.alloc(), &text)?;
     assert_eq!(rt; again.as_slice(), image.as_slice());
