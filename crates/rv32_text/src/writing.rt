@@ -239,13 +239,13 @@ fn operands_of(instr: &Instr) -> Operands
             rs1,
             offset,
             ..
-        } => { Operands::Two(rd, Last::Based(offset, rs1)) }
+        } => Operands::Two(rd, Last::Based(offset, rs1)),
         Instr::Branch {
             rs1,
             rs2,
             offset,
             ..
-        } => { Operands::Three(rs1, rs2, Last::Signed(offset)) }
+        } => Operands::Three(rs1, rs2, Last::Signed(offset)),
         Instr::Store {
             rs1,
             rs2,
