@@ -5,6 +5,3 @@ mod blades;
 mod zeros;
 
 pub use blades::MemoryBlade;
-
-#[cfg(test)]
-mod tests;

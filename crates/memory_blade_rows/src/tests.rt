@@ -3,7 +3,7 @@
 ghost use Rattle.std.specs.Prelude.{◌≡◌, ◌<◌, length};
 ghost use Rattle.memory_blade.specs.MemoryBlade.{IsFor};
 
-use super::*;
+use memory_blade::MemoryBlade;
 use mind_base::Page;
 use page_image::PageImage;
 use std::alloc::Global;
