@@ -2,7 +2,7 @@
 use Rattle.std.proofs.Common.{◌≡◌, ℕ, ◌<◌, ◌≤◌, ◌∙◌, codes, List, [], ◌∷◌, length, get_or, map, string_bytes, String, Global, Option, Result, Ok, ap, sym, refl, subst, arith}
 use Rattle.std.proofs.lemmas.List.{length-map}
 use Rattle.mind_inputs.specs.Words.{Paths}
-use Rattle.mind_top.specs.Asked.{form_asked, IsAsked}
+use Rattle.mind_top.specs.Asked.{form_asked, IsAskedIn}
 use Rattle.mind_base.specs.Number.{number_of}
 use Rattle.mind_base.specs.declared.numbers.NumberFault.{NumberFault}
 use Rattle.mind_top.specs.Words.{Form, Run, Check, Make, Load, run_word, IsNumber, IsDrawn, IsForm, IsNoForm}
@@ -94,9 +94,9 @@ four-are (a ∷ b ∷ c ∷ d ∷ e ∷ more) w r t f least most ew er et ef = a
 -- what they ask for, as they are read one by one
 pub asked-of-four : (words : List (String Global)) (w r t f : String Global) (a b c d : List ℕ) (asked : Option Asked) → 4 ≤ length words → length words < 5
     → w ≡ get_or words 0 w → r ≡ get_or words 1 r → t ≡ get_or words 2 t → f ≡ get_or words 3 f
-    → a ≡ string_bytes w → b ≡ string_bytes r → c ≡ string_bytes t → d ≡ string_bytes f → IsAsked (a ∷ b ∷ c ∷ d ∷ []) asked → IsAsked (map string_bytes words) asked
+    → a ≡ string_bytes w → b ≡ string_bytes r → c ≡ string_bytes t → d ≡ string_bytes f → IsAskedIn (a ∷ b ∷ c ∷ d ∷ []) asked → IsAskedIn (map string_bytes words) asked
 asked-of-four words w r t f a b c d asked least most ew er et ef ea eb ec ed is =
-    let P : List (List ℕ) → Type 0 = λ all. IsAsked all asked in
+    let P : List (List ℕ) → Type 0 = λ all. IsAskedIn all asked in
     let all : a ∷ b ∷ c ∷ d ∷ [] ≡ map string_bytes words = (λ i. ea i ∷ eb i ∷ ec i ∷ ed i ∷ []) ∙ sym (four-are words w r t f least most ew er et ef) in
     subst P all is
 

@@ -11,9 +11,9 @@ form_asked (asked.Make rack count seed) = Make rack.now count seed
 form_asked (asked.Load rack count seed) = Load rack.now count seed
 
 -- the words ask for this, or are of no form
-abbrev pub IsAsked : List (List ℕ) → Option Asked → Type 0
-IsAsked words (Some asked) = IsForm words (form_asked asked)
-IsAsked words None = IsNoForm words
+abbrev pub IsAskedIn : List (List ℕ) → Option Asked → Type 0
+IsAskedIn words (Some asked) = IsForm words (form_asked asked)
+IsAskedIn words None = IsNoForm words
 
 -- not too many lines are to be drawn
 abbrev pub IsFew : Asked → Type 0

@@ -2,7 +2,7 @@
 
 ghost use Rattle.std.specs.Prelude.{◌≡◌, ◌↔◌, ◌≤◌, ℕ, [], ◌∷◌, map, string_bytes, IsTrue, IfSome, MatchOption};
 ghost use Rattle.mind_top.specs.Words.{IsNumber};
-ghost use Rattle.mind_top.specs.Asked.{IsAsked, IsFew};
+ghost use Rattle.mind_top.specs.Asked.{IsAskedIn, IsFew};
 
 use mind_base::number;
 
@@ -86,7 +86,7 @@ fn asked_by_four<'a>(
     third: &'a str,
     fourth: &'a str,
 ) -> Option<Asked<'a>>
-    ensures asked { IsAsked (word.now ∷ rack.now ∷ third.now ∷ fourth.now ∷ []) result }
+    ensures asked { IsAskedIn (word.now ∷ rack.now ∷ third.now ∷ fourth.now ∷ []) result }
     ensures few { IfSome result (λ asked. IsFew asked) }
 {
     if is_word(word, "check") {
@@ -120,7 +120,7 @@ fn asked_by_four<'a>(
 
 /// What the words ask for, where they are of a form.
 pub fn asked_of(words: &[String]) -> Option<Asked>
-    ensures asked { IsAsked (map string_bytes words.now) result }
+    ensures asked { IsAskedIn (map string_bytes words.now) result }
     ensures few { IfSome result (λ asked. IsFew asked) }
 {
     match words {

@@ -20,7 +20,7 @@ use Rattle.compute_blade.proofs.Acting.{step_acts, drain_acts}
 use Rattle.rack_net.specs.Net.{IsNet, NetView}
 use Rattle.rack_core.specs.Calls.{HasSpentHart, Notes}
 use Rattle.rack_core.specs.Events.{BladeDoes, Acts, ActsWith, HartDoes, Leads, SendsAll, on}
-use Rattle.rack_core.specs.HartActs.{acted, event_of}
+use Rattle.rack_core.specs.HartActs.{hart_acted, hart_event}
 use Rattle.rack_core.specs.declared.acts.HartAct.{HartAct}
 use Rattle.rack_core.specs.declared.acts.HartAct.TheVariants.{Step, Drain}
 use Rattle.rack_core.specs.Rack.{RackView, with_blade_at, with_net}
@@ -230,15 +230,15 @@ shape-acted inside now new i c blade after sent r at keeps net shape sends =
 
 -- ---- a hart is let act
 
-pub acted-acts : (act : HartAct) (images : List Image) (h : ℕ) (blade : BladeView) → IfSome (acted act images h blade) (IsActions blade)
+pub acted-acts : (act : HartAct) (images : List Image) (h : ℕ) (blade : BladeView) → IfSome (hart_acted act images h blade) (IsActions blade)
 acted-acts Step images h blade = step_acts images h blade
 acted-acts Drain images h blade = drain_acts h blade
 
-acted-leads : (act : HartAct) (images : List Image) (h : ℕ) (old new : RackView) (noted : List Note) → HartDoes (slice_get old.plan.threads h) (acted act images h) old new noted
-    → Leads images (event_of act h) old new noted
+acted-leads : (act : HartAct) (images : List Image) (h : ℕ) (old new : RackView) (noted : List Note) → HartDoes (slice_get old.plan.threads h) (hart_acted act images h) old new noted
+    → Leads images (hart_event act h) old new noted
 acted-leads Step images h old new noted does = does
 acted-leads Drain images h old new noted does = does
 
 pub act-leads : {A E : Type 0} (act : HartAct) (images : List Image) (h : ℕ) (old new : RackView) (notes notes' : List Note) (r : Result A E)
-    → OnOk r (Notes (HartDoes (slice_get old.plan.threads h) (acted act images h) old new) notes notes') → OnOk r (Notes (Leads images (event_of act h) old new) notes notes')
+    → OnOk r (Notes (HartDoes (slice_get old.plan.threads h) (hart_acted act images h) old new) notes notes') → OnOk r (Notes (Leads images (hart_event act h) old new) notes notes')
 act-leads act images h old new notes notes' r = when-ok r (λ done. (done.0, acted-leads act images h old new done.0 done.1, done.2))

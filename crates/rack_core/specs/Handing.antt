@@ -34,7 +34,7 @@ pub record IsHanding (name : LinkName) (messages : List Msg) (rack : RackView) :
   pub asks : AskOn name.kind (place_in rack.switch) name.number messages
 
 -- A node of the rack may be handed a message: the rack has its plan's shape, its blades are sound, and the images are its plan's.
-pub record IsReady (images : List Image) (rack : RackView) : Type 0 where
+pub record MayHear (images : List Image) (rack : RackView) : Type 0 where
   pub shape : IsShaped rack
   pub sound : AreBladesSound rack
   pub fit : FitImages rack.plan.images images

@@ -14,17 +14,17 @@ use Rattle.rack_core.specs.declared.acts.HartAct.{HartAct}
 use Rattle.rack_core.specs.declared.acts.HartAct.TheVariants.{Step, Drain}
 
 -- the event in which hart h is let do it
-abbrev pub event_of : HartAct → ℕ → Event
-event_of Step h = event.Step h
-event_of Drain h = event.Drain h
+abbrev pub hart_event : HartAct → ℕ → Event
+hart_event Step h = event.Step h
+hart_event Drain h = event.Drain h
 
 -- what its blade does
-abbrev pub acted : HartAct → List Image → ℕ → BladeView → Option BladeEffect
-acted Step images h = after_step images h
-acted Drain images h = blade_after_drain h
+abbrev pub hart_acted : HartAct → List Image → ℕ → BladeView → Option BladeEffect
+hart_acted Step images h = after_step images h
+hart_acted Drain images h = blade_after_drain h
 
 -- hart h is one of the blade, and the images are its plan's
-pub record MayAct (h : ℕ) (images : List Image) (blade : BladeView) : Type 0 where
+pub record HartMayAct (h : ℕ) (images : List Image) (blade : BladeView) : Type 0 where
   pub own : IsSome (hart_of blade h)
   pub fit : FitImages blade.plan.images images
 

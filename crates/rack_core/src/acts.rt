@@ -1,6 +1,6 @@
 //! What a hart is let do by itself at its blade.
 
-ghost use Rattle.rack_core.specs.HartActs.{HasActed, MayAct, acted};
+ghost use Rattle.rack_core.specs.HartActs.{HasActed, HartMayAct, hart_acted};
 
 use compute_blade::ComputeBlade;
 use mind_base::{Image, Log, Stop};
@@ -22,8 +22,8 @@ pub fn let_act(
     sent: &mut Vec<Msg>,
     log: &mut Log,
 ) -> Result<(), Stop>
-    requires { MayAct hart images.now blade.old }
-    ensures { HasActed (acted act images.now hart blade.old) hart result blade.old blade.new sent.old.items sent.new.items log.old.notes log.new.notes }
+    requires { HartMayAct hart images.now blade.old }
+    ensures { HasActed (hart_acted act images.now hart blade.old) hart result blade.old blade.new sent.old.items sent.new.items log.old.notes log.new.notes }
 {
     match act {
         HartAct::Step => blade.step(hart, images, sent, log),

@@ -12,7 +12,7 @@ ghost use Rattle.wire_msg.specs.WellFormed.{FieldsAgree};
 ghost use Rattle.rack_net.specs.Net.{IsNet, NetView};
 ghost use Rattle.rack_core.specs.Calls.{HasSpentLink, IsKept, Notes};
 ghost use Rattle.rack_core.specs.Events.{Leads, SendsAll, on};
-ghost use Rattle.rack_core.specs.HartActs.{event_of};
+ghost use Rattle.rack_core.specs.HartActs.{hart_event};
 ghost use Rattle.rack_core.specs.Leaves.{Leaves};
 ghost use Rattle.rack_core.specs.Rack.{with_net};
 
@@ -34,7 +34,7 @@ impl Rack {
         requires kept { IsKept self.old }
         requires hart { hart < length self.old.plan.threads }
         requires images { FitImages self.old.plan.images images.now }
-        ensures leads { OnOk result (Notes (Leads images.now (event_of act hart) self.old self.new) log.old.notes log.new.notes) }
+        ensures leads { OnOk result (Notes (Leads images.now (hart_event act hart) self.old self.new) log.old.notes log.new.notes) }
         ensures leaves { Leaves result self.old self.new log.old.notes log.new.notes }
     {
         let number = self.blade_of(hart);

@@ -11,7 +11,7 @@ ghost use Rattle.switch_core.specs.Sending.{AreFetchesAllowed};
 ghost use Rattle.rack_core.specs.Calls.{HasLink, HasSpentNumber, IsKept, MayBeHanded, Notes};
 ghost use Rattle.rack_core.specs.Events.{HandsTo, HandsAll, Leads, MemoryHears, SwitchHears};
 ghost use Rattle.rack_core.specs.Shape.{IsShaped};
-ghost use Rattle.rack_core.specs.Handing.{IsHanding, IsReady};
+ghost use Rattle.rack_core.specs.Handing.{IsHanding, MayHear};
 ghost use Rattle.rack_core.specs.Leaves.{Leaves};
 
 use crate::racks::Rack;
@@ -70,7 +70,7 @@ impl Rack {
         images: &[Image],
         log: &mut Log,
     ) -> Result<(), Stop>
-        requires ready { IsReady images.now self.old }
+        requires ready { MayHear images.now self.old }
         requires link { HasLink self.old.plan link }
         requires may { MayBeHanded link.kind link.number msg self.old }
         requires formed { IsWellFormed msg }
@@ -106,7 +106,7 @@ impl Rack {
         images: &[Image],
         log: &mut Log,
     ) -> Result<(), Stop>
-        requires ready { IsReady images.now self.old }
+        requires ready { MayHear images.now self.old }
         requires number { number < length self.old.plan.frames }
         requires may { MayBeHanded Down number msg self.old }
         ensures ok { OnOk result (Notes (HandsTo Down images.now number msg self.old self.new) log.old.notes log.new.notes) }

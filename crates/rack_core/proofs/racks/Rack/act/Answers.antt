@@ -3,7 +3,7 @@ use Rattle.mind_base.specs.Fit.{FitImages}
 use Rattle.mind_base.specs.declared.failures.Stop.TheVariants.{Spent}
 use Rattle.mind_base.specs.declared.plans.RackPlan.{RackPlan}
 use Rattle.compute_blade.specs.Blade.{HasSpent}
-use Rattle.rack_core.specs.HartActs.{acted}
+use Rattle.rack_core.specs.HartActs.{hart_acted}
 use Rattle.rack_core.specs.Rack.{RackView}
 use Rattle.rack_core.proofs.CodeBlades.{there, spent-place, blade-within, blade-own, blade-plan, did-agrees, did-sent, of-net, hart-at, hart-acted, shape-acted, acted-acts, act-leads}
 use Rattle.rack_core.proofs.racks.Rack.act.Goals as goal
@@ -36,17 +36,17 @@ send_up-requires-clause-of_rack c = of-net c.blade_of-number.result c.args.self.
 
 pub send_up-requires-clause-fields : goal.send_up-requires-clause-fields
 send_up-requires-clause-fields c =
-    let effect = acted c.args.act c.args.images.now c.args.hart c.index_mut-blade.result.now in
+    let effect = hart_acted c.args.act c.args.images.now c.args.hart c.index_mut-blade.result.now in
     did-agrees effect c.index_mut-blade.result.now c.let_act.new.blade c.as_slice.result.now c.args.log.now.notes c.let_act.new.log.notes (acted-acts c.args.act c.args.images.now c.args.hart c.index_mut-blade.result.now)
     (did-sent effect c.let_act.new.blade _ c.let_act.new.sent.items c.as_slice.result.now c.args.log.now.notes c.let_act.new.log.notes c.new-sent.ensures.items c.as_slice.ensures.value c.in_ok-let_act.ensures.ok)
 
 pub returns-clause-leads : goal.returns-clause-leads
 returns-clause-leads c =
-    let effect = acted c.args.act c.args.images.now c.args.hart c.index_mut-blade.result.now in
+    let effect = hart_acted c.args.act c.args.images.now c.args.hart c.index_mut-blade.result.now in
     let place = hart-at _ c.args.self.now _ _ c.args.hart _ c.self.view_is c.from.ensures c.index_mut-blade.ensures.value c.requires.kept.shape c.blade_of-number.ensures in
     let did = did-sent effect c.let_act.new.blade _ c.let_act.new.sent.items c.as_slice.result.now c.args.log.now.notes c.let_act.new.log.notes c.new-sent.ensures.items c.as_slice.ensures.value c.in_ok-let_act.ensures.ok in
     act-leads c.args.act c.args.images.now c.args.hart c.args.self.now c.send_up.new.self c.args.log.now.notes c.let_act.new.log.notes c.send_up.result
-    (hart-acted (acted c.args.act c.args.images.now c.args.hart) c.args.hart _ c.args.self.now c.send_up.new.self _ c.blade_of-number.result c.index_mut-blade.result.now c.let_act.new.blade c.as_slice.result.now c.args.log.now.notes c.let_act.new.log.notes c.send_up.result
+    (hart-acted (hart_acted c.args.act c.args.images.now c.args.hart) c.args.hart _ c.args.self.now c.send_up.new.self _ c.blade_of-number.result c.index_mut-blade.result.now c.let_act.new.blade c.as_slice.result.now c.args.log.now.notes c.let_act.new.log.notes c.send_up.result
     place c.blade_of-number.ensures did c.send_up.ensures.ok)
 
 pub returns-clause-leaves : goal.returns-clause-leaves
