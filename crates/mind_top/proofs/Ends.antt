@@ -1,5 +1,5 @@
 -- From the parts of a call to how it ends.
-use Rattle.std.proofs.Common.{◌≡◌, ℕ, inl, inr, List, sym, refl, subst, Option, Some, None, Result, Ok, Err, []}
+use Rattle.std.proofs.Common.{◌≡◌, ℕ, inl, inr, List, sym, refl, subst, Option, None, Result, Ok, Err, []}
 use Rattle.mind_base.specs.Store.{Files}
 use Rattle.mind_base.specs.Sink.{Appends}
 use Rattle.mind_base.specs.declared.notes.Note.{Note}
@@ -12,7 +12,6 @@ use Rattle.mind_inputs.specs.Journals.{Checkable, JudgesCheck}
 use Rattle.mind_inputs.specs.Loading.{StopsBy, Brings}
 use Rattle.mind_inputs.specs.declared.stopped.Stopped.{Stopped}
 use Rattle.mind_inputs.specs.declared.stopped.Stopped.TheVariants as stopped
-use Rattle.rack_core.specs.Rack.{RackView}
 use Rattle.mind_top.specs.Words.{Form, Run, Check, Make, Load, IsForm}
 use Rattle.mind_top.specs.Due.{DoneBy, IsEndedBy, IsRunBy, Due, not_a_run_line}
 use Rattle.mind_top.specs.Ending.{Counts, EndsWith}

@@ -123,23 +123,26 @@ none-drawn name words rack count seed is none other n m d =
     let e = sym d.words_are ∙ is in
     none n m (subst (λ w. IsNumber w 200000 n) (ap (word-at 2) e) d.count_is) (subst (λ w. IsNumber w 4294967295 m) (ap (word-at 3) e) d.seed_is)
 
--- four words, of which the first is this name and the last two are no numbers
+-- four words of no form: they ask for no check, and nothing is drawn by them
+none-of-four : (name rack count seed : List ℕ) → (name ≡ codes "check" → ⊥) → (let words : List (List ℕ) = name ∷ rack ∷ count ∷ seed ∷ [] in
+    ((other : List ℕ) (n m : ℕ) → IsDrawn (codes "make") words other n m → ⊥) → ((other : List ℕ) (n m : ℕ) → IsDrawn (codes "load") words other n m → ⊥) → IsNoForm words)
+none-of-four name rack count seed no_check no_make no_load = (
+  (λ paths e. omega (arith, ap length e)),
+  (λ paths e. omega (arith, ap length e)),
+  (λ paths journal e. no_check (ap (word-at 0) e)),
+  no_make,
+  no_load,
+)
+
+abbrev letter : List ℕ → ℕ
+letter word = get_or word 0 0
+
 pub make-none : (word rack count seed : List ℕ) → word ≡ codes "make" → AreNoNumbers count seed → IsNoForm (word ∷ rack ∷ count ∷ seed ∷ [])
 make-none word rack count seed named none =
-    let is : word ∷ rack ∷ count ∷ seed ∷ [] ≡ codes "make" ∷ rack ∷ count ∷ seed ∷ [] = λ i. named i ∷ rack ∷ count ∷ seed ∷ [] in (
-      (λ paths e. omega (arith, ap length (sym e ∙ is))),
-      (λ paths e. omega (arith, ap length (sym e ∙ is))),
-      (λ paths journal e. omega (arith, ap first-letter (sym e ∙ is))),
-      none-drawn (codes "make") _ rack count seed is none,
-      (λ other n m d. omega (arith, ap first-letter (sym d.words_are ∙ is))),
-    )
+    none-of-four word rack count seed (λ e. omega (arith, ap letter (sym named ∙ e))) (none-drawn (codes "make") _ rack count seed (ap (λ w. w ∷ rack ∷ count ∷ seed ∷ []) named) none)
+    (λ other n m d. omega (arith, ap letter (sym named ∙ ap (word-at 0) d.words_are)))
 
 pub load-none : (word rack count seed : List ℕ) → word ≡ codes "load" → AreNoNumbers count seed → IsNoForm (word ∷ rack ∷ count ∷ seed ∷ [])
 load-none word rack count seed named none =
-    let is : word ∷ rack ∷ count ∷ seed ∷ [] ≡ codes "load" ∷ rack ∷ count ∷ seed ∷ [] = λ i. named i ∷ rack ∷ count ∷ seed ∷ [] in (
-      (λ paths e. omega (arith, ap length (sym e ∙ is))),
-      (λ paths e. omega (arith, ap length (sym e ∙ is))),
-      (λ paths journal e. omega (arith, ap first-letter (sym e ∙ is))),
-      (λ other n m d. omega (arith, ap first-letter (sym d.words_are ∙ is))),
-      none-drawn (codes "load") _ rack count seed is none,
-    )
+    none-of-four word rack count seed (λ e. omega (arith, ap letter (sym named ∙ e))) (λ other n m d. omega (arith, ap letter (sym named ∙ ap (word-at 0) d.words_are)))
+    (none-drawn (codes "load") _ rack count seed (ap (λ w. w ∷ rack ∷ count ∷ seed ∷ []) named) none)

@@ -1,7 +1,6 @@
 -- A rack that ran through events: its log is a run of the machine, with all events in order.
 use Rattle.std.proofs.Common.{◌≡◌, ◌<◌, ℕ, suc, ◌+◌, ◌⊎◌, inl, inr, ◌∙◌, true, false, List, [], ◌∷◌, ◌++◌, length, ap, sym, refl, subst, None, arith}
 use Rattle.std.proofs.lemmas.List.{append_assoc, append-nil}
-use Rattle.std.specs.Prelude.{Result, Ok, Err, IfOk}
 use Rattle.std.specs.List.{AllByRecursion, cons_option}
 use Rattle.std.proofs.lemmas.List.Elements.{filter_map-append}
 use Rattle.mind_base.specs.declared.events.Event.{Event}
@@ -29,17 +28,7 @@ use Rattle.rack_settle.specs.Ran.{IsRunFor, Ran, HasStopped}
 -- what stands in an event has no number of an event
 no-number : (plan : RackPlan) (e : Event) (n : Note) → StandsIn plan e n → event_number n ≡ None
 no-number plan e (note.Event index) is = absurd is
-no-number plan e (note.Exec hart) is = refl
-no-number plan e (note.Drain hart) is = refl
-no-number plan e (note.Command index) is = absurd is
-no-number plan e (note.Moved index outcome) is = absurd is
-no-number plan e (note.Take blade page writable) is = refl
-no-number plan e (note.Give blade page) is = refl
-no-number plan e (note.Down blade page) is = refl
-no-number plan e (note.Region range state) is = refl
-no-number plan e (note.Gone range) is = refl
-no-number plan e (note.Split range) is = refl
-no-number plan e (note.Merge range) is = refl
+no-number plan e n is = grind arith
 
 no-events : (plan : RackPlan) (e : Event) (added : List Note) → AreInPlace plan e added → events added ≡ []
 no-events plan e [] all = refl
