@@ -7,9 +7,10 @@ use Rattle.mind_base.specs.Fit.{IsFit}
 use Rattle.mind_base.specs.Store.{Files}
 use Rattle.mind_base.specs.declared.events.Event.{Event}
 use Rattle.mind_base.specs.declared.plans.RackPlan.{RackPlan}
+use Rattle.schedule_text.specs.declared.fates.Fate.TheVariants.{Deliver, Lose, Repeat}
 use Rattle.schedule_text.specs.Size.{sizes_of}
 use Rattle.rack_gen.specs.declared.lines.Line.{Line}
-use Rattle.rack_gen.specs.declared.lines.Line.TheVariants.{Step, Drain, Deliver, Lose, Repeat, Epoch, Settle}
+use Rattle.rack_gen.specs.declared.lines.Line.TheVariants.{Step, Drain, Frame, Epoch, Settle}
 use Rattle.rack_gen.specs.Line.{event_of}
 use Rattle.rack_gen.specs.Generator.{lines_for, generated, generated_text}
 use Rattle.rack_gen.proofs.Made.{IsSized, text_reads, text_fits}
@@ -21,9 +22,9 @@ use Rattle.mind_base.specs.declared.images.Image.{Image}
 built-line : (line : Line) → IsBuilt (event_of line)
 built-line (Step hart) = refl
 built-line (Drain hart) = refl
-built-line (Deliver wire k) = refl
-built-line (Lose wire k) = refl
-built-line (Repeat wire k) = refl
+built-line (Frame Deliver wire k) = refl
+built-line (Frame Lose wire k) = refl
+built-line (Frame Repeat wire k) = refl
 built-line Epoch = refl
 built-line Settle = refl
 
