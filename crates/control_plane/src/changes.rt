@@ -157,6 +157,3 @@ fn is_in(spans: &[Span], page: Page) -> bool
 {
     spans.iter().any(|span| span.has(page))
 }
-
-#[cfg(test)]
-mod tests;

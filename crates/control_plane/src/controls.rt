@@ -160,6 +160,3 @@ fn closed_by(index: u32, number: u32, waiting: u8, blade: u8) -> Phase
         }
     }
 }
-
-#[cfg(test)]
-mod tests;

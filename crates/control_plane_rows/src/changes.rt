@@ -2,8 +2,9 @@
 
 ghost use Rattle.std.specs.Prelude.{◌≡◌, ◌+◌, ◌<◌, ◌≤◌};
 
-use super::*;
-use mind_base::Sequence;
+use control_plane::{apply, decide};
+use mind_base::{Command, MemoryPlan, Outcome, Perm, Sequence, Span};
+use protect_table::Protect;
 use std::test::Fail;
 
 fn run(base: u32, pages: u32) -> Span

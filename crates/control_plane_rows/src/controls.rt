@@ -2,8 +2,8 @@
 
 ghost use Rattle.std.specs.Prelude.{◌<◌};
 
-use super::*;
-use mind_base::Span;
+use control_plane::{Control, Phase};
+use mind_base::{Command, Span};
 
 /// A call, by the index of a command or the number of a blade where it has one.
 #[derive(Clone, Copy, Debug)]
