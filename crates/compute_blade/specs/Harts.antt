@@ -25,7 +25,7 @@ IsMover mover = (mover.hart < 64) × (mover.plan.domain < 16)
 abbrev pub IsOwnMover : BladeView → Mover → Type 0
 IsOwnMover blade mover = IsMover mover × IsSome (hart_of blade mover.hart)
 
--- what a mover found has its fields in their ranges
+-- a mover, and what it found has its fields in their ranges
 abbrev pub IsDoing : Doing → Type 0
 IsDoing doing = IsMover doing.mover × AsksWellFormed doing.found
 
