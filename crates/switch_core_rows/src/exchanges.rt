@@ -24,211 +24,189 @@ const BLOCK: Range = Range {
     log: 1,
 };
 
-/// A message to the switch, from a blade or, an image, from memory blade 1.
+/// A message to the switch: a blade's, or memory blade 1's image for a blade.
 #[derive(Clone, Copy)]
 enum Step {
-    Get { blade: u8, write: bool },
-    Image { blade: u8 },
-    Ack { blade: u8, number: u32, count: u32 },
-    Back { blade: u8 },
+    Get { write: bool },
+    Image,
+    Ack { number: u32, count: u32 },
+    Back,
 }
 
 /// A message from the switch, about the page and its block.
 #[derive(Clone, Copy, Debug, PartialEq, Eq)]
 enum Sent {
-    Read { blade: u8 },
-    Fill { blade: u8, writable: bool },
-    Inv { blade: u8, number: u32 },
-    Lower { blade: u8, number: u32 },
+    Read,
+    Fill { writable: bool },
+    Inv { number: u32 },
+    Lower { number: u32 },
     Write,
     Other,
 }
 
-/// A message, what the switch sends then, and the states of the entry that it notes.
+/// A message and its blade, what the switch sends then, each with the blade that it is to or, a reading, for, and
+/// the states of the entry that it notes.
 #[derive(Clone, Copy)]
 struct Row {
+    blade: u8,
     step: Step,
-    sent: &'static [Sent],
+    sent: &'static [(u8, Sent)],
     states: &'static [State],
 }
 
 static ROWS: [Row; 12] = [
     // blade 0 reads the page
     Row {
-        step: Step::Get {
-            blade: 0,
-            write: false,
-        },
-        sent: &[Sent::Read { blade: 0 }],
+        blade: 0,
+        step: Step::Get { write: false },
+        sent: &[(0, Sent::Read)],
         states: &[State::I, State::S { sharers: 1 }],
     },
     // blade 1 wants to write it, and waits while it is fetched
     Row {
-        step: Step::Get {
-            blade: 1,
-            write: true,
-        },
+        blade: 1,
+        step: Step::Get { write: true },
         sent: &[],
         states: &[],
     },
     // blade 0 gets it, and is then told to give it up
     Row {
-        step: Step::Image { blade: 0 },
+        blade: 0,
+        step: Step::Image,
         sent: &[
-            Sent::Fill {
-                blade: 0,
-                writable: false,
-            },
-            Sent::Inv {
-                blade: 0,
-                number: 1,
-            },
+            (0, Sent::Fill { writable: false }),
+            (0, Sent::Inv { number: 1 }),
         ],
         states: &[],
     },
     // blade 0 wants it again, and waits for the transition
     Row {
-        step: Step::Get {
-            blade: 0,
-            write: false,
-        },
+        blade: 0,
+        step: Step::Get { write: false },
         sent: &[],
         states: &[],
     },
     // nobody holds it, and so blade 1 owns it
     Row {
+        blade: 0,
         step: Step::Ack {
-            blade: 0,
             number: 1,
             count: 0,
         },
-        sent: &[Sent::Read { blade: 1 }],
+        sent: &[(1, Sent::Read)],
         states: &[State::I, State::M { owner: 1 }],
     },
     // blade 1 gets it to write, and is then told to write no longer, since blade 0 waits to read
     Row {
-        step: Step::Image { blade: 1 },
+        blade: 1,
+        step: Step::Image,
         sent: &[
-            Sent::Fill {
-                blade: 1,
-                writable: true,
-            },
-            Sent::Lower {
-                blade: 1,
-                number: 2,
-            },
+            (1, Sent::Fill { writable: true }),
+            (1, Sent::Lower { number: 2 }),
         ],
         states: &[],
     },
     // what blade 1 wrote goes to where the page lies
     Row {
-        step: Step::Back { blade: 1 },
-        sent: &[Sent::Write],
+        blade: 1,
+        step: Step::Back,
+        sent: &[(1, Sent::Write)],
         states: &[],
     },
     // blade 1 shares it, and so does blade 0
     Row {
+        blade: 1,
         step: Step::Ack {
-            blade: 1,
             number: 2,
             count: 0,
         },
-        sent: &[Sent::Read { blade: 0 }],
+        sent: &[(0, Sent::Read)],
         states: &[State::S { sharers: 2 }, State::S { sharers: 3 }],
     },
     Row {
-        step: Step::Image { blade: 0 },
-        sent: &[Sent::Fill {
-            blade: 0,
-            writable: false,
-        }],
+        blade: 0,
+        step: Step::Image,
+        sent: &[(0, Sent::Fill { writable: false })],
         states: &[],
     },
     // blade 0 writes: blade 1 alone is told to give the page up, and blade 0 stays a sharer meanwhile
     Row {
-        step: Step::Get {
-            blade: 0,
-            write: true,
-        },
-        sent: &[Sent::Inv {
-            blade: 1,
-            number: 3,
-        }],
+        blade: 0,
+        step: Step::Get { write: true },
+        sent: &[(1, Sent::Inv { number: 3 })],
         states: &[],
     },
     Row {
+        blade: 1,
         step: Step::Ack {
-            blade: 1,
             number: 3,
             count: 1,
         },
-        sent: &[Sent::Read { blade: 0 }],
+        sent: &[(0, Sent::Read)],
         states: &[State::S { sharers: 1 }, State::M { owner: 0 }],
     },
     Row {
-        step: Step::Image { blade: 0 },
-        sent: &[Sent::Fill {
-            blade: 0,
-            writable: true,
-        }],
+        blade: 0,
+        step: Step::Image,
+        sent: &[(0, Sent::Fill { writable: true })],
         states: &[],
     },
 ];
 
-/// The link that the message comes on.
-fn link_of(step: Step) -> LinkName {
-    match step {
-        Step::Get { blade, .. } | Step::Ack { blade, .. } | Step::Back { blade } => up(blade),
-        Step::Image { .. } => LinkName {
+/// The link that the row's message comes on.
+fn link_of(row: &Row) -> LinkName {
+    match row.step {
+        Step::Get { .. } | Step::Ack { .. } | Step::Back => up(row.blade),
+        Step::Image => LinkName {
             kind: LinkKind::From,
             number: 1,
         },
     }
 }
 
-fn message_of(alloc: Global, step: Step) -> Result<Msg, NoMemory>
+fn message_of(alloc: Global, row: &Row) -> Result<Msg, NoMemory>
     ensures { IfOk result (λ msg. FieldsAgree msg) }
 {
     let image = PageImage::zero(alloc)?;
-    Ok(match step {
-        Step::Get { write, .. } => Msg::Get { page: PAGE, write },
-        Step::Image { blade } => Msg::Image {
-            blade: Some(blade % 8),
+    Ok(match row.step {
+        Step::Get { write } => Msg::Get { page: PAGE, write },
+        Step::Image => Msg::Image {
+            blade: Some(row.blade % 8),
             page: PAGE,
             image,
         },
-        Step::Ack { number, count, .. } => Msg::Ack { number, count },
-        Step::Back { .. } => Msg::Back { page: PAGE, image },
+        Step::Ack { number, count } => Msg::Ack { number, count },
+        Step::Back => Msg::Back { page: PAGE, image },
     })
 }
 
-/// The message on its link, if it is about the page or its block.
-fn sent_on(link: LinkName, msg: &Msg) -> Sent {
-    let blade = link.number;
+/// The blade that the message on this link is to or, a reading, for, and what it says, if that is about the page
+/// or its block.
+fn sent_on(link: LinkName, msg: &Msg) -> (u8, Sent) {
     match msg {
         Msg::Read {
             phys: 1,
             blade: Some(blade),
             ..
-        } if link.kind == LinkKind::To && link.number == 1 => Sent::Read { blade: *blade },
+        } if link.kind == LinkKind::To && link.number == 1 => (*blade, Sent::Read),
+        _ => (link.number, told_by(msg)),
+    }
+}
+
+/// What a message that is no reading says.
+fn told_by(msg: &Msg) -> Sent {
+    match msg {
         Msg::Fill { page, writable, .. } if *page == PAGE => Sent::Fill {
-            blade,
             writable: *writable,
         },
-        Msg::Inv { number, range, .. } if *range == BLOCK => Sent::Inv {
-            blade,
-            number: *number,
-        },
-        Msg::Lower { number, range, .. } if *range == BLOCK => Sent::Lower {
-            blade,
-            number: *number,
-        },
-        Msg::Write { phys, .. } if link.number == 1 && *phys == 1 => Sent::Write,
+        Msg::Inv { number, range, .. } if *range == BLOCK => Sent::Inv { number: *number },
+        Msg::Lower { number, range, .. } if *range == BLOCK => Sent::Lower { number: *number },
+        Msg::Write { phys: 1, .. } => Sent::Write,
         _ => Sent::Other,
     }
 }
 
-fn are_sent(wanted: &[Sent], out: &[(LinkName, Msg)]) -> bool {
+fn are_sent(wanted: &[(u8, Sent)], out: &[(LinkName, Msg)]) -> bool {
     if out.len() != wanted.len() {
         return false;
     }
@@ -254,8 +232,8 @@ fn notes_of(alloc: Global, states: &[State]) -> Result<Vec<Note>, NoMemory> {
 
 /// Whether the switch does what the row says.
 fn holds(alloc: Global, switch: &mut SwitchCore, row: &Row) -> Result<bool, Stop> {
-    let msg = message_of(alloc, row.step)?;
-    let Some(deeds) = received(alloc, switch, link_of(row.step), msg)? else {
+    let msg = message_of(alloc, row)?;
+    let Some(deeds) = received(alloc, switch, link_of(row), msg)? else {
         return Ok(false);
     };
     let notes = notes_of(alloc, row.states)?;
