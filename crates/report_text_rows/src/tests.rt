@@ -2,6 +2,7 @@
 
 ghost use Rattle.std.specs.Prelude.{◌≡◌, ◌<◌, ◌≤◌, length, IfOk};
 ghost use Rattle.mind_base.specs.Fit.{IsFit};
+ghost use Rattle.mind_base.specs.Range.{IsRange};
 
 use mind_base::{Command, Log, NoMemory, Note, Outcome, Page, Perm, RackPlan, Range, Span, State};
 use report_text::report;
@@ -122,12 +123,19 @@ fn map_at(base: u32) -> Command
     }
 }
 
-fn move_to(memory: u8) -> Command {
-    let range = Range {
+/// A block of 2^`log` pages.
+fn block(base: u32, log: u8) -> Range
+    requires { IsRange 0 base log }
+{
+    Range {
         domain: 0,
-        base: 0,
-        log: 0,
-    };
+        base,
+        log,
+    }
+}
+
+fn move_to(memory: u8) -> Command {
+    let range = block(0, 0);
     Command::Migrate { range, memory }
 }
 
@@ -174,11 +182,7 @@ fn each_note_once(rt: HostRuntime) -> Result<(), Fail> {
         domain: 0,
         number: 4,
     };
-    let range = Range {
-        domain: 0,
-        base: 4,
-        log: 1,
-    };
+    let range = block(4, 1);
     let notes = [
         Note::Event { index: 0 },
         Note::Exec { hart: 0 },
@@ -212,21 +216,9 @@ fn each_note_once(rt: HostRuntime) -> Result<(), Fail> {
 
 #[test]
 fn notes_of_entries_that_are_not_there(rt: HostRuntime) -> Result<(), Fail> {
-    let one = Range {
-        domain: 0,
-        base: 0,
-        log: 0,
-    };
-    let two = Range {
-        domain: 0,
-        base: 4,
-        log: 1,
-    };
-    let lower = Range {
-        domain: 0,
-        base: 4,
-        log: 0,
-    };
+    let one = block(0, 0);
+    let two = block(4, 1);
+    let lower = block(4, 0);
     let shared = State::S { sharers: 5 };
     let notes = [
         Note::Region {
