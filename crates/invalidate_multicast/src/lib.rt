@@ -6,6 +6,3 @@ mod transitions;
 
 pub use casts::{Cast, is_among, only, targets, with_blade, without};
 pub use transitions::{ack, begin, ended};
-
-#[cfg(test)]
-mod tests;

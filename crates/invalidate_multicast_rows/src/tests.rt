@@ -2,7 +2,7 @@
 
 ghost use Rattle.std.specs.Prelude.{◌<◌, ◌^◌, ◌≢◌};
 
-use crate::{Cast, ack, begin, ended, targets};
+use invalidate_multicast::{Cast, ack, begin, ended, targets};
 use mind_base::{Page, Range, State};
 use region_directory::{Busy, Directory, Entry};
 use std::test::Fail;
