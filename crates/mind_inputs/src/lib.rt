@@ -14,6 +14,3 @@ pub use loaded::Loaded;
 pub use loading::{load, load_made, load_rack};
 pub use refusals::Refusal;
 pub use stopped::Stopped;
-
-#[cfg(test)]
-mod tests;

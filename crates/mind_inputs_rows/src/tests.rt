@@ -1,6 +1,6 @@
 //! The inputs of a check, from files in memory.
-use crate::{Loaded, Stopped, load_for_check};
 use mind_base::{Log, MemStore, Name};
+use mind_inputs::{Loaded, Stopped, load_for_check};
 use std::alloc::Global;
 use std::process::Abort;
 use std::test::Fail;
