@@ -14,6 +14,3 @@ mod splits;
 pub use directories::Directory;
 pub use entries::{Busy, Entry};
 pub use rooms::{Room, has_any};
-
-#[cfg(test)]
-mod tests;

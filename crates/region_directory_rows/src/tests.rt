@@ -2,8 +2,8 @@
 
 ghost use Rattle.std.specs.Prelude.{◌<◌, ◌≤◌, ◌^◌};
 
-use crate::{Busy, Directory, Room};
 use mind_base::{Page, State};
+use region_directory::{Busy, Directory, Room};
 use std::test::Fail;
 
 fn page(number: u32) -> Page
