@@ -11,6 +11,3 @@ mod splits;
 pub use epochs::{EpochSums, epoch};
 pub use loads::{Load, Verdict};
 pub use policies::{Judge, Policy};
-
-#[cfg(test)]
-mod tests;

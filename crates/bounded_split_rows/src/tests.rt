@@ -3,7 +3,7 @@
 ghost use Rattle.std.specs.Prelude.{◌≡◌};
 ghost use Rattle.bounded_split.specs.Verdict.{verdict_of};
 
-use crate::{EpochSums, Load, Policy, Verdict, epoch};
+use bounded_split::{EpochSums, Load, Policy, Verdict, epoch};
 use mind_base::{Log, Note, Page, State};
 use region_directory::{Busy, Directory};
 use std::test::Fail;
