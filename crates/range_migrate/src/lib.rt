@@ -16,6 +16,3 @@ pub use laws::accepted_moves_decide;
 pub use migrates::migrate;
 pub use moves::{Copy1, Move};
 pub use plans::plan;
-
-#[cfg(test)]
-mod tests;

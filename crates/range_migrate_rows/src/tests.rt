@@ -5,8 +5,8 @@ ghost use Rattle.range_translate.specs.Table.{IsTable};
 ghost use Rattle.spare_pool.specs.Pool.{all_free};
 ghost use Rattle.range_migrate.specs.Migrates.{AreReached};
 
-use crate::migrate;
 use mind_base::{MemoryPlan, NoMemory, Outcome, Page, Range, Sequence, Span};
+use range_migrate::migrate;
 use range_translate::Table;
 use spare_pool::Pool;
 use std::alloc::Global;

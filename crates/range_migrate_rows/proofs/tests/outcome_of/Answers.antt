@@ -1,6 +1,6 @@
 use Rattle.std.proofs.Common.{◌∷◌, Ok}
 use Rattle.range_migrate.specs.Migrates.{Migrate}
-use Rattle.range_migrate.proofs.tests.outcome_of.Goals as goal
+use Rattle.range_migrate_rows.proofs.tests.outcome_of.Goals as goal
 
 pub returns-in-Ok : goal.returns-in-Ok
 returns-in-Ok c =
