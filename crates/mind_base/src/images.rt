@@ -2,7 +2,7 @@
 
 ghost use Rattle.std.specs.Prelude.{◌≡◌, IfOk};
 
-use crate::{NoMemory, Sequence};
+use crate::{Duplicate, NoMemory, Sequence};
 use std::alloc::Global;
 
 /// A program as it lies in a thread's image: its bytes, the first at the address `at`.
@@ -12,11 +12,8 @@ pub struct Image {
     pub bytes: Sequence<u8>,
 }
 
-impl Image {
-    /// An equal image.
-    pub fn copy(&self, alloc: Global) -> Result<Image, NoMemory>
-        ensures { IfOk result (λ image. image ≡ self.now) }
-    {
+impl Duplicate for Image {
+    fn copy(&self, alloc: Global) -> Result<Image, NoMemory> {
         let bytes = self.bytes.copied(alloc)?;
         Ok(Image { at: self.at, bytes })
     }

@@ -3,6 +3,7 @@
 
 mod commands;
 mod directory_stores;
+mod duplicates;
 mod ends;
 mod events;
 mod failures;
@@ -28,6 +29,7 @@ mod stores;
 
 pub use commands::{Command, Outcome, Perm};
 pub use directory_stores::DirStore;
+pub use duplicates::{Duplicate, copies_of};
 pub use ends::{End, FaultKind};
 pub use events::Event;
 pub use failures::{NoMemory, Stop};

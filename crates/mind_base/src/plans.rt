@@ -3,7 +3,7 @@
 ghost use Rattle.std.specs.Prelude.{◌≡◌, IfOk};
 ghost use Rattle.mind_base.specs.Plan.{image_place};
 
-use crate::{Name, NoMemory, Perm, Sequence, Span};
+use crate::{Duplicate, Name, NoMemory, Perm, Sequence, Span, copies_of};
 use std::alloc::Global;
 
 /// One memory blade: the runs of pages that have their home there, and how many spare pages it has
@@ -63,11 +63,8 @@ pub struct RackPlan {
     pub maps: Sequence<MapPlan>,
 }
 
-impl MemoryPlan {
-    /// An equal plan.
-    pub fn copy(&self, alloc: Global) -> Result<MemoryPlan, NoMemory>
-        ensures { IfOk result (λ plan. plan ≡ self.now) }
-    {
+impl Duplicate for MemoryPlan {
+    fn copy(&self, alloc: Global) -> Result<MemoryPlan, NoMemory> {
         let homes = self.homes.copied(alloc)?;
         Ok(MemoryPlan {
             homes,
@@ -76,11 +73,8 @@ impl MemoryPlan {
     }
 }
 
-impl ImagePlan {
-    /// An equal plan.
-    pub fn copy(&self, alloc: Global) -> Result<ImagePlan, NoMemory>
-        ensures { IfOk result (λ plan. plan ≡ self.now) }
-    {
+impl Duplicate for ImagePlan {
+    fn copy(&self, alloc: Global) -> Result<ImagePlan, NoMemory> {
         let name = self.name.copy(alloc)?;
         Ok(ImagePlan { name, at: self.at })
     }
@@ -92,8 +86,8 @@ impl RackPlan {
         ensures { IfOk result (λ plan. plan ≡ self.now) }
     {
         let frames = self.frames.copied(alloc)?;
-        let memories = copied_memories(alloc, self.memories.as_slice())?;
-        let images = copied_images(alloc, self.images.as_slice())?;
+        let memories = copies_of(alloc, self.memories.as_slice())?;
+        let images = copies_of(alloc, self.images.as_slice())?;
         let threads = self.threads.copied(alloc)?;
         let maps = self.maps.copied(alloc)?;
         Ok(RackPlan {
@@ -121,24 +115,4 @@ pub fn image_place(images: &[ImagePlan], i: u8) -> u32
         Some(image) => image.at,
         None => 0,
     }
-}
-
-fn copied_memories(alloc: Global, plans: &[MemoryPlan]) -> Result<Sequence<MemoryPlan>, NoMemory>
-    ensures { IfOk result (λ copies. copies ≡ plans.now) }
-{
-    let mut copies = Sequence::new(alloc);
-    for plan in plans {
-        copies.push(plan.copy(alloc)?)?;
-    }
-    Ok(copies)
-}
-
-fn copied_images(alloc: Global, plans: &[ImagePlan]) -> Result<Sequence<ImagePlan>, NoMemory>
-    ensures { IfOk result (λ copies. copies ≡ plans.now) }
-{
-    let mut copies = Sequence::new(alloc);
-    for plan in plans {
-        copies.push(plan.copy(alloc)?)?;
-    }
-    Ok(copies)
 }

@@ -1,12 +1,11 @@
 //! The home of a page.
 
-ghost use Rattle.std.specs.Prelude.{◌≡◌, ◌<◌, ◌≤◌, length, map, slice_get, IfOk, IfSome};
+ghost use Rattle.std.specs.Prelude.{◌≡◌, ◌<◌, ◌≤◌, length, map, slice_get, IfSome};
 ghost use Rattle.mind_base.specs.Home.{number_in_homes, home_of};
 ghost use Rattle.mind_base.specs.Fit.{AreApart, all_homes};
 ghost use Rattle.range_translate.specs.Place.{pages_of};
 
-use mind_base::{MemoryPlan, NoMemory, Page, Sequence, Span};
-use std::alloc::Global;
+use mind_base::{MemoryPlan, Page, Span};
 
 /// How many pages these runs have together.
 pub fn pages_of(homes: &[Span]) -> u32
@@ -60,15 +59,4 @@ pub fn spare_base(memories: &[MemoryPlan], memory: usize) -> u32
     ensures few { result ≤ 16777216 }
 {
     pages_of(memories[memory].homes.as_slice())
-}
-
-/// The same memory blades.
-pub fn copied(alloc: Global, memories: &[MemoryPlan]) -> Result<Sequence<MemoryPlan>, NoMemory>
-    ensures { IfOk result (λ copies. copies ≡ memories.now) }
-{
-    let mut copies = Sequence::new(alloc);
-    for memory in memories {
-        copies.push(memory.copy(alloc)?)?;
-    }
-    Ok(copies)
 }

@@ -14,7 +14,7 @@ ghost use Rattle.range_translate.specs.Order.{put_in_order};
 ghost use Rattle.range_translate.specs.Table.{IsTable};
 
 use crate::{Outlier, Piece, PutRefusal, homes, pieces, search};
-use mind_base::{MemoryPlan, NoMemory, Page, Range, Sequence, Span};
+use mind_base::{MemoryPlan, NoMemory, Page, Range, Sequence, Span, copies_of};
 use std::alloc::Global;
 use std::marker::Model;
 
@@ -49,7 +49,7 @@ impl Table {
         ensures empty { IfOk result (λ table. table ≡ record { homes = memories.now; slots = slots; outliers = [] }) }
         ensures table { IfOk result IsTable }
     {
-        let memories = homes::copied(alloc, memories)?;
+        let memories = copies_of(alloc, memories)?;
         let outliers = Vec::with_capacity(alloc, slots as usize)?;
         Ok(Table {
             alloc,

@@ -23,7 +23,8 @@ use crate::{Label, Replay, label_in};
 use control_plane::decide;
 use flat_memory::FlatMemory;
 use mind_base::{
-    Command, End, Granule, Image, Log, NoMemory, Outcome, Place, RackPlan, Sequence, image_place,
+    Command, End, Granule, Image, Log, NoMemory, Outcome, Place, RackPlan, Sequence, copies_of,
+    image_place,
 };
 use protect_table::Protect;
 use std::alloc::Global;
@@ -76,7 +77,7 @@ impl Machine {
         let memory = FlatMemory::new(alloc)?;
         let perms = Protect::of(alloc, plan.protect, plan.maps.as_slice())?;
         let plan = plan.copy(alloc)?;
-        let images = copied_images(alloc, images)?;
+        let images = copies_of(alloc, images)?;
         let commands = CommandQueue::new(alloc, commands)?;
         Ok(Machine {
             plan,
@@ -312,16 +313,6 @@ fn end_reservations(harts: &mut Vec<Hart>, granule: Granule)
     for i in 0..harts.len() {
         harts[i].end_reservation(granule);
     }
-}
-
-fn copied_images(alloc: Global, images: &[Image]) -> Result<Sequence<Image>, NoMemory>
-    ensures { IfOk result (λ copies. copies ≡ images.now) }
-{
-    let mut copies = Sequence::new(alloc);
-    for image in images {
-        copies.push(image.copy(alloc)?)?;
-    }
-    Ok(copies)
 }
 
 #[tactic(auto, using(crate::proofs::Counting::length_first))]
