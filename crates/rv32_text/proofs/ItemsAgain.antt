@@ -189,7 +189,7 @@ address_again aq rl a b r s =
     let q = address_piece b s in
     rw (first_before (register_name a) (32 ∷ address_text b) p, second_alone (register_name a) (address_text b) p q, (register_again a r).0, (register_again b s).4) refl
 
-exchange_again : (a b c : ℕ) → a < 32 → b < 32 → c < 32 → exchange_at (32 ∷ three (register_name a) (register_name c) (address_text b)) ≡ Ok (a, b, c)
+exchange_again : (a b c : ℕ) → a < 32 → b < 32 → c < 32 → exchange_at (32 ∷ three (register_name a) (register_name c) (address_text b)) ≡ Ok (record { rd = a; rs1 = b; rs2 = c })
 unfolding exchange_at
 exchange_again a b c r s t =
     let operands = pair_again a c (address_text b) r t (address_piece b s) in

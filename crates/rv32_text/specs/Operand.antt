@@ -10,6 +10,7 @@ use Rattle.rv32_decode.specs.Kinds.{is_shift}
 use Rattle.rv32_text.specs.declared.faults.TextFault.{TextFault}
 use Rattle.rv32_text.specs.declared.faults.TextFault.TheVariants as faults
 use Rattle.rv32_text.specs.declared.labels.Defined.{Defined}
+use Rattle.rv32_text.specs.declared.operands.Exchange.{Exchange}
 use Rattle.plain_text.specs.Reading.{◌>>=◌}
 use Rattle.rv32_text.specs.Blank.{trimmed}
 use Rattle.rv32_text.specs.Number.{greatest_word, number_in, up_to, signed_within, even_within}
@@ -141,11 +142,11 @@ address_at aq rl text = do
   Ok (instr.Lr rd rs1 aq rl)
 
 -- two registers, and another in parentheses, which comes before the second
-unfoldable pub exchange_at : List ℕ → Result (ℕ × ℕ × ℕ) TextFault
+unfoldable pub exchange_at : List ℕ → Result Exchange TextFault
 exchange_at text = do
   pair ← pair_at text
   rs1 ← address_in (third_operand text)
-  Ok (pair.0, rs1, pair.1)
+  Ok (record { rd = pair.0; rs1 = rs1; rs2 = pair.1 })
 
 -- a word
 unfoldable pub plain_at : List ℕ → Result ℕ TextFault

@@ -46,8 +46,8 @@ store_at kind text = based_at text >>= (λ read. Ok (instr.Store kind read.1 rea
 
 unfoldable pub atomic_at : Atomic → Bool → Bool → List ℕ → Result Instr TextFault
 atomic_at atomic.Lr aq rl text = address_at aq rl text
-atomic_at atomic.Sc aq rl text = exchange_at text >>= (λ read. Ok (instr.Sc read.0 read.1 read.2 aq rl))
-atomic_at (atomic.Amo kind) aq rl text = exchange_at text >>= (λ read. Ok (instr.Amo kind read.0 read.1 read.2 aq rl))
+atomic_at atomic.Sc aq rl text = exchange_at text >>= (λ read. Ok (instr.Sc read.rd read.rs1 read.rs2 aq rl))
+atomic_at (atomic.Amo kind) aq rl text = exchange_at text >>= (λ read. Ok (instr.Amo kind read.rd read.rs1 read.rs2 aq rl))
 
 abbrev pub as_item : Result Instr TextFault → Result Item TextFault
 as_item (Ok i) = Ok (item.Instr i)

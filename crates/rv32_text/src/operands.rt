@@ -280,17 +280,25 @@ pub fn addressed(aq: bool, rl: bool, text: &[u8]) -> Result<Instr, TextFault>
     Ok(Instr::Lr { rd, rs1, aq, rl })
 }
 
+/// The registers of an exchange with memory: where the old value goes, the address, and what is stored.
+#[derive(Clone, Copy)]
+pub struct Exchange {
+    pub rd: u8,
+    pub rs1: u8,
+    pub rs2: u8,
+}
+
 /// Two registers, and another in parentheses, which comes before the second.
 #[tactic(auto, unfolding(crate::specs::Operand::exchange_at))]
-pub fn exchanged(text: &[u8]) -> Result<(u8, u8, u8), TextFault>
+pub fn exchanged(text: &[u8]) -> Result<Exchange, TextFault>
     ensures reads { result ≡ exchange_at text.now }
-    ensures first { IfOk result (λ read. read.0 < 32) }
-    ensures second { IfOk result (λ read. read.1 < 32) }
-    ensures third { IfOk result (λ read. read.2 < 32) }
+    ensures first { IfOk result (λ read. read.rd < 32) }
+    ensures second { IfOk result (λ read. read.rs1 < 32) }
+    ensures third { IfOk result (λ read. read.rs2 < 32) }
 {
     let (rd, rs2) = pair(text)?;
     let rs1 = address(third(text))?;
-    Ok((rd, rs1, rs2))
+    Ok(Exchange { rd, rs1, rs2 })
 }
 
 /// A word.

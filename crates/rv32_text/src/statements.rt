@@ -53,22 +53,22 @@ fn atomic(kind: Atomic, aq: bool, rl: bool, text: &[u8]) -> Result<Instr, TextFa
     match kind {
         Atomic::Lr => addressed(aq, rl, text),
         Atomic::Sc => {
-            let (rd, rs1, rs2) = exchanged(text)?;
+            let registers = exchanged(text)?;
             Ok(Instr::Sc {
-                rd,
-                rs1,
-                rs2,
+                rd: registers.rd,
+                rs1: registers.rs1,
+                rs2: registers.rs2,
                 aq,
                 rl,
             })
         }
         Atomic::Amo(kind) => {
-            let (rd, rs1, rs2) = exchanged(text)?;
+            let registers = exchanged(text)?;
             Ok(Instr::Amo {
                 kind,
-                rd,
-                rs1,
-                rs2,
+                rd: registers.rd,
+                rs1: registers.rs1,
+                rs2: registers.rs2,
                 aq,
                 rl,
             })
