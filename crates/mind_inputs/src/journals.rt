@@ -5,7 +5,7 @@ ghost use Rattle.mind_base.specs.Fit.{IsFit, FitImages};
 ghost use Rattle.mind_inputs.specs.Loading.{Brings};
 ghost use Rattle.mind_inputs.specs.Journals.{GivesJournal, JudgesJournal, JudgesCheck, notes_of, checkable};
 
-use crate::loading::{load, stopped_by};
+use crate::loading::{load, refused, stopped_by};
 use crate::{Loaded, Refusal, Stopped};
 use journal_text::{JournalRefusal, journal_of};
 use mind_base::{Log, Store};
@@ -20,9 +20,9 @@ fn log_from(alloc: Global, bytes: &[u8]) -> Result<Log, Stopped>
 {
     match journal_of(alloc, bytes) {
         Ok(log) => Ok(log),
-        Err(JournalRefusal::Refused { line, what }) => Err(Stopped::Refused {
-            refusal: Refusal::JournalRefused { line, what },
-        }),
+        Err(JournalRefusal::Refused { line, what }) => {
+            refused(Refusal::JournalRefused { line, what })
+        }
         Err(JournalRefusal::NoMemory) => Err(Stopped::NoMemory),
     }
 }

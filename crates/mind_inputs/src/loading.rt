@@ -5,7 +5,7 @@ ghost use Rattle.std.specs.List.{AllByRecursion, list_all};
 ghost use Rattle.mind_base.specs.Fit.{IsFit, FitsImage, FitImages};
 ghost use Rattle.schedule_text.specs.Event.{IsEventOf};
 ghost use Rattle.rack_gen.specs.Generator.{generated};
-ghost use Rattle.mind_inputs.specs.declared.stopped.Stopped.TheVariants.{NoMemory as no_memory};
+ghost use Rattle.mind_inputs.specs.declared.stopped.Stopped.TheVariants as stopped;
 ghost use Rattle.mind_inputs.specs.Inputs.{Judges, JudgesMade, JudgesOne, JudgesImages, JudgesParts, Bytes, rack_seen_judged, image_seen_judged, schedule_judged, is_built, IsBuilt, IsRunnable};
 ghost use Rattle.mind_inputs.specs.Judged.{GivesEnding};
 ghost use Rattle.mind_inputs.specs.Loading.{Brings, stopped_of};
@@ -37,6 +37,13 @@ pub(crate) fn stopped_by(error: ReadError, long: Refusal) -> Stopped
     }
 }
 
+/// The answer where an input is refused.
+pub(crate) fn refused<T>(refusal: Refusal) -> Result<T, Stopped>
+    ensures { result ≡ Err (stopped.Refused refusal) }
+{
+    Err(Stopped::Refused { refusal })
+}
+
 // ---- one input, of its bytes
 
 fn plan_from(alloc: Global, bytes: &[u8]) -> Result<RackPlan, Stopped>
@@ -45,9 +52,7 @@ fn plan_from(alloc: Global, bytes: &[u8]) -> Result<RackPlan, Stopped>
 {
     match rack_of(alloc, bytes) {
         Ok(plan) => Ok(plan),
-        Err(RackRefusal::Refused { what, path }) => Err(Stopped::Refused {
-            refusal: Refusal::RackRefused { what, path },
-        }),
+        Err(RackRefusal::Refused { what, path }) => refused(Refusal::RackRefused { what, path }),
         Err(RackRefusal::NoMemory) => Err(Stopped::NoMemory),
     }
 }
@@ -58,12 +63,8 @@ fn image_from(number: u8, plan: &ImagePlan, bytes: Vec<u8>) -> Result<Image, Sto
 {
     match image_of(plan, bytes) {
         Ok(image) => Ok(image),
-        Err(ImageFault::Length) => Err(Stopped::Refused {
-            refusal: Refusal::ImageLength { number },
-        }),
-        Err(ImageFault::End) => Err(Stopped::Refused {
-            refusal: Refusal::ImageEnd { number },
-        }),
+        Err(ImageFault::Length) => refused(Refusal::ImageLength { number }),
+        Err(ImageFault::End) => refused(Refusal::ImageEnd { number }),
     }
 }
 
@@ -102,13 +103,11 @@ fn events_from(alloc: Global, bytes: &[u8], plan: &RackPlan) -> Result<Sequence<
         Ok(events) => if all_built(events.as_slice()) {
             Ok(Sequence::from_vec(events))
         } else {
-            Err(Stopped::Refused {
-                refusal: Refusal::ScheduleEarly,
-            })
+            refused(Refusal::ScheduleEarly)
         },
-        Err(LineRefusal::Refused { line, what }) => Err(Stopped::Refused {
-            refusal: Refusal::ScheduleRefused { line, what },
-        }),
+        Err(LineRefusal::Refused { line, what }) => {
+            refused(Refusal::ScheduleRefused { line, what })
+        }
         Err(LineRefusal::NoMemory) => Err(Stopped::NoMemory),
     }
 }
@@ -278,7 +277,7 @@ fn events_made(
     requires fit { IsFit plan.now }
     requires count { count ≤ 200000 }
     ensures made { IfOk result (λ events. events ≡ generated plan.now count seed) }
-    ensures want { OnErr result (result ≡ Err no_memory) }
+    ensures want { OnErr result (result ≡ Err stopped.NoMemory) }
     ensures few { IfOk result (λ events. length events ≤ 1000000) }
     ensures built { IfOk result (λ events. AllByRecursion IsBuilt events) }
     ensures numbers { IfOk result (λ events. AllByRecursion (IsEventOf plan.now) events) }
