@@ -7,8 +7,8 @@ use Rattle.mind_top.specs.declared.words.Asked.TheVariants as asked
 abbrev pub form_asked : Asked → Form
 form_asked (asked.Run output rack schedule) = Run output (record { rack = rack.now; schedule = schedule.now })
 form_asked (asked.Check rack schedule journal) = Check (record { rack = rack.now; schedule = schedule.now }) journal.now
-form_asked (asked.Make rack count seed) = Make rack.now count seed
-form_asked (asked.Load rack count seed) = Load rack.now count seed
+form_asked (asked.Make rack drawn) = Make rack.now drawn.count drawn.seed
+form_asked (asked.Load rack drawn) = Load rack.now drawn.count drawn.seed
 
 -- the words ask for this, or are of no form
 abbrev pub IsAskedIn : List (List ℕ) → Option Asked → Type 0
@@ -19,5 +19,5 @@ IsAskedIn words None = IsNoForm words
 abbrev pub IsFew : Asked → Type 0
 IsFew (asked.Run output rack schedule) = Unit {0}
 IsFew (asked.Check rack schedule journal) = Unit {0}
-IsFew (asked.Make rack count seed) = count ≤ 200000
-IsFew (asked.Load rack count seed) = count ≤ 200000
+IsFew (asked.Make rack drawn) = drawn.count ≤ 200000
+IsFew (asked.Load rack drawn) = drawn.count ≤ 200000

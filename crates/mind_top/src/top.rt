@@ -66,12 +66,12 @@ fn top<S: Store, K: Sink>(
             let status = answer_check(alloc, rack, schedule, journal, store, sink);
             (status, None)
         }
-        Some(Asked::Make { rack, count, seed }) => {
-            let status = answer_make(alloc, rack, count, seed, store, sink);
+        Some(Asked::Make { rack, drawn }) => {
+            let status = answer_make(alloc, rack, drawn.count, drawn.seed, store, sink);
             (status, None)
         }
-        Some(Asked::Load { rack, count, seed }) => {
-            let loaded = load_made(alloc, store, rack, count, seed);
+        Some(Asked::Load { rack, drawn }) => {
+            let loaded = load_made(alloc, store, rack, drawn.count, drawn.seed);
             run_loaded(alloc, Output::Report, loaded, sink, log)
         }
     }

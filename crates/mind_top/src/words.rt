@@ -13,6 +13,13 @@ pub enum Output {
     Journal,
 }
 
+/// How many lines are to be drawn, and from which seed.
+#[derive(Clone, Copy, Debug)]
+pub struct Drawn {
+    pub count: u32,
+    pub seed: u32,
+}
+
 /// What the words ask for, with the names of the files.
 pub enum Asked<'a> {
     Run {
@@ -27,13 +34,11 @@ pub enum Asked<'a> {
     },
     Make {
         rack: &'a str,
-        count: u32,
-        seed: u32,
+        drawn: Drawn,
     },
     Load {
         rack: &'a str,
-        count: u32,
-        seed: u32,
+        drawn: Drawn,
     },
 }
 
@@ -57,13 +62,7 @@ fn number_in(word: &str, limit: u32) -> Option<u32>
     }
 }
 
-/// How many lines are to be drawn, and from which seed.
-#[derive(Clone, Copy, Debug)]
-struct Drawn {
-    count: u32,
-    seed: u32,
-}
-
+/// The two words that say how many lines are to be drawn, and from which seed.
 fn drawn_in(count: &str, seed: &str) -> Option<Drawn>
     ensures { MatchOption result ((n m : ℕ) → IsNumber count.now 200000 n → IsNumber seed.now 4294967295 m → ⊥)
         (λ drawn. IsNumber count.now 200000 drawn.count × IsNumber seed.now 4294967295 drawn.seed × (drawn.count ≤ 200000)) }
@@ -97,20 +96,12 @@ fn asked_by_four<'a>(
         })
     } else if is_word(word, "make") {
         match drawn_in(third, fourth) {
-            Some(drawn) => Some(Asked::Make {
-                rack,
-                count: drawn.count,
-                seed: drawn.seed,
-            }),
+            Some(drawn) => Some(Asked::Make { rack, drawn }),
             None => None,
         }
     } else if is_word(word, "load") {
         match drawn_in(third, fourth) {
-            Some(drawn) => Some(Asked::Load {
-                rack,
-                count: drawn.count,
-                seed: drawn.seed,
-            }),
+            Some(drawn) => Some(Asked::Load { rack, drawn }),
             None => None,
         }
     } else {

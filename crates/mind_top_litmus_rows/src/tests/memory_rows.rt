@@ -1,6 +1,6 @@
 //! Loads, stores and locked operations.
-use crate::tests::racks::{LAST_PAGE, ONE, READ_ONLY};
-use sample_runs::{ReportRow, TWO, all_report};
+use crate::tests::racks::{LAST_PAGE, READ_ONLY};
+use sample_runs::{ONE, ReportRow, TWO, all_report};
 use std::test::Fail;
 
 static MEMORY: [ReportRow; 11] = [
