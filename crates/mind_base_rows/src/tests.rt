@@ -1,8 +1,8 @@
 //! What no contract says: real files and real output, and each call with ample memory.
 use mind_base::{
     DirStore, Duplicate, Image, ImagePlan, Log, MemSink, MemStore, MemoryPlan, Name, Note,
-    NumberFault, OutSink, Page, Place, PolicyKind, RackPlan, Range, ReadError, Sequence, Sink, Span,
-    Store, ThreadPlan, WriteError, number,
+    NumberFault, OutSink, Page, Place, PolicyKind, RackPlan, Range, ReadError, Sequence, Sink,
+    Span, Store, ThreadPlan, WriteError, number,
 };
 use std::fs;
 use std::test::Fail;
