@@ -24,7 +24,7 @@ use Rattle.rv32_text.specs.Number.{greatest_word, up_to, signed_within}
 use Rattle.rv32_text.specs.Name.{number_names, register_name, set_name, row_name}
 use Rattle.rv32_text.specs.Label.{is_label}
 use Rattle.rv32_text.specs.Operand.{based_in, target_in, third_operand, pair_at, upper_at, jump_at, branch_at, based_at, immediate_within, immediate_at, registers_at, sets_at, address_at, exchange_at, plain_at}
-use Rattle.rv32_text.specs.Statement.{item_at, store_at, atomic_at}
+use Rattle.rv32_text.specs.Statement.{item_at, stored_at, atomic_at}
 use Rattle.rv32_text.specs.Written.{has_text, based_text, address_text, word_text, instr_text, item_text, row_text, fence_row, instr_row}
 use Rattle.rv32_text.proofs.Clean.{Lacks, all_join, all_weaken, cut_before, cut_behind, Starts, starts, kept}
 use Rattle.rv32_text.proofs.NamesAgain.{is_clean, IsPiece, piece, at_most, register_again, set_again}
@@ -219,7 +219,7 @@ fence_read fm pred succ rd rs1 p s told =
     rw (eqb-true rd 0 zeros.0, eqb-true rs1 0 zeros.1) (fence_of (fm == 0) fm pred succ refl p s parts.1)
 
 pub instr_read : (i : Instr) → Fits i → has_text i ≡ true → IsRead (instr_text i) (item.Instr i)
-unfolding instr_text instr_row Fits item_at store_at atomic_at
+unfolding instr_text instr_row Fits item_at stored_at atomic_at
 instr_read (instr.Lui rd imm) fits told = two_read row.Lui _ _ _ (reg_piece rd fits.0) (decimal_piece (imm / 2 ^ 12) (omega arith)) refl (λ labels items. rw (upper_again rd imm fits.0 fits.1 fits.2) refl)
 instr_read (instr.Auipc rd imm) fits told = two_read row.Auipc _ _ _ (reg_piece rd fits.0) (decimal_piece (imm / 2 ^ 12) (omega arith)) refl (λ labels items. rw (upper_again rd imm fits.0 fits.1 fits.2) refl)
 instr_read (instr.Jal rd z) fits told = two_read row.Jal _ _ _ (reg_piece rd fits.0) (signed_piece z (short_from (2 ^ 20) z (omega arith) fits.1)) refl (λ labels items. rw (jump_again labels items rd z fits.0 fits.1 fits.2) refl)

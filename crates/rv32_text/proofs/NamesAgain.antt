@@ -14,7 +14,7 @@ use Rattle.rv32_text.specs.declared.rows.Atomic.TheVariants as atomic
 use Rattle.rv32_text.specs.declared.rows.Row.{Row}
 use Rattle.rv32_text.specs.declared.rows.Row.TheVariants as row
 use Rattle.rv32_text.specs.Blank.{without_blanks_before, without_blanks_behind}
-use Rattle.rv32_text.specs.Name.{number_named, use_named, named_among, register_of, register_name, set_of, set_name, row_named, row_name, plain_of, atomic_of, ordered_of}
+use Rattle.rv32_text.specs.Name.{number_named, use_named, named_among, register_of, register_name, set_of, set_name, row_named, row_name, plain_of, atomic_named, ordered_of}
 use Rattle.rv32_text.specs.Operand.{enclosed_in, address_in}
 use Rattle.rv32_text.specs.Written.{address_text}
 
@@ -90,7 +90,7 @@ IsRow r = (row_named (row_name r) ≡ Some r) × (is_sized (row_name r) ≡ true
 
 -- one clause for one kind of a row, and one for the others
 atomic_again : (aq rl : Bool) (kind : Atomic) → IsRow (row.Atomic kind aq rl)
-unfolding row_named plain_of named_among atomic_of ordered_of
+unfolding row_named plain_of named_among atomic_named ordered_of
 atomic_again true true (atomic.Amo amo.Swap) = (refl, refl, refl)
 atomic_again true true _ = (refl, refl, refl)
 atomic_again true false (atomic.Amo amo.Swap) = (refl, refl, refl)
@@ -101,7 +101,7 @@ atomic_again false false (atomic.Amo amo.Swap) = (refl, refl, refl)
 atomic_again false false _ = (refl, refl, refl)
 
 pub row_again : (r : Row) → IsRow r
-unfolding row_named plain_of named_among atomic_of ordered_of
+unfolding row_named plain_of named_among atomic_named ordered_of
 row_again (row.Branch branch.Beq) = (refl, refl, refl)
 row_again (row.Load load.Lb) = (refl, refl, refl)
 row_again (row.Store store.Sb) = (refl, refl, refl)

@@ -12,11 +12,10 @@ use Rattle.rv32_decode.proofs.Meaning.{instr_of-word_of}
 use Rattle.rv32_decode.proofs.Spelled.{word_of-below}
 use Rattle.plain_text.specs.declared.refusals.LineRefusal.{LineRefusal}
 use Rattle.plain_text.specs.declared.refusals.LineRefusal.TheVariants as refusals
-use Rattle.plain_text.specs.Reading.{Fails, Gives, ◌>>=◌}
+use Rattle.plain_text.specs.Reading.{FirstFault, Fails, Gives, ◌>>=◌}
 use Rattle.rv32_text.specs.declared.faults.TextFault.{TextFault}
 use Rattle.rv32_text.specs.declared.items.Item.{Item}
 use Rattle.rv32_text.specs.declared.items.Item.TheVariants as item
-use Rattle.rv32_text.specs.Refusal.{FirstFault}
 use Rattle.rv32_text.specs.Statement.{FitsItem}
 use Rattle.rv32_text.specs.Meaning.{items_from, labels_of, some_item, meaning}
 use Rattle.rv32_text.specs.Image.{item_word, item_bytes, image_of, assembled, image_words, IsWordOf, AreWordsOf, IsImageOf, encoded_items}
@@ -106,7 +105,7 @@ written_whole out rest total few all =
 
 -- ---- from the items to the answer
 
-same_ok : (r : Result (List ℕ) FirstFault) (a b : List ℕ) → r ≡ Ok a → r ≡ Ok b → a ≡ b
+same_ok : (r : Result (List ℕ) (FirstFault TextFault)) (a b : List ℕ) → r ≡ Ok a → r ≡ Ok b → a ≡ b
 same_ok r a b p q = cc
 
 pub same_whole : (labels : Labels) (items : List Item) (text : List ℕ) → labels ≡ labels_of text → items_from labels 1 [] (lines text) ≡ Ok items → assembled text ≡ encoded_items items
@@ -117,7 +116,7 @@ encoded_ok : (items : List Item) (image : List ℕ) → encoded_items items ≡ 
 unfolding encoded_items some_item
 encoded_ok [] image e = cc
 encoded_ok (i ∷ items) image e =
-    let whole = ap (λ (r : Result (List Item) FirstFault). r >>= (λ xs. Ok (image_of xs))) (some_ok (i ∷ items) (omega arith)) in
+    let whole = ap (λ (r : Result (List Item) (FirstFault TextFault)). r >>= (λ xs. Ok (image_of xs))) (some_ok (i ∷ items) (omega arith)) in
     (omega arith, same_ok _ image (image_of (i ∷ items)) e whole)
 
 image_is : (labels : Labels) (items : List Item) (text image : List ℕ) → labels ≡ labels_of text → items_from labels 1 [] (lines text) ≡ Ok items
@@ -136,7 +135,7 @@ image_is labels items text image same read fits few e =
 pub gives_whole : {X : Type 0} (view : X → List ℕ) (r : Result X (LineRefusal TextFault)) (labels : Labels) (items shown : List Item) (text : List ℕ) → labels ≡ labels_of text
     → items_from labels 1 [] (lines text) ≡ Ok items → shown ≡ items → Gives view r (encoded_items shown) → Gives view r (assembled text)
 gives_whole view r labels items shown text same read e given =
-    subst (λ (read : Result (List ℕ) FirstFault). Gives view r read) (ap encoded_items e ∙ sym (same_whole labels items text same read)) given
+    subst (λ (read : Result (List ℕ) (FirstFault TextFault)). Gives view r read) (ap encoded_items e ∙ sym (same_whole labels items text same read)) given
 
 given_image : {X : Type 0} (view : X → List ℕ) (r : Result X (LineRefusal TextFault)) (labels : Labels) (items : List Item) (text : List ℕ) → labels ≡ labels_of text
     → items_from labels 1 [] (lines text) ≡ Ok items → AllByRecursion FitsItem items → length items ≤ 16384 → Gives view r (encoded_items items)

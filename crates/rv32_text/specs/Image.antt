@@ -3,10 +3,10 @@ use Rattle.std.specs.Prelude.{◌≡◌, ℕ, ◌*◌, ◌≤◌, ◌<◌, List,
 use Rattle.std.specs.List.{flat_map}
 use Rattle.std.specs.Int.{w32, to_le_bytes, from_le_bytes}
 use Rattle.rv32_decode.specs.Instr.{instr_of, word_of}
+use Rattle.rv32_text.specs.declared.faults.TextFault.{TextFault}
 use Rattle.rv32_text.specs.declared.items.Item.{Item}
 use Rattle.rv32_text.specs.declared.items.Item.TheVariants as item
-use Rattle.plain_text.specs.Reading.{◌>>=◌}
-use Rattle.rv32_text.specs.Refusal.{FirstFault}
+use Rattle.plain_text.specs.Reading.{FirstFault, ◌>>=◌}
 use Rattle.rv32_text.specs.Meaning.{some_item, meaning}
 
 abbrev pub item_word : Item → ℕ
@@ -21,11 +21,11 @@ unfoldable pub image_of : List Item → List ℕ
 image_of items = flat_map item_bytes items
 
 -- the image of items, of which there is at least one
-unfoldable pub encoded_items : List Item → Result (List ℕ) FirstFault
+unfoldable pub encoded_items : List Item → Result (List ℕ) (FirstFault TextFault)
 encoded_items items = some_item items >>= (λ some. Ok (image_of some))
 
 -- the image that a text stands for, or the text's first fault
-unfoldable pub assembled : List ℕ → Result (List ℕ) FirstFault
+unfoldable pub assembled : List ℕ → Result (List ℕ) (FirstFault TextFault)
 assembled text = meaning text >>= (λ items. Ok (image_of items))
 
 -- the words of an image, as far as there are four bytes

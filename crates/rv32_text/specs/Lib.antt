@@ -6,6 +6,5 @@ pub mod Meaning
 pub mod Name
 pub mod Number
 pub mod Operand
-pub mod Refusal
 pub mod Statement
 pub mod Written

@@ -200,8 +200,8 @@ abbrev pub before_ending : List ℕ → List ℕ → List ℕ
 before_ending text ending = take (length text - length ending) text
 
 -- an atomic row by its name, behind which .aq, .rl or .aqrl may stand
-unfoldable pub atomic_of : List ℕ → Option Row
-atomic_of text =
+unfoldable pub atomic_named : List ℕ → Option Row
+atomic_named text =
     if ends_in text (codes ".aqrl") then ordered_of (before_ending text (codes ".aqrl")) true true else
     if ends_in text (codes ".aq") then ordered_of (before_ending text (codes ".aq")) true false else
     if ends_in text (codes ".rl") then ordered_of (before_ending text (codes ".rl")) false true else
@@ -209,4 +209,4 @@ atomic_of text =
 
 -- the row that a text names, if it names one
 unfoldable pub row_named : List ℕ → Option Row
-row_named text = option_or (plain_of text) (atomic_of text)
+row_named text = option_or (plain_of text) (atomic_named text)

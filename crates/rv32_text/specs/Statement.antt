@@ -41,8 +41,8 @@ operands_wanted (row.Atomic (atomic.Amo kind) aq rl) = 3
 operands_wanted row.Word = 1
 
 -- the store, or the atomic instruction, with these operands; of a store the register that is stored comes before its base
-unfoldable pub store_at : StoreKind → List ℕ → Result Instr TextFault
-store_at kind text = based_at text >>= (λ read. Ok (instr.Store kind read.1 read.0 read.2))
+unfoldable pub stored_at : StoreKind → List ℕ → Result Instr TextFault
+stored_at kind text = based_at text >>= (λ read. Ok (instr.Store kind read.1 read.0 read.2))
 
 unfoldable pub atomic_at : Atomic → Bool → Bool → List ℕ → Result Instr TextFault
 atomic_at atomic.Lr aq rl text = address_at aq rl text
@@ -61,7 +61,7 @@ item_at labels items row.Jal text = as_item (jump_at labels items text)
 item_at labels items row.Jalr text = based_at text >>= (λ read. Ok (item.Instr (instr.Jalr read.0 read.1 read.2)))
 item_at labels items (row.Branch kind) text = as_item (branch_at kind labels items text)
 item_at labels items (row.Load kind) text = based_at text >>= (λ read. Ok (item.Instr (instr.Load kind read.0 read.1 read.2)))
-item_at labels items (row.Store kind) text = as_item (store_at kind text)
+item_at labels items (row.Store kind) text = as_item (stored_at kind text)
 item_at labels items (row.OpImm kind) text = as_item (immediate_at kind text)
 item_at labels items (row.Op kind) text = as_item (registers_at kind text)
 item_at labels items row.Fence text = as_item (sets_at text)

@@ -3,7 +3,7 @@
 ghost use Rattle.std.specs.Prelude.{◌≡◌, ◌<◌, [], length, map, slice_index_or, IfSome};
 ghost use Rattle.std.specs.List.{position};
 ghost use Rattle.std.specs.Str.{bytes_eq};
-ghost use Rattle.rv32_text.specs.Name.{number_named as number_named_of, use_named as use_named_of, register_of, register_name as register_name_of, set_of, set_name as set_name_of, branch_name as branch_name_of, load_name as load_name_of, store_name as store_name_of, op_imm_name as op_imm_name_of, op_name as op_name_of, amo_name as amo_name_of, atomic_name as atomic_name_of, ordering_name as ordering_name_of, ending_name as ending_name_of, base_name as base_name_of, named_among as named_among_of, plain_of, ordered_of, atomic_of, row_named};
+ghost use Rattle.rv32_text.specs.Name.{number_named as number_named_of, use_named as use_named_of, register_of, register_name as register_name_of, set_of, set_name as set_name_of, branch_name as branch_name_of, load_name as load_name_of, store_name as store_name_of, op_imm_name as op_imm_name_of, op_name as op_name_of, amo_name as amo_name_of, atomic_name as atomic_name_of, ordering_name as ordering_name_of, ending_name as ending_name_of, base_name as base_name_of, named_among as named_among_of, plain_of, ordered_of, atomic_named, row_named};
 
 use crate::rows::{Atomic, Row};
 use rv32_decode::{AmoKind, BranchKind, LoadKind, OpImmKind, OpKind, StoreKind};
@@ -359,9 +359,9 @@ fn ordered(text: &[u8], aq: bool, rl: bool) -> Option<Row>
     Some(Row::Atomic { kind, aq, rl })
 }
 
-#[tactic(auto, unfolding(crate::specs::Name::atomic_of))]
+#[tactic(auto, unfolding(crate::specs::Name::atomic_named))]
 fn atomic(text: &[u8]) -> Option<Row>
-    ensures { result ≡ atomic_of text.now }
+    ensures { result ≡ atomic_named text.now }
 {
     if let Some(name) = text.strip_suffix(b".aqrl") {
         return ordered(name, true, true);

@@ -4,7 +4,7 @@ ghost use Rattle.std.specs.Prelude.{◌≡◌, ◌<◌, ◌≤◌, ◌^◌, leng
 ghost use Rattle.rv32_decode.specs.Instr.{Fits};
 ghost use Rattle.rv32_text.specs.Found.{found_in};
 ghost use Rattle.rv32_text.specs.Name.{row_named};
-ghost use Rattle.rv32_text.specs.Statement.{atomic_at, item_at, item_in, is_labelled as is_labelled_at, line_item, store_at, as_item as as_item_of, FitsItem, FitsLine, item_name, operands_of};
+ghost use Rattle.rv32_text.specs.Statement.{atomic_at, item_at, item_in, is_labelled as is_labelled_at, line_item, stored_at, as_item as as_item_of, FitsItem, FitsLine, item_name, operands_of};
 
 use crate::faults::TextFault;
 use crate::items::Item;
@@ -29,10 +29,10 @@ const FENCE_TSO: Instr = Instr::Fence {
 };
 
 /// The store with these operands: the register that is stored comes before its base.
-#[tactic(auto, unfolding(crate::specs::Statement::store_at, rv32_decode::specs::Instr::Fits))]
+#[tactic(auto, unfolding(crate::specs::Statement::stored_at, rv32_decode::specs::Instr::Fits))]
 fn store(kind: StoreKind, text: &[u8]) -> Result<Instr, TextFault>
     requires { length text.now < 2 ^ 32 }
-    ensures reads { result ≡ store_at kind text.now }
+    ensures reads { result ≡ stored_at kind text.now }
     ensures fits { IfOk result Fits }
 {
     let (rs2, rs1, offset) = based_on(text)?;
