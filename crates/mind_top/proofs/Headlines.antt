@@ -13,7 +13,7 @@ use Rattle.rack_core.specs.Calls.{HasSpentNumber}
 use Rattle.rack_core.specs.Rack.{RackView}
 use Rattle.rack_core.specs.Start.{IsStart}
 use Rattle.mind_top.specs.Headline.{setup_by, RunWrites, IsTextOf, IsStopped}
-use Rattle.rack_core.proofs.StandShaped.{shaped-counted}
+use Rattle.rack_core.proofs.Machine.Shaped.{shaped-counted}
 use Rattle.rack_settle.specs.Ran.{IsRunFor, HasRun}
 use Rattle.rack_settle.proofs.Prompts.{happens_in_log}
 use Rattle.rack_settle.proofs.Schedules.{settled_labels_of}

@@ -36,11 +36,11 @@ use Rattle.compute_blade.specs.declared.kept.Waits.{Waits}
 use Rattle.compute_blade.specs.declared.kept.Waits.TheVariants.{Step, Drain}
 use Rattle.coherence.specs.Counts.{bit}
 use Rattle.rack_core.specs.BladeMoves.{IsRequestBy, IsRequest}
-use Rattle.rack_core.proofs.BladeFills.{Ends, awaking, resumed-is}
-use Rattle.rack_core.proofs.BladeSound.{of_found}
-use Rattle.rack_core.proofs.Lookups.{Entries}
-use Rattle.rack_core.proofs.ReleasedBlades.{bit-most, marked, marked-cons}
-use Rattle.rack_core.proofs.Resuming.{resumes-as}
+use Rattle.rack_core.proofs.Moves.Blade.Fills.{Ends, awaking, resumed-is}
+use Rattle.rack_core.proofs.Moves.Blade.Sound.{of_found}
+use Rattle.rack_core.proofs.Lists.Lookups.{Entries}
+use Rattle.rack_core.proofs.Log.Hits.Blades.{bit-most, marked, marked-cons}
+use Rattle.rack_core.proofs.Moves.Blade.Resuming.{resumes-as}
 use Rattle.rack_settle.proofs.SentWeights.{messages-append}
 use Rattle.rack_settle.specs.Weight.{weight_of, messages_weight, blade_weight}
 

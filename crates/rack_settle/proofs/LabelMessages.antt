@@ -40,13 +40,13 @@ use Rattle.tso_machine.specs.declared.labels.Label.{Label}
 use Rattle.tso_machine.specs.declared.labels.Label.TheVariants as label
 use Rattle.rack_core.specs.BladeMoves.{AreRequestsApart, IsDrainRequest, IsRequest, IsRequestBy, IsSoundBlade}
 use Rattle.rack_core.specs.Waits.{IsNeeded, woken_for}
-use Rattle.rack_core.proofs.BladeFills.{Ends, awaking, resumed-is}
-use Rattle.rack_core.proofs.BladeSound.{of_found}
-use Rattle.rack_core.proofs.Lookups.{Entries, found-put_fresh, found-put_replaced, found-put_pushed}
-use Rattle.rack_core.proofs.WaitsGoOn.{resumes}
-use Rattle.rack_core.proofs.WaitsMessages.{out_for}
+use Rattle.rack_core.proofs.Moves.Blade.Fills.{Ends, awaking, resumed-is}
+use Rattle.rack_core.proofs.Moves.Blade.Sound.{of_found}
+use Rattle.rack_core.proofs.Lists.Lookups.{Entries, found-put_fresh, found-put_replaced, found-put_pushed}
+use Rattle.rack_core.proofs.Waits.GoOn.{resumes}
+use Rattle.rack_core.proofs.Waits.Messages.{out_for}
 use Rattle.rack_settle.specs.Labels.{owed_by, owed_for, waiting_label}
-use Rattle.rack_core.proofs.StandMids.{taken-silent}
+use Rattle.rack_core.proofs.Machine.Mids.{taken-silent}
 
 -- ---- what a blade owes
 

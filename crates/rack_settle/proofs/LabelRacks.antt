@@ -41,14 +41,14 @@ use Rattle.rack_core.specs.Safe.{IsSafe}
 use Rattle.rack_core.specs.Seen.{seen}
 use Rattle.rack_core.specs.Stands.{machine_thread}
 use Rattle.rack_core.specs.Waits.{IsNeeded, AreNeeded}
-use Rattle.rack_core.proofs.AtOnceEvents.{looked-up}
-use Rattle.rack_core.proofs.WaitsRuns.{blade_keeps}
-use Rattle.rack_core.proofs.BladeHanded.{did, blade_handed, handed_may_come}
-use Rattle.rack_core.proofs.BladeSteps.{OfHart, for_hart-some}
-use Rattle.rack_core.proofs.Delivering.{gave_on}
-use Rattle.rack_core.proofs.Lookups.{slice_get-set, slice_get-set_other}
-use Rattle.rack_core.proofs.StandSilent.{receives-silent}
-use Rattle.rack_core.proofs.WaitsMessages.{message_keeps}
+use Rattle.rack_core.proofs.Log.AtOnce.Events.{looked-up}
+use Rattle.rack_core.proofs.Waits.Runs.{blade_keeps}
+use Rattle.rack_core.proofs.Moves.Blade.Handed.{did, blade_handed, handed_may_come}
+use Rattle.rack_core.proofs.Moves.Blade.Steps.{OfHart, for_hart-some}
+use Rattle.rack_core.proofs.Events.Delivering.{gave_on}
+use Rattle.rack_core.proofs.Lists.Lookups.{slice_get-set, slice_get-set_other}
+use Rattle.rack_core.proofs.Machine.Silent.{receives-silent}
+use Rattle.rack_core.proofs.Waits.Messages.{message_keeps}
 use Rattle.rack_settle.specs.Labels.{asked_blade, asked_labels, owed, owed_by, owed_for, AsksNothing}
 use Rattle.rack_settle.proofs.LabelLists.{both-changed, one-changed}
 use Rattle.rack_settle.proofs.LabelMessages.{IsLeft, Pays, gives-silent, message-pays, silent-pays}

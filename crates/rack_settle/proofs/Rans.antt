@@ -14,9 +14,9 @@ use Rattle.rack_core.specs.Calls.{IsKept, Notes}
 use Rattle.rack_core.specs.Noted.{AreInPlace, CarriesOn}
 use Rattle.rack_core.specs.Rack.{RackView}
 use Rattle.rack_core.specs.StandLog.{made_from, StandsForLog}
-use Rattle.rack_core.proofs.AccessLogs.{accesses-event}
-use Rattle.rack_core.proofs.RackTells.{log-event}
-use Rattle.rack_core.proofs.Released.{noted-released}
+use Rattle.rack_core.proofs.Log.Accesses.Logs.{accesses-event}
+use Rattle.rack_core.proofs.Log.Held.Rack.{log-event}
+use Rattle.rack_core.proofs.Log.Hits.Rack.{noted-released}
 use Rattle.rack_settle.specs.Ran.{LeadsOrSettles, Ran, Runs, HasRun, HasStopped}
 
 pub when-ok : {T E P : Type 0} (r : Result T E) → IsOk r → OnOk r P → P
