@@ -1,3 +1,4 @@
+pub mod Callers
 pub mod Code
 pub mod Events
 pub mod Lists

@@ -1,8 +1,9 @@
 pub mod Apart
 pub mod BlockOrder
-pub mod HomeSteps
-pub mod Smallest
-pub mod TableFacts
-pub mod PieceSteps
-pub mod SmallestLaw
+pub mod Callers
 pub mod FirstInside
+pub mod HomeSteps
+pub mod PieceSteps
+pub mod Smallest
+pub mod SmallestLaw
+pub mod TableFacts

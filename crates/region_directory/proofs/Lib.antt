@@ -1,4 +1,5 @@
 pub mod BlockLemmas
+pub mod Callers
 pub mod ChangeLemmas
 pub mod OrderLemmas
 pub mod ResizeLemmas

@@ -16,7 +16,7 @@ use Rattle.wire_msg.specs.declared.msgs.Msg.{Msg}
 use Rattle.compute_blade.specs.Actions.{IsActions}
 use Rattle.compute_blade.specs.Blade.{BladeView, BladeEffect, Did, DidSome, StaysBlade, HasSpent, hart_of}
 use Rattle.compute_blade.specs.declared.kept.Asked.{Asked}
-use Rattle.compute_blade.proofs.Acting.{step_acts, drain_acts}
+use Rattle.compute_blade.proofs.Callers.{step_acts, drain_acts}
 use Rattle.rack_net.specs.Net.{IsNet, NetView}
 use Rattle.rack_core.specs.Calls.{HasSpentHart, Notes}
 use Rattle.rack_core.specs.Events.{BladeDoes, Acts, ActsWith, HartDoes, Leads, SendsAll, on}

@@ -19,8 +19,7 @@ use Rattle.memory_blade.specs.MemoryBlade as memory
 use Rattle.switch_core.specs.Switch.{SwitchView, place_in}
 use Rattle.coherence.specs.Facts.{IsCoherent, AreUps}
 use Rattle.coherence.specs.World.{World}
-use Rattle.coherence.proofs.Whole.{run_keeps}
-use Rattle.coherence.proofs.Keys.{put-here}
+use Rattle.coherence.proofs.Callers.{run_keeps, put-here}
 use Rattle.rack_core.specs.BladeMoves.{AreBladesSound, IsSoundBlade}
 use Rattle.rack_core.specs.Events.{BladeDoes, HandsTo, HandsAll}
 use Rattle.rack_core.specs.Handing.{AsksOn, AskOn}

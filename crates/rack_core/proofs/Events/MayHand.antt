@@ -14,7 +14,7 @@ use Rattle.switch_core.specs.Sending.{AreFetchesAllowed}
 use Rattle.switch_core.specs.Switch.{SwitchView, place_in}
 use Rattle.coherence.specs.Facts.{IsCoherent, AreFetches, AreUps}
 use Rattle.coherence.specs.World.{World}
-use Rattle.coherence.proofs.Keys.{put-here}
+use Rattle.coherence.proofs.Callers.{put-here}
 use Rattle.rack_core.specs.Calls.{MayBeHanded, HasLink}
 use Rattle.rack_core.specs.Handing.{IsHanding}
 use Rattle.rack_core.specs.Rack.{RackView}

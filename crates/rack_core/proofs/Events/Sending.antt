@@ -12,7 +12,7 @@ use Rattle.compute_blade.specs.Blade.{BladeView, BladeEffect}
 use Rattle.compute_blade.specs.Pages.{back_of}
 use Rattle.rack_net.specs.Net.{NetView, IsLinkOf, links_of_kind}
 use Rattle.rack_core.specs.Events.{SendsOn, SendsAll}
-use Rattle.switch_core.proofs.Lists.{all-append}
+use Rattle.switch_core.proofs.Callers.{all-append}
 
 -- ---- one after another
 

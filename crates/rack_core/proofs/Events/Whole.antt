@@ -8,7 +8,7 @@ use Rattle.mind_base.specs.declared.plans.ThreadPlan.{ThreadPlan}
 use Rattle.compute_blade.specs.Blade.{BladeView, BladeEffect}
 use Rattle.compute_blade.specs.Pages.{given_up}
 use Rattle.compute_blade.specs.Steps.{after_step, blade_after_drain}
-use Rattle.coherence.proofs.Whole.{run_keeps}
+use Rattle.coherence.proofs.Callers.{run_keeps}
 use Rattle.rack_core.specs.BladeMoves.{BladeLeads}
 use Rattle.rack_core.specs.Events.{HartDoes, Leads}
 use Rattle.rack_core.specs.Rack.{RackView}

@@ -11,12 +11,10 @@ use Rattle.page_cache.specs.PageCache.{CacheView, IsPageCache, same_page, frame_
 use Rattle.page_cache.specs.declared.frames.Frame.{Frame}
 use Rattle.page_cache.specs.declared.frames.Put.{Put}
 use Rattle.page_cache.specs.declared.frames.Put.TheVariants.{Fresh, Replaced, Pushed}
-use Rattle.page_cache.proofs.Laws.{same_page-true, same_page-refl}
-use Rattle.page_cache.proofs.CallerLemmas.{same_page-is_equivalence, frame_of-without, frame_of-with_change, frame_of-with_first, frame_of-first, put_of-Fresh, put_of-Replaced, put_of-Pushed}
+use Rattle.page_cache.proofs.Callers.{same_page-true, same_page-refl, same_page-is_equivalence, frame_of-without, frame_of-with_change, frame_of-with_first, frame_of-first, put_of-Fresh, put_of-Replaced, put_of-Pushed, length-held}
 use Rattle.compute_blade.specs.Blade.{is_for, is_asked, request_for, requests_without}
 use Rattle.compute_blade.specs.Harts.{holding}
 use Rattle.compute_blade.specs.declared.kept.Asked.{Asked}
-use Rattle.page_cache.proofs.CallerLemmas.{length-held}
 
 -- ---- frames
 

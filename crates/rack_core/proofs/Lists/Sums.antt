@@ -2,7 +2,7 @@
 use Rattle.std.proofs.Common.{◌≡◌, refl, sym, subst, ℕ, zero, suc, ◌+◌, ◌≤◌, Bool, true, false, ◌==◌, arith, eqb-true}
 use Rattle.std.proofs.lemmas.Bool.Decides.{nat_tests}
 use Rattle.mind_base.specs.Cover.{sum_below}
-use Rattle.protect_table.proofs.Counting.{sum_below-same}
+use Rattle.protect_table.proofs.Callers.{sum_below-same}
 
 -- one number changes, which may be none of those that are summed
 pub below-changed : (n k v w : ℕ) (f g : ℕ → ℕ) → ((i : ℕ) → (i == k) ≡ false → f i ≡ g i) → f k + v ≤ g k + w → (n ≤ k → v ≤ w) → sum_below f n + v ≤ sum_below g n + w

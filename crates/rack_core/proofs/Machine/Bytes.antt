@@ -5,14 +5,13 @@ use Rattle.std.proofs.lemmas.Bool.{eqb-true, eq-eqb, and_parts, and_from, leb-tr
 use Rattle.mind_base.specs.Page.{PageView, page_of}
 use Rattle.mind_base.specs.Pending.{PendingView, IsPending, covers, byte_number, byte_at}
 use Rattle.page_cache.specs.PageCache.{same_page}
-use Rattle.page_cache.proofs.Laws.{same_page-true}
+use Rattle.page_cache.proofs.Callers.{same_page-true}
 use Rattle.page_image.specs.PageImage.{PageImageView, IsPageImage, IsInside, image_after}
-use Rattle.page_image.proofs.Laws.{end_inside, IsPageImage-image_after}
-use Rattle.page_image.proofs.CallerLemmas.{get_or-image_after-inside, get_or-image_after-outside}
+use Rattle.page_image.proofs.Callers.{end_inside, IsPageImage-image_after, get_or-image_after-inside, get_or-image_after-outside}
 use Rattle.tso_machine.specs.State.{Write}
 use Rattle.tso_machine.specs.Memory.{byte_of}
 use Rattle.tso_machine.specs.Step.{bytes_of}
-use Rattle.tso_machine.proofs.Writing.{stored-is}
+use Rattle.tso_machine.proofs.Callers.{stored-is}
 use Rattle.coherence.specs.World.{put_page}
 
 -- the image of a page when a store in it took effect with a tag

@@ -13,7 +13,7 @@ use Rattle.protect_table.specs.Protect.{permission_at}
 use Rattle.compute_blade.specs.Blade.{HartView, BladeView, BladeEffect, hart_of}
 use Rattle.compute_blade.specs.Steps.{step_at, drain_of, after_step, blade_after_drain}
 use Rattle.coherence.specs.Facts.{IsCoherent}
-use Rattle.coherence.proofs.Whole.{run_keeps}
+use Rattle.coherence.proofs.Callers.{run_keeps}
 use Rattle.tso_machine.specs.State.{Setup, State}
 use Rattle.rack_core.specs.BladeMoves.{image_or, BladeLeads}
 use Rattle.rack_core.specs.Events.{BladeActs, HartDoes, Leads}

@@ -14,13 +14,11 @@ use Rattle.wire_msg.specs.declared.msgs.Msg.{Msg}
 use Rattle.wire_msg.specs.declared.msgs.Msg.TheVariants.{Fill, Deny, Inv, Lower}
 use Rattle.compute_blade.specs.Blade.{BladeView}
 use Rattle.compute_blade.specs.Messages.{after_message}
-use Rattle.compute_blade.proofs.Acting.{message_acts}
+use Rattle.compute_blade.proofs.Callers.{message_acts}
 use Rattle.switch_core.specs.Switch.{place_in}
 use Rattle.coherence.specs.Facts.{AreDowns, AreFrames, AreUps, IsCoherent, IsDown}
 use Rattle.coherence.specs.World.{World}
-use Rattle.coherence.proofs.Keys.{put-here}
-use Rattle.coherence.proofs.Lists.{downs-cons}
-use Rattle.coherence.proofs.Whole.{run_keeps}
+use Rattle.coherence.proofs.Callers.{put-here, downs-cons, run_keeps}
 use Rattle.tso_machine.specs.Replay.{labels}
 use Rattle.tso_machine.specs.State.{Setup, State}
 use Rattle.rack_core.specs.BladeMoves.{handing}

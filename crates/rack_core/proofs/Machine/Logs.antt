@@ -11,7 +11,7 @@ use Rattle.mind_base.specs.declared.notes.Note.{Note}
 use Rattle.page_image.specs.PageImage.{PageImageView}
 use Rattle.compute_blade.specs.Pages.{given_up}
 use Rattle.compute_blade.specs.Steps.{after_step, blade_after_drain}
-use Rattle.compute_blade.proofs.Acting.{step_acts, drain_acts, gives}
+use Rattle.compute_blade.proofs.Callers.{step_acts, drain_acts, gives}
 use Rattle.rack_net.specs.Net.{NetView, links_of, ChangesOnly}
 use Rattle.coherence.specs.Facts.{IsCoherent}
 use Rattle.coherence.specs.Held.{held_by, in_force, no_holdings}

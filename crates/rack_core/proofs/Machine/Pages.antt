@@ -11,7 +11,7 @@ use Rattle.mind_base.specs.declared.images.Image.{Image}
 use Rattle.mind_base.specs.declared.notes.Note.{Note}
 use Rattle.page_cache.specs.PageCache.{IsPageCache, frame_of, same_page, lowered_frame, without_page, with_change}
 use Rattle.page_cache.specs.declared.frames.Frame.{Frame}
-use Rattle.page_cache.proofs.Laws.{same_page-true}
+use Rattle.page_cache.proofs.Callers.{same_page-true}
 use Rattle.page_image.specs.PageImage.{PageImageView}
 use Rattle.wire_msg.specs.declared.msgs.Msg.TheVariants.{Inv, Lower}
 use Rattle.wire_msg.specs.declared.msgs.Msg.{Msg}
@@ -19,7 +19,7 @@ use Rattle.compute_blade.specs.Blade.{HartView, BladeView, BladeEffect, hart_of,
 use Rattle.compute_blade.specs.Messages.{after_message, acknowledging}
 use Rattle.compute_blade.specs.Pages.{giving_up, given_up, lowering, lowered, each_in, held_in, writable_in}
 use Rattle.coherence.specs.Facts.{AreFrames, IsCoherent}
-use Rattle.coherence.proofs.Whole.{run_keeps}
+use Rattle.coherence.proofs.Callers.{run_keeps}
 use Rattle.tso_machine.specs.Replay.{labels, label_of, replay}
 use Rattle.tso_machine.specs.State.{Setup, State}
 use Rattle.rack_core.specs.Events.{Leads}

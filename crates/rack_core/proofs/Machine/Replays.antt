@@ -8,8 +8,7 @@ use Rattle.page_image.specs.PageImage.{PageImageView}
 use Rattle.coherence.specs.Facts.{AreFrames}
 use Rattle.tso_machine.specs.Replay.{Whole, advance_all, label_of, labels, replay}
 use Rattle.tso_machine.specs.State.{Setup, State}
-use Rattle.tso_machine.proofs.Runs.{advance_all-append}
-use Rattle.tso_machine.proofs.LawsRuns.{renumbered}
+use Rattle.tso_machine.proofs.Callers.{advance_all-append, renumbered}
 use Rattle.rack_core.specs.BladeMoves.{AreBladesSound}
 use Rattle.rack_core.specs.Rack.{RackView}
 use Rattle.rack_core.specs.Seen.{seen}

@@ -11,7 +11,7 @@ use Rattle.mind_base.specs.declared.plans.ThreadPlan.{ThreadPlan}
 use Rattle.mind_base.specs.Plan.{image_place}
 use Rattle.hart_effect.specs.Thread.{first_thread}
 use Rattle.page_image.specs.PageImage.{tag_at, zero_image}
-use Rattle.page_image.proofs.Laws.{IsPageImage-zero_image}
+use Rattle.page_image.proofs.Callers.{IsPageImage-zero_image}
 use Rattle.compute_blade.specs.Blade.{HartView, BladeView, hart_of}
 use Rattle.compute_blade.specs.Harts.{first_hart}
 use Rattle.compute_blade.specs.Start.{first_blade, hart_for}

@@ -8,7 +8,7 @@ use Rattle.mind_base.specs.Fit.{IsFit}
 use Rattle.mind_base.specs.Page.{PageView, page_of}
 use Rattle.mind_base.specs.Pending.{PendingView}
 use Rattle.page_cache.specs.PageCache.{same_page}
-use Rattle.page_cache.proofs.Laws.{same_page-true}
+use Rattle.page_cache.proofs.Callers.{same_page-true}
 use Rattle.page_image.specs.PageImage.{PageImageView, IsPageImage, image_after, tag_at}
 use Rattle.compute_blade.specs.Blade.{HartView, last_store}
 use Rattle.compute_blade.specs.Steps.{next_tag}

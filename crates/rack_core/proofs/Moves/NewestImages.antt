@@ -7,7 +7,7 @@ use Rattle.std.proofs.lemmas.List.Elements.{filter_map-append}
 use Rattle.std.proofs.lemmas.Option.{same_Some}
 use Rattle.mind_base.specs.Page.{PageView}
 use Rattle.mind_base.specs.declared.links.LinkKind.TheVariants.{Up, To}
-use Rattle.page_cache.proofs.Laws.{same_page-true}
+use Rattle.page_cache.proofs.Callers.{same_page-true}
 use Rattle.page_cache.specs.PageCache.{frame_of, same_page, is_writable}
 use Rattle.page_cache.specs.declared.frames.Frame.{Frame}
 use Rattle.page_image.specs.PageImage.{PageImageView, zero_image}
@@ -16,11 +16,11 @@ use Rattle.wire_msg.specs.declared.msgs.Msg.TheVariants.{Get, Fill, Deny, Back, 
 use Rattle.compute_blade.specs.Blade.{BladeView}
 use Rattle.rack_net.specs.Net.{NetView, empty_link, link_place}
 use Rattle.switch_core.specs.Switch.{place_in}
-use Rattle.switch_core.proofs.Lists.{all-append}
+use Rattle.switch_core.proofs.Callers.{all-append}
 use Rattle.coherence.specs.Counts.{bit, total, none_is, is_back}
 use Rattle.coherence.specs.Facts.{AreUps, IsCoherent, is_dirty, images_written}
 use Rattle.coherence.specs.World.{World, put}
-use Rattle.coherence.proofs.Lists.{total-none_is}
+use Rattle.coherence.proofs.Callers.{total-none_is}
 use Rattle.rack_core.specs.Newest.{writable_frame, sent_back, written_to, last_image, all_up, image_there, newest_image}
 use Rattle.rack_core.specs.Rack.{RackView}
 use Rattle.rack_core.specs.Safe.{IsSafe}

@@ -8,7 +8,7 @@ use Rattle.coherence.specs.Facts.{IsCoherent}
 use Rattle.coherence.specs.Moves.{Move, May, moved}
 use Rattle.coherence.specs.Runs.{Run}
 use Rattle.coherence.specs.World.{World}
-use Rattle.coherence.proofs.Whole.{run_keeps}
+use Rattle.coherence.proofs.Callers.{run_keeps}
 use Rattle.rack_net.specs.Net.{same_link}
 use Rattle.rack_core.specs.Seen.{sent_on}
 use Rattle.rack_core.specs.SwitchMoves.{LeadsByMoves}

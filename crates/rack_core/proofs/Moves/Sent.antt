@@ -6,7 +6,7 @@ use Rattle.mind_base.specs.declared.links.LinkKind.{LinkKind}
 use Rattle.mind_base.specs.declared.links.LinkName.{LinkName}
 use Rattle.wire_msg.specs.declared.msgs.Msg.{Msg}
 use Rattle.rack_net.specs.Net.{NetView, links_of, same_link, kind_number}
-use Rattle.rack_net.proofs.Naming.{same-or-not}
+use Rattle.rack_net.proofs.Callers.{same-or-not}
 use Rattle.rack_core.specs.Events.{SendsOn, SendsAll}
 use Rattle.rack_core.specs.Seen.{pending_on, sent_on}
 

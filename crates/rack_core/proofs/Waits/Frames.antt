@@ -15,8 +15,7 @@ use Rattle.page_cache.specs.PageCache.{CacheView, IsPageCache, same_page, frame_
 use Rattle.page_cache.specs.declared.frames.Frame.{Frame}
 use Rattle.page_cache.specs.declared.frames.Put.{Put}
 use Rattle.page_cache.specs.declared.frames.Put.TheVariants.{Fresh, Replaced, Pushed}
-use Rattle.page_cache.proofs.Laws.{same_page-true}
-use Rattle.page_cache.proofs.CallerLemmas.{same_page-is_equivalence, frame_of-without, frame_of-with_change, frame_of-with_first}
+use Rattle.page_cache.proofs.Callers.{same_page-true, same_page-is_equivalence, frame_of-without, frame_of-with_change, frame_of-with_first}
 use Rattle.compute_blade.specs.Blade.{HartView}
 use Rattle.compute_blade.specs.Harts.{holding}
 use Rattle.compute_blade.specs.Steps.{serves, writes_at_once, frames_with, frames_after, frames_after_deed, need_in, next_tag}

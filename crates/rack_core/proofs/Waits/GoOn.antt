@@ -16,7 +16,7 @@ use Rattle.hart_effect.specs.Deed.{Deed, found, acted, carried_out, drains_first
 use Rattle.hart_effect.specs.Thread.{Thread}
 use Rattle.hart_effect.specs.declared.finds.Found.{Found}
 use Rattle.hart_effect.specs.declared.finds.Found.TheVariants.{Outside, Unknown, Asks}
-use Rattle.page_cache.proofs.Laws.{same_page-refl}
+use Rattle.page_cache.proofs.Callers.{same_page-refl}
 use Rattle.page_cache.specs.PageCache.{entries_after_put, put_of}
 use Rattle.page_cache.specs.declared.frames.Frame.{Frame}
 use Rattle.page_image.specs.PageImage.{PageImageView}

@@ -14,13 +14,13 @@ use Rattle.mind_base.specs.Range.{RangeView, in_range}
 use Rattle.mind_base.specs.declared.links.LinkKind.TheVariants.{Up, Down, To, From}
 use Rattle.mind_base.specs.declared.links.LinkName.{LinkName}
 use Rattle.mind_base.specs.Permission.{allows}
-use Rattle.page_cache.proofs.Laws.{same_page-refl}
+use Rattle.page_cache.proofs.Callers.{same_page-refl}
 use Rattle.page_image.specs.PageImage.{PageImageView}
 use Rattle.invalidate_multicast.specs.Blades.{has_blade}
 use Rattle.invalidate_multicast.specs.Transition.{is_answered}
 use Rattle.region_directory.specs.declared.entries.Busy.{Busy}
 use Rattle.region_directory.specs.declared.entries.Entry.{Entry}
-use Rattle.region_directory.proofs.BlockLemmas.{range-test_passes}
+use Rattle.region_directory.proofs.Callers.{range-test_passes}
 use Rattle.request_list.specs.Requests.{AskOncePerPage, fetched_pages}
 use Rattle.request_list.specs.declared.requests.Request.{Request}
 use Rattle.compute_blade.specs.Blade.{BladeView, request_for}
@@ -30,7 +30,7 @@ use Rattle.wire_msg.specs.declared.msgs.Msg.{Msg}
 use Rattle.rack_net.specs.Net.{NetView, IsNet, links_of}
 use Rattle.switch_core.specs.Serving.{IsServed}
 use Rattle.switch_core.specs.Switch.{SwitchView}
-use Rattle.switch_core.proofs.Lists.{all-at}
+use Rattle.switch_core.proofs.Callers.{all-at}
 use Rattle.coherence.specs.Counts.{bit, total, is_ack, is_call, is_deny, is_fill, is_get, is_image, is_read}
 use Rattle.coherence.specs.Facts.{IsCoherent, is_fetching, numbered, transition}
 use Rattle.coherence.specs.World.{Wanted, World}

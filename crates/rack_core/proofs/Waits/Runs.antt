@@ -25,7 +25,7 @@ use Rattle.compute_blade.specs.Pages.{given_up}
 use Rattle.compute_blade.specs.Start.{first_blade, hart_for}
 use Rattle.compute_blade.specs.Steps.{after_step, blade_after_drain}
 use Rattle.coherence.specs.Facts.{IsCoherent}
-use Rattle.coherence.proofs.Whole.{run_keeps}
+use Rattle.coherence.proofs.Callers.{run_keeps}
 use Rattle.rack_core.specs.BladeMoves.{AreBladesSound, handing, hart_in}
 use Rattle.rack_core.specs.Events.{BladeActs, BladeDoes, Delivers, HandsAll, HandsTo, HartDoes, Leads}
 use Rattle.rack_core.specs.Rack.{RackView, with_net}

@@ -33,7 +33,7 @@ use Rattle.compute_blade.specs.declared.kept.Need.{Need}
 use Rattle.compute_blade.specs.declared.kept.Waits.{Waits}
 use Rattle.compute_blade.specs.declared.kept.Waits.TheVariants.{Step, Drain}
 use Rattle.coherence.specs.Held.{Holdings}
-use Rattle.coherence.proofs.TellingNotes.{writable_of}
+use Rattle.coherence.proofs.Callers.{writable_of}
 use Rattle.tso_machine.specs.State.{Setup, State}
 use Rattle.tso_machine.specs.Step.{after_exec, around_in, done_by, thread_off}
 use Rattle.rack_core.specs.Accesses.{AreAccessesHeld, DrainHolds, ExecHolds, IsPerformed, is_fault}

@@ -24,7 +24,7 @@ use Rattle.switch_core.specs.Switch.{place_in}
 use Rattle.coherence.specs.Facts.{IsCoherent}
 use Rattle.coherence.specs.Held.{Holdings, Entries as InForce, held_after, entries_after}
 use Rattle.coherence.specs.Lawful.{Matches}
-use Rattle.coherence.proofs.TellingNotes.{writable_of}
+use Rattle.coherence.proofs.Callers.{writable_of}
 use Rattle.tso_machine.specs.Replay.{labels}
 use Rattle.tso_machine.specs.State.{Setup, State}
 use Rattle.rack_core.specs.Accesses.{AreAccessesHeld}

@@ -9,7 +9,7 @@ use Rattle.tso_machine.specs.State.{Setup, State, start_state}
 use Rattle.tso_machine.specs.Step.{after}
 use Rattle.tso_machine.specs.declared.labels.Label.{Label}
 use Rattle.tso_machine.specs.declared.labels.Label.TheVariants as label
-use Rattle.tso_machine.proofs.LawsRuns.{enabled}
+use Rattle.tso_machine.proofs.Callers.{enabled}
 use Rattle.rack_core.specs.Accesses.{AreAccessesHeld, HoldsAt, state_after}
 
 -- ---- where the machine stands

@@ -19,9 +19,7 @@ use Rattle.compute_blade.specs.declared.kept.Answer.TheVariants.{Filled, Denied}
 use Rattle.compute_blade.specs.declared.kept.Asked.{Asked}
 use Rattle.coherence.specs.Facts.{AreDowns, IsCoherent, IsDown}
 use Rattle.coherence.specs.Held.{held_after}
-use Rattle.coherence.proofs.Keys.{put-here}
-use Rattle.coherence.proofs.Lists.{downs-cons}
-use Rattle.coherence.proofs.TellingNotes.{writable_of}
+use Rattle.coherence.proofs.Callers.{put-here, downs-cons, writable_of}
 use Rattle.tso_machine.specs.State.{Setup, State}
 use Rattle.rack_core.specs.Accesses.{AreAccessesHeld}
 use Rattle.rack_core.specs.BladeMoves.{handing}

@@ -11,7 +11,7 @@ use Rattle.hart_effect.specs.declared.accesses.AccessKind.{AccessKind}
 use Rattle.hart_effect.specs.declared.accesses.AccessKind.TheVariants.{Reads, WritesLater, WritesAtOnce}
 use Rattle.page_cache.specs.declared.frames.Frame.{Frame}
 use Rattle.coherence.specs.Held.{Holdings}
-use Rattle.coherence.proofs.TellingNotes.{writable_of}
+use Rattle.coherence.proofs.Callers.{writable_of}
 use Rattle.tso_machine.specs.Scheduled.{step_label}
 use Rattle.tso_machine.specs.State.{Setup, State}
 use Rattle.tso_machine.specs.declared.labels.Label.TheVariants as label

@@ -12,7 +12,7 @@ use Rattle.hart_core.specs.declared.outcome.Act.TheVariants as act
 use Rattle.hart_core.specs.declared.outcome.LockedKind.TheVariants as locked
 use Rattle.hart_effect.specs.declared.finds.Found.{Found}
 use Rattle.hart_effect.specs.declared.finds.Found.TheVariants.{Outside, Unknown, Asks}
-use Rattle.page_cache.proofs.Laws.{same_page-refl}
+use Rattle.page_cache.proofs.Callers.{same_page-refl}
 use Rattle.page_cache.specs.PageCache.{same_page, is_writable}
 use Rattle.page_cache.specs.declared.frames.Frame.{Frame}
 use Rattle.compute_blade.specs.Blade.{request_for}

@@ -26,9 +26,7 @@ use Rattle.compute_blade.specs.declared.kept.Answer.TheVariants.{Filled, Denied}
 use Rattle.coherence.specs.Held.{Holdings, Entries, held_after, entries_after}
 use Rattle.coherence.specs.Lawful.{IsLawful, AreLawful}
 use Rattle.coherence.specs.World.{put_both}
-use Rattle.coherence.proofs.Keys.{both-cases, put_both-other, at_number}
-use Rattle.coherence.proofs.Telling.{lawful_append}
-use Rattle.coherence.proofs.TellingNotes.{writable_of}
+use Rattle.coherence.proofs.Callers.{both-cases, put_both-other, at_number, lawful_append, writable_of}
 use Rattle.rack_core.proofs.Moves.Blade.Still.{IsLabel, IsStill, resumed-still}
 use Rattle.rack_core.proofs.Moves.Blade.Worlds.{at_blade}
 use Rattle.rack_core.proofs.Lists.Lookups.{Entries as Frames, found-without, found-with_change, found-put_fresh, found-put_replaced, found-put_pushed, cache-put, cache-with_change, cache-without}

@@ -16,8 +16,7 @@ use Rattle.mind_base.specs.declared.notes.Note.{Note}
 use Rattle.mind_base.specs.declared.plans.RackPlan.{RackPlan}
 use Rattle.mind_base.specs.declared.plans.ThreadPlan.{ThreadPlan}
 use Rattle.page_cache.specs.PageCache.{IsPageCache, same_page, frame_of}
-use Rattle.page_cache.proofs.CallerLemmas.{same_page-is_equivalence}
-use Rattle.page_cache.proofs.Laws.{same_page-true}
+use Rattle.page_cache.proofs.Callers.{same_page-is_equivalence, same_page-true}
 use Rattle.page_image.specs.PageImage.{PageImageView}
 use Rattle.wire_msg.specs.declared.msgs.Msg.{Msg}
 use Rattle.compute_blade.specs.Actions.{Action, GivesUp, Lowers, Takes, Asks, Wakes, Performs, Refuses, Drains, Acks, IsActions, after_action, after_actions}
@@ -25,16 +24,13 @@ use Rattle.compute_blade.specs.Blade.{BladeView, BladeEffect}
 use Rattle.compute_blade.specs.Messages.{MayComeToBlade, after_message}
 use Rattle.compute_blade.specs.Pages.{given_up}
 use Rattle.compute_blade.specs.Steps.{after_step, blade_after_drain}
-use Rattle.compute_blade.proofs.Acting.{step_acts, drain_acts, gives, message_acts}
+use Rattle.compute_blade.proofs.Callers.{step_acts, drain_acts, gives, message_acts}
 use Rattle.switch_core.specs.Switch.{SwitchView}
 use Rattle.coherence.specs.Facts.{IsCoherent}
 use Rattle.coherence.specs.Held.{Holdings, held_after}
 use Rattle.coherence.specs.Lawful.{IsLawful, IsWithin, Tells, frames_of, state_in}
 use Rattle.coherence.specs.World.{World}
-use Rattle.coherence.proofs.Keys.{at_number, put-here, put-other}
-use Rattle.coherence.proofs.Telling.{held_in, entries_in, lawful_when_coherent, tells-from}
-use Rattle.coherence.proofs.TellingNotes.{writable_of}
-use Rattle.coherence.proofs.Whole.{run_keeps}
+use Rattle.coherence.proofs.Callers.{at_number, put-here, put-other, held_in, entries_in, lawful_when_coherent, tells-from, writable_of, run_keeps}
 use Rattle.rack_core.specs.BladeMoves.{AreBladesSound, handing, with_seen_blade}
 use Rattle.rack_core.specs.Events.{BladeActs, BladeDoes, HartDoes, HandsTo, Leads}
 use Rattle.rack_core.specs.Frames.{HaveFrames}

@@ -21,8 +21,7 @@ use Rattle.region_directory.specs.Directory.{DirectoryView}
 use Rattle.coherence.specs.Facts.{IsCoherent}
 use Rattle.coherence.specs.Held.{held_after, entries_after, held_by, in_force, no_holdings, no_entries}
 use Rattle.coherence.specs.Lawful.{IsWithin, Matches, AreLawful, IsLawful, MayBeNoted}
-use Rattle.coherence.proofs.Telling.{lawful_at_point, lawful_in, lawful_when_coherent, lawful_append, tells-between}
-use Rattle.coherence.proofs.TellingNotes.{alike-same}
+use Rattle.coherence.proofs.Callers.{lawful_at_point, lawful_in, lawful_when_coherent, lawful_append, tells-between, alike-same}
 use Rattle.rack_core.specs.BladeMoves.{AreBladesSound}
 use Rattle.rack_core.specs.Events.{Leads}
 use Rattle.rack_core.specs.Rack.{RackView}

@@ -13,9 +13,7 @@ use Rattle.wire_msg.specs.declared.msgs.Msg.{Msg}
 use Rattle.switch_core.specs.Switch.{place_in}
 use Rattle.coherence.specs.Facts.{IsCoherent, AreUps}
 use Rattle.coherence.specs.Lawful.{Tells}
-use Rattle.coherence.proofs.Keys.{put-here}
-use Rattle.coherence.proofs.Telling.{IsAlike, alike-back, tells-between, tells_nothing, tells_then}
-use Rattle.coherence.proofs.TellingNotes.{alike-same}
+use Rattle.coherence.proofs.Callers.{put-here, IsAlike, alike-back, tells-between, tells_nothing, tells_then, alike-same}
 use Rattle.rack_core.specs.BladeMoves.{AreBladesSound}
 use Rattle.rack_core.specs.Events.{HandsTo, HandsAll, Delivers}
 use Rattle.rack_core.specs.Handing.{AskOn}

@@ -15,14 +15,12 @@ use Rattle.mind_base.proofs.SameRange.{same_range-true}
 use Rattle.region_directory.specs.Block.{is_before}
 use Rattle.region_directory.specs.Entry.{changed_at, fresh_entry, entry_place}
 use Rattle.region_directory.specs.declared.entries.Entry.{Entry}
-use Rattle.region_directory.proofs.ChangeLemmas.{length-changed}
+use Rattle.region_directory.proofs.Callers.{length-changed}
 use Rattle.switch_core.specs.Switch.{SwitchView, SwitchEffect}
 use Rattle.switch_core.specs.Treating.{dropped, entered, noted_change, same_state}
 use Rattle.coherence.specs.Lawful.{Tells, first_page, state_in}
 use Rattle.coherence.specs.World.{World, put_range}
-use Rattle.coherence.proofs.Changes.{by-test}
-use Rattle.coherence.proofs.Telling.{first_page-in, state-found, tells_nothing}
-use Rattle.coherence.proofs.TellingNotes.{AreOfBlock, alike-same, entries-put, gone_told, region_told}
+use Rattle.coherence.proofs.Callers.{by-test, first_page-in, state-found, tells_nothing, AreOfBlock, alike-same, entries-put, gone_told, region_told}
 use Rattle.rack_core.specs.Seen.{region_of, region_at}
 use Rattle.rack_core.specs.SwitchMoves.{shown, HasSlots, AreEntriesApart}
 use Rattle.rack_core.proofs.Log.Held.SwitchNotes.{IsTold, within_slots}

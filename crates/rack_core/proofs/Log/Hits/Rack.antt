@@ -14,7 +14,7 @@ use Rattle.mind_base.specs.declared.notes.Note.TheVariants as note
 use Rattle.mind_base.specs.declared.plans.RackPlan.{RackPlan}
 use Rattle.mind_base.specs.declared.plans.ThreadPlan.{ThreadPlan}
 use Rattle.page_image.specs.PageImage.{PageImageView}
-use Rattle.protect_table.proofs.Counting.{sum_below-none, sum_below-same}
+use Rattle.protect_table.proofs.Callers.{sum_below-none, sum_below-same}
 use Rattle.region_directory.specs.Directory.{DirectoryView}
 use Rattle.wire_msg.specs.declared.msgs.Msg.{Msg}
 use Rattle.compute_blade.specs.Blade.{BladeView, BladeEffect}

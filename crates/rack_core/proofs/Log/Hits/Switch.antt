@@ -23,7 +23,7 @@ use Rattle.wire_msg.specs.declared.msgs.Msg.TheVariants.{Inv, Ack}
 use Rattle.switch_core.specs.Handling.{ended, from_blade, writing, Receives}
 use Rattle.switch_core.specs.Switch.{SwitchView, SwitchEffect, only, place_in}
 use Rattle.switch_core.specs.Treating.{with_transition, denied_request, granted, granted_state, holders, invalidations, lowered, invalidated, reading, entered, cleared}
-use Rattle.switch_core.proofs.EachEnding.{answered-is}
+use Rattle.switch_core.proofs.Callers.{answered-is}
 use Rattle.rack_core.specs.Released.{count_in, hits_of}
 use Rattle.rack_core.specs.Seen.{sent_on}
 use Rattle.rack_core.proofs.Moves.Switch.Serving.{IsKept, IsHeard, handled-heard, receives-kept}

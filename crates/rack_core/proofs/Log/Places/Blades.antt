@@ -9,7 +9,7 @@ use Rattle.compute_blade.specs.Blade.{BladeView, BladeEffect, hart_of}
 use Rattle.rack_core.specs.Noted.{IsOfBlade}
 use Rattle.rack_core.proofs.Machine.Counts.{HartsStay, action-stays}
 use Rattle.rack_core.proofs.Lists.Parts.{some-is}
-use Rattle.switch_core.proofs.Lists.{all-append}
+use Rattle.switch_core.proofs.Callers.{all-append}
 
 -- the hart is one of the blade's
 abbrev pub HasHart : BladeView → ℕ → Type 0

@@ -22,14 +22,14 @@ use Rattle.page_cache.specs.declared.frames.Frame.{Frame}
 use Rattle.page_image.specs.PageImage.{PageImageView}
 use Rattle.rack_net.specs.Net.{links_of, spelled}
 use Rattle.switch_core.specs.Switch.{place_in}
-use Rattle.switch_core.proofs.Lists.{all-append}
+use Rattle.switch_core.proofs.Callers.{all-append}
 use Rattle.wire_msg.specs.Spelling.{spelling}
 use Rattle.wire_msg.specs.declared.msgs.Msg.{Msg}
 use Rattle.compute_blade.specs.Blade.{HartView, BladeView, BladeEffect, hart_of}
 use Rattle.compute_blade.specs.Messages.{after_message}
 use Rattle.compute_blade.specs.Pages.{giving_up, given_up}
 use Rattle.compute_blade.specs.Steps.{after_step, blade_after_drain}
-use Rattle.compute_blade.proofs.Acting.{message_acts}
+use Rattle.compute_blade.proofs.Callers.{message_acts}
 use Rattle.coherence.specs.Facts.{IsCoherent}
 use Rattle.rack_core.specs.Events.{HartDoes, HandsTo, HandsAll, Leads}
 use Rattle.rack_core.specs.Handing.{AskOn}

@@ -13,7 +13,7 @@ use Rattle.wire_msg.specs.declared.msgs.Msg.{Msg}
 use Rattle.switch_core.specs.Handling.{ack_heard, noted_at, Receives}
 use Rattle.switch_core.specs.Switch.{SwitchView, SwitchEffect}
 use Rattle.switch_core.specs.Treating.{granted_state, noted_change, same_state}
-use Rattle.switch_core.proofs.Lists.{all-append}
+use Rattle.switch_core.proofs.Callers.{all-append}
 use Rattle.rack_core.specs.Noted.{IsOfSwitch}
 use Rattle.rack_core.proofs.Moves.Switch.Serving.{IsKept, IsHeard, ends-kept, handled-heard, receives-kept}
 

@@ -14,7 +14,7 @@ use Rattle.compute_blade.specs.Pages.{back_of}
 use Rattle.compute_blade.specs.declared.kept.Asked.{Asked}
 use Rattle.coherence.specs.Moves.{Asks, Stores, GivesUp, Lowers, TakesFill, TakesDeny, AnswersInv, AnswersLower, answers, took}
 use Rattle.coherence.specs.World.{World, put, put_page, put_both}
-use Rattle.coherence.proofs.Keys.{put-here, put-other, put_both-other}
+use Rattle.coherence.proofs.Callers.{put-here, put-other, put_both-other}
 use Rattle.rack_core.specs.BladeMoves.{asked_in, with_seen_blade, HasBlade, LeadsTo}
 use Rattle.rack_core.proofs.Moves.Blade.Worlds.{seen_as, one_move, at_blade}
 use Rattle.rack_core.proofs.Lists.Lookups.{Entries, found-without, found-with_change, unasked, request-more, request-answered}

@@ -16,9 +16,7 @@ use Rattle.compute_blade.specs.Pages.{sent_out}
 use Rattle.compute_blade.specs.declared.kept.Asked.{Asked}
 use Rattle.coherence.specs.Facts.{AreDowns, AreFrames, IsCoherent}
 use Rattle.coherence.specs.Moves.{took}
-use Rattle.coherence.proofs.Keys.{put-here}
-use Rattle.coherence.proofs.Lists.{downs-cons}
-use Rattle.coherence.proofs.Whole.{run_keeps}
+use Rattle.coherence.proofs.Callers.{put-here, downs-cons, run_keeps}
 use Rattle.rack_core.specs.BladeMoves.{with_seen_blade, HasBlade, IsRequest, IsSoundBlade, handing}
 use Rattle.rack_core.specs.Rack.{RackView}
 use Rattle.rack_core.specs.Seen.{pending_on, seen}

@@ -11,7 +11,7 @@ use Rattle.mind_base.specs.declared.commands.Perm.{Perm}
 use Rattle.mind_base.specs.declared.images.Image.{Image}
 use Rattle.page_cache.specs.PageCache.{IsPageCache, same_page, frame_of, without_page, with_change, lowered_frame, newest_first, oldest_first, stands_in, stands_writable_in, is_writable}
 use Rattle.page_cache.specs.declared.frames.Frame.{Frame}
-use Rattle.page_cache.proofs.Laws.{same_page-true}
+use Rattle.page_cache.proofs.Callers.{same_page-true}
 use Rattle.wire_msg.specs.declared.msgs.Msg.{Msg}
 use Rattle.wire_msg.specs.declared.msgs.Msg.TheVariants.{Inv, Lower}
 use Rattle.compute_blade.specs.Blade.{BladeView, BladeEffect, with_frames, and_then, only}

@@ -16,7 +16,7 @@ use Rattle.rack_net.specs.Net.{NetView, links_of, same_link, ChangesOnly}
 use Rattle.coherence.specs.Facts.{IsCoherent}
 use Rattle.coherence.specs.Runs.{Run}
 use Rattle.coherence.specs.World.{World, put}
-use Rattle.coherence.proofs.Whole.{run_keeps}
+use Rattle.coherence.proofs.Callers.{run_keeps}
 use Rattle.rack_core.specs.BladeMoves.{handing, AreBladesSound, BladesLead}
 use Rattle.rack_core.specs.Events.{Hands, HandsAll, Leads}
 use Rattle.rack_core.specs.Rack.{RackView, with_net}

@@ -15,7 +15,7 @@ use Rattle.page_cache.specs.PageCache.{IsPageCache, same_page, frame_of, without
 use Rattle.page_cache.specs.declared.frames.Frame.{Frame}
 use Rattle.page_cache.specs.declared.frames.Put.{Put}
 use Rattle.page_cache.specs.declared.frames.Put.TheVariants.{Fresh, Replaced, Pushed}
-use Rattle.page_cache.proofs.Laws.{same_page-refl, same_page-true}
+use Rattle.page_cache.proofs.Callers.{same_page-refl, same_page-true}
 use Rattle.page_image.specs.PageImage.{PageImageView}
 use Rattle.wire_msg.specs.declared.msgs.Msg.{Msg}
 use Rattle.wire_msg.specs.declared.msgs.Msg.TheVariants.{Fill, Deny}
@@ -36,8 +36,7 @@ use Rattle.coherence.specs.Counts.{bit, total, is_deny}
 use Rattle.coherence.specs.Facts.{IsCoherent, AreDowns}
 use Rattle.coherence.specs.Moves.{took}
 use Rattle.coherence.specs.World.{World}
-use Rattle.coherence.proofs.Whole.{run_keeps}
-use Rattle.coherence.proofs.Lists.{downs-cons, total-cons}
+use Rattle.coherence.proofs.Callers.{run_keeps, downs-cons, total-cons}
 use Rattle.rack_core.specs.BladeMoves.{asked_in, with_seen_blade, HasBlade, LeadsTo, IsRequestBy, IsRequest, IsSoundBlade, DoesMoves, MayWriteAll}
 use Rattle.rack_core.proofs.Moves.Blade.Worlds.{has_blade, stays, leads_on, leads_taking}
 use Rattle.rack_core.proofs.Moves.Blade.Acts.{gives, takes, denied}

@@ -23,9 +23,7 @@ use Rattle.coherence.specs.Facts.{IsCoherent, IsDown, AreDowns}
 use Rattle.coherence.specs.Moves.{took}
 use Rattle.coherence.specs.Runs.{Run}
 use Rattle.coherence.specs.World.{World}
-use Rattle.coherence.proofs.Whole.{run_keeps}
-use Rattle.coherence.proofs.Keys.{put-here}
-use Rattle.coherence.proofs.Lists.{downs-cons}
+use Rattle.coherence.proofs.Callers.{run_keeps, put-here, downs-cons}
 use Rattle.rack_core.specs.BladeMoves.{with_seen_blade, HasBlade, IsSoundBlade, DoesMoves, handing, AreBladesSound, BladeLeads, image_or}
 use Rattle.rack_core.specs.Events.{BladeActs, Acts, ActsWith, BladeDoes, HartDoes, HandsTo, Leads}
 use Rattle.rack_core.specs.Rack.{RackView, with_blade_at, with_net}

@@ -14,7 +14,7 @@ use Rattle.compute_blade.specs.declared.kept.Waits.{Waits}
 use Rattle.compute_blade.specs.declared.kept.Waits.TheVariants.{Step, Drain}
 use Rattle.coherence.specs.Facts.{IsCoherent, IsDown, AreDowns}
 use Rattle.coherence.specs.World.{World}
-use Rattle.coherence.proofs.Lists.{downs-cons}
+use Rattle.coherence.proofs.Callers.{downs-cons}
 use Rattle.rack_core.specs.BladeMoves.{HasBlade, IsRequest, IsRequestBy, IsSoundBlade, MayWriteAll}
 use Rattle.rack_core.proofs.Moves.Blade.Fills.{asked_for, denied-asked}
 use Rattle.rack_core.proofs.Moves.Blade.Sound.{of_found}

@@ -9,7 +9,7 @@ use Rattle.mind_base.specs.Pending.{PendingView}
 use Rattle.mind_base.specs.declared.commands.Perm.{Perm}
 use Rattle.mind_base.specs.declared.plans.ThreadPlan.{ThreadPlan}
 use Rattle.page_cache.specs.PageCache.{same_page}
-use Rattle.page_cache.proofs.Laws.{same_page-true}
+use Rattle.page_cache.proofs.Callers.{same_page-true}
 use Rattle.compute_blade.specs.Blade.{HartView, request_for, requests_without}
 use Rattle.compute_blade.specs.Messages.{awake}
 use Rattle.compute_blade.specs.declared.kept.Asked.{Asked}

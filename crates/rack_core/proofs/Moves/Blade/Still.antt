@@ -16,8 +16,7 @@ use Rattle.hart_effect.specs.Deed.{Deed, Alone, Storing, carried_out, drains_fir
 use Rattle.hart_effect.specs.declared.finds.Found.{Found}
 use Rattle.page_cache.specs.PageCache.{same_page, frame_of, with_first, is_writable}
 use Rattle.page_cache.specs.declared.frames.Frame.{Frame}
-use Rattle.page_cache.proofs.CallerLemmas.{frame_of-with_first}
-use Rattle.page_cache.proofs.Laws.{same_page-true}
+use Rattle.page_cache.proofs.Callers.{frame_of-with_first, same_page-true}
 use Rattle.compute_blade.specs.Actions.{Asks, after_action}
 use Rattle.compute_blade.specs.Blade.{HartView, BladeView, BladeEffect, hart_of, is_asked, only}
 use Rattle.compute_blade.specs.Denials.{denial_in, refused_by}
@@ -31,8 +30,8 @@ use Rattle.compute_blade.specs.declared.kept.Denial.{Denial}
 use Rattle.compute_blade.specs.declared.kept.Need.{Need}
 use Rattle.compute_blade.specs.declared.kept.Waits.{Waits}
 use Rattle.compute_blade.specs.declared.kept.Waits.TheVariants.{Step, Drain}
-use Rattle.compute_blade.proofs.Resuming.{woken}
-use Rattle.coherence.proofs.TellingNotes.{writable_of}
+use Rattle.compute_blade.proofs.Callers.{woken}
+use Rattle.coherence.proofs.Callers.{writable_of}
 use Rattle.rack_core.proofs.Lists.Lookups.{Entries}
 use Rattle.rack_core.proofs.Moves.Blade.Resuming.{resumes-as}
 

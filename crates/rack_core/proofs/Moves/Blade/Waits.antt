@@ -5,8 +5,7 @@ use Rattle.std.proofs.lemmas.Bool.{eqb-true, eq-eqb, false≢true}
 use Rattle.std.proofs.lemmas.Option.{same_Some}
 use Rattle.mind_base.specs.Page.{PageView}
 use Rattle.page_cache.specs.PageCache.{same_page}
-use Rattle.page_cache.proofs.CallerLemmas.{same_page-is_equivalence}
-use Rattle.page_cache.proofs.Laws.{same_page-true}
+use Rattle.page_cache.proofs.Callers.{same_page-is_equivalence, same_page-true}
 use Rattle.compute_blade.specs.Blade.{HartView, request_for, requests_without}
 use Rattle.compute_blade.specs.Messages.{awake}
 use Rattle.compute_blade.specs.Steps.{waiting}

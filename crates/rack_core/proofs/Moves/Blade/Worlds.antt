@@ -11,7 +11,7 @@ use Rattle.compute_blade.specs.Blade.{BladeView}
 use Rattle.coherence.specs.Moves.{Move, May, moved, took}
 use Rattle.coherence.specs.Runs.{Run}
 use Rattle.coherence.specs.World.{World, put, put_both}
-use Rattle.coherence.proofs.Keys.{put-here}
+use Rattle.coherence.proofs.Callers.{put-here}
 use Rattle.rack_core.specs.BladeMoves.{asked_in, with_seen_blade, HasBlade, LeadsTo}
 
 -- ---- functions with one value changed

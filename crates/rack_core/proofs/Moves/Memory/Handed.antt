@@ -12,7 +12,7 @@ use Rattle.wire_msg.specs.declared.msgs.Msg.{Msg}
 use Rattle.wire_msg.specs.declared.msgs.Msg.TheVariants.{Read, Write}
 use Rattle.switch_core.specs.Switch.{place_in}
 use Rattle.memory_blade.specs.MemoryBlade.{IsFor, image_at, images_after, answer_to}
-use Rattle.coherence.proofs.Keys.{put-here}
+use Rattle.coherence.proofs.Callers.{put-here}
 use Rattle.coherence.specs.Facts.{IsCoherent}
 use Rattle.coherence.specs.World.{put}
 use Rattle.rack_core.specs.Events.{MemoryHears, answer_to_switch}

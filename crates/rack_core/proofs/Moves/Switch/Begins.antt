@@ -11,7 +11,7 @@ use Rattle.mind_base.specs.declared.links.LinkName.{LinkName}
 use Rattle.mind_base.specs.declared.notes.State.{State}
 use Rattle.mind_base.specs.declared.notes.State.TheVariants.{I, S, M}
 use Rattle.invalidate_multicast.specs.Blades.{has_blade, without_blade, casts_of}
-use Rattle.invalidate_multicast.proofs.BladeLemmas.{without-other}
+use Rattle.invalidate_multicast.proofs.Callers.{without-other}
 use Rattle.region_directory.specs.Entry.{with_busy}
 use Rattle.region_directory.specs.declared.entries.Busy.{Busy}
 use Rattle.region_directory.specs.declared.entries.Entry.{Entry}
@@ -21,7 +21,7 @@ use Rattle.wire_msg.specs.declared.msgs.Msg.TheVariants.{Inv, Lower}
 use Rattle.switch_core.specs.Invariant.{IsFitState, IsFitEntry}
 use Rattle.switch_core.specs.Switch.{SwitchView, to_blade}
 use Rattle.switch_core.specs.Treating.{with_transition, cleared, invalidated, lowered, invalidations, left_to, holders, grants, is_fetched}
-use Rattle.switch_core.proofs.Lists.{all-at}
+use Rattle.switch_core.proofs.Callers.{all-at}
 use Rattle.coherence.specs.Facts.{names, owns, is_fetching}
 use Rattle.coherence.specs.Moves.{Begins, IsCallOf, call_to}
 use Rattle.coherence.specs.World.{World}

@@ -16,8 +16,7 @@ use Rattle.coherence.specs.Held.{Entries}
 use Rattle.coherence.specs.Lawful.{IsWithin, Tells, first_page, state_in}
 use Rattle.coherence.specs.Moves as moves
 use Rattle.coherence.specs.World.{Region, World}
-use Rattle.coherence.proofs.Telling.{first_page-in, state-found}
-use Rattle.coherence.proofs.TellingEnds.{SetsTo, IsAmongSet, sets_told}
+use Rattle.coherence.proofs.Callers.{first_page-in, state-found, SetsTo, IsAmongSet, sets_told}
 use Rattle.rack_core.specs.Seen.{region_of, region_at}
 use Rattle.rack_core.specs.SwitchMoves.{AreEntriesApart}
 use Rattle.rack_core.proofs.Moves.Switch.Lookups.{apart-map, first_region, first-got, first-map, region_at-first}

@@ -12,11 +12,11 @@ use Rattle.mind_base.specs.declared.notes.State.TheVariants.{I}
 use Rattle.region_directory.specs.Block.{AreBlocksApart, is_before, are_apart, block_of}
 use Rattle.region_directory.specs.Entry.{entry_place, fresh_entry, largest_free}
 use Rattle.region_directory.specs.declared.entries.Entry.{Entry}
-use Rattle.region_directory.proofs.BlockLemmas.{apart-from_test, one-page, test-from_has, block_of-InRange}
+use Rattle.region_directory.proofs.Callers.{apart-from_test, one-page, test-from_has, block_of-InRange}
 use Rattle.switch_core.specs.Invariant.{IsFitEntry}
 use Rattle.switch_core.specs.Switch.{SwitchView}
 use Rattle.switch_core.specs.Treating.{entry_for, entered, dropped, new_range}
-use Rattle.switch_core.proofs.Lists.{all-insert, all-remove, insert-at}
+use Rattle.switch_core.proofs.Callers.{all-insert, all-remove, insert-at}
 use Rattle.coherence.specs.Moves.{Enters, Drops, droppable_region}
 use Rattle.coherence.specs.World.{World, put_range}
 use Rattle.rack_core.specs.Seen.{region_of, region_at}

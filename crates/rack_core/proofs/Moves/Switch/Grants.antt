@@ -7,18 +7,18 @@ use Rattle.mind_base.specs.declared.links.LinkKind.TheVariants.{Down, To}
 use Rattle.mind_base.specs.declared.notes.State.{State}
 use Rattle.mind_base.specs.declared.notes.State.TheVariants.{I, S, M}
 use Rattle.invalidate_multicast.specs.Blades.{has_blade, without_blade}
-use Rattle.invalidate_multicast.proofs.BladeLemmas.{without-other}
+use Rattle.invalidate_multicast.proofs.Callers.{without-other}
 use Rattle.mind_base.specs.Range.{in_range}
 use Rattle.region_directory.specs.Entry.{in_state}
 use Rattle.region_directory.specs.declared.entries.Entry.{Entry}
 use Rattle.request_list.specs.Requests.{fetching_at}
 use Rattle.request_list.specs.declared.requests.Request.{Request}
-use Rattle.request_list.proofs.RequestFacts.{apart-fetching_at}
+use Rattle.request_list.proofs.Callers.{apart-fetching_at}
 use Rattle.wire_msg.specs.declared.msgs.Msg.TheVariants.{Read}
 use Rattle.switch_core.specs.Invariant.{IsFitState, IsFitEntry}
 use Rattle.switch_core.specs.Switch.{SwitchView, place_in}
 use Rattle.switch_core.specs.Treating.{is_denied, granted, grants, granted_state, reading}
-use Rattle.switch_core.proofs.Lists.{all-at}
+use Rattle.switch_core.proofs.Callers.{all-at}
 use Rattle.coherence.specs.Facts.{IsCoherent}
 use Rattle.coherence.specs.Moves.{GrantsIt, Grants}
 use Rattle.coherence.specs.World.{World, put}

@@ -13,8 +13,8 @@ use Rattle.wire_msg.specs.declared.msgs.Msg.{Msg}
 use Rattle.wire_msg.specs.declared.msgs.Msg.TheVariants.{Back}
 use Rattle.rack_net.specs.Net.{NetView}
 use Rattle.switch_core.specs.Switch.{SwitchView, SwitchEffect, place_in}
-use Rattle.switch_core.proofs.Lists.{all-append}
-use Rattle.coherence.proofs.Keys.{put-here}
+use Rattle.switch_core.proofs.Callers.{all-append}
+use Rattle.coherence.proofs.Callers.{put-here}
 use Rattle.coherence.specs.Facts.{IsCoherent, AreFroms}
 use Rattle.coherence.specs.Lawful.{Tells}
 use Rattle.coherence.specs.World.{World, put}

@@ -10,7 +10,7 @@ use Rattle.mind_base.specs.Page.{PageView}
 use Rattle.mind_base.specs.declared.links.LinkKind.{LinkKind}
 use Rattle.mind_base.specs.declared.links.LinkKind.TheVariants.{Up, Down, To, From}
 use Rattle.mind_base.specs.declared.links.LinkName.{LinkName}
-use Rattle.page_cache.proofs.Laws.{same_page-refl}
+use Rattle.page_cache.proofs.Callers.{same_page-refl}
 use Rattle.page_image.specs.PageImage.{PageImageView}
 use Rattle.protect_table.specs.Protect.{permission_at}
 use Rattle.invalidate_multicast.specs.First.{first_changed}
@@ -24,20 +24,20 @@ use Rattle.region_directory.specs.declared.entries.Busy.{Busy}
 use Rattle.region_directory.specs.declared.entries.Entry.{Entry}
 use Rattle.request_list.specs.Requests.{is_of}
 use Rattle.request_list.specs.declared.requests.Request.{Request}
-use Rattle.request_list.proofs.RequestFacts.{apart-push}
+use Rattle.request_list.proofs.Callers.{apart-push}
 use Rattle.wire_msg.specs.declared.msgs.Msg.{Msg}
 use Rattle.wire_msg.specs.declared.msgs.Msg.TheVariants.{Get, Fill, Back, Ack, Image, Write}
 use Rattle.switch_core.specs.Handling.{all_ended, request_noted, filling, filled, writing, went_back, ended, answered, from_blade, from_memory, handled_from, Receives}
 use Rattle.switch_core.specs.Invariant.{IsFitState, IsFitTarget, IsFitEntry}
 use Rattle.switch_core.specs.Switch.{SwitchView, SwitchEffect, place_in}
 use Rattle.switch_core.specs.Treating.{without_request}
-use Rattle.switch_core.proofs.EachEnding.{answered-is}
+use Rattle.switch_core.proofs.Callers.{answered-is}
 use Rattle.coherence.specs.Facts.{IsCoherent, AreAnswered, AreUps, AreFroms, is_fetching}
 use Rattle.coherence.specs.Moves as moves
 use Rattle.coherence.specs.Moves.{HearsGet, HearsBack, HearsAck, HearsImage, heard, region_answered}
 use Rattle.coherence.specs.Lawful.{Tells, first_page, state_in}
 use Rattle.coherence.specs.World.{Region, World, put, put_both}
-use Rattle.coherence.proofs.Telling.{tells_then}
+use Rattle.coherence.proofs.Callers.{tells_then}
 use Rattle.rack_core.specs.Seen.{sent_on, region_of, region_at, wanted_at}
 use Rattle.rack_core.specs.SwitchMoves.{shown, Shows, HasPlaces, IsSoundSwitch, SendsNoneUp, AsksAt, AskPlaces, LeadsByMoves, AreEntriesApart, HasSlots, LiesWhere, IsFirstOn, taken_from}
 use Rattle.rack_core.proofs.Moves.Switch.Lookups.{apart-map, first_region, region_at-first, first-map}

@@ -12,8 +12,7 @@ use Rattle.mind_base.specs.declared.commands.Perm.TheVariants.{No}
 use Rattle.mind_base.specs.declared.plans.MapPlan.{MapPlan}
 use Rattle.mind_base.specs.declared.plans.MemoryPlan.{MemoryPlan}
 use Rattle.range_translate.specs.Place.{pages_of}
-use Rattle.range_translate.proofs.Apart.{pages_of-cons}
-use Rattle.range_translate.proofs.HomeSteps.{in_span-has, shifted, home_step_value}
+use Rattle.range_translate.proofs.Callers.{pages_of-cons, in_span-has, shifted, home_step_value}
 
 -- ---- among the runs of one memory blade
 

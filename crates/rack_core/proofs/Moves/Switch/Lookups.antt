@@ -9,9 +9,9 @@ use Rattle.mind_base.specs.Range.{RangeView, in_range}
 use Rattle.region_directory.specs.Block.{AreBlocksApart}
 use Rattle.region_directory.specs.Entry.{changed_at}
 use Rattle.region_directory.specs.declared.entries.Entry.{Entry}
-use Rattle.region_directory.proofs.BlockLemmas.{has-from_test}
+use Rattle.region_directory.proofs.Callers.{has-from_test}
 use Rattle.switch_core.specs.Treating.{entry_for}
-use Rattle.switch_core.proofs.Lists.{all-at, all-insert, all-remove}
+use Rattle.switch_core.proofs.Callers.{all-at, all-insert, all-remove}
 use Rattle.coherence.specs.World.{Region, put_range}
 use Rattle.rack_core.specs.Seen.{region_of, region_at}
 use Rattle.rack_core.specs.SwitchMoves.{AreEntriesApart}

@@ -7,11 +7,11 @@ use Rattle.std.proofs.lemmas.Bool.{eqb-true, eq-eqb, and_parts, and_from, falseâ
 use Rattle.mind_base.specs.Page.{PageView}
 use Rattle.mind_base.specs.Range.{RangeView, in_range}
 use Rattle.page_cache.specs.PageCache.{same_page}
-use Rattle.page_cache.proofs.Laws.{same_page-true, same_page-refl}
+use Rattle.page_cache.proofs.Callers.{same_page-true, same_page-refl}
 use Rattle.request_list.specs.Requests.{AskOncePerPage, is_of, fetching_at}
 use Rattle.request_list.specs.declared.requests.Request.{Request}
 use Rattle.switch_core.specs.Treating.{is_fetched, without_request}
-use Rattle.switch_core.proofs.Lists.{all-at}
+use Rattle.switch_core.proofs.Callers.{all-at}
 use Rattle.coherence.specs.Facts.{is_fetching}
 use Rattle.coherence.specs.World.{Wanted, put_both}
 use Rattle.rack_core.specs.Seen.{wanted_at}

@@ -13,7 +13,7 @@ use Rattle.mind_base.specs.declared.links.LinkKind.TheVariants.{Down, To}
 use Rattle.wire_msg.specs.declared.msgs.Msg.{Msg}
 use Rattle.invalidate_multicast.specs.Blades.{has_blade, with_blade, cast_to, casts_of}
 use Rattle.invalidate_multicast.specs.declared.casts.Cast.{Cast}
-use Rattle.invalidate_multicast.proofs.BladeLemmas.{has-blade_above}
+use Rattle.invalidate_multicast.proofs.Callers.{has-blade_above}
 use Rattle.mind_base.specs.declared.links.LinkName.{LinkName}
 use Rattle.switch_core.specs.Switch.{to_blade}
 use Rattle.rack_core.specs.Seen.{sent_on}

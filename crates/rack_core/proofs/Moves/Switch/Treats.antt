@@ -18,7 +18,7 @@ use Rattle.request_list.specs.Requests.{fetched_pages}
 use Rattle.request_list.specs.declared.requests.Request.{Request}
 use Rattle.switch_core.specs.Switch.{SwitchView}
 use Rattle.switch_core.specs.Treating.{Pass, waits, blocks, does, grants, is_denied, denied_request, granted, changed_for, invalidated, lowered, cleared, is_fetched, with_idle, with_entry, at_entry, entered, new_range, enters, dropped, with_room, without_entry, entry_for, for_entry, treated}
-use Rattle.switch_core.proofs.Lists.{all-at, all-remove}
+use Rattle.switch_core.proofs.Callers.{all-at, all-remove}
 use Rattle.coherence.specs.World.{World}
 use Rattle.rack_core.specs.SwitchMoves.{shown, Shows, IsSoundSwitch}
 use Rattle.rack_core.proofs.Moves.Switch.Begins.{clears, invalidates, lowers}

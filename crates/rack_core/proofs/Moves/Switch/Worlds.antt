@@ -17,17 +17,16 @@ use Rattle.region_directory.specs.Entry.{changed_at}
 use Rattle.region_directory.specs.declared.entries.Entry.{Entry}
 use Rattle.request_list.specs.Requests.{AskOncePerPage, fetching_at, is_of}
 use Rattle.request_list.specs.declared.requests.Request.{Request}
-use Rattle.request_list.proofs.RequestFacts.{apart-filter}
+use Rattle.request_list.proofs.Callers.{apart-filter}
 use Rattle.wire_msg.specs.declared.msgs.Msg.{Msg}
 use Rattle.switch_core.specs.Switch.{SwitchView, SwitchEffect, and_then, only, to_memory, with_entries, with_requests}
 use Rattle.switch_core.specs.Treating.{without_request}
-use Rattle.switch_core.proofs.Lists.{all-append, all-filter}
+use Rattle.switch_core.proofs.Callers.{all-append, all-filter}
 use Rattle.switch_core.specs.Invariant.{IsFitEntry}
 use Rattle.coherence.specs.Facts.{IsCoherent}
 use Rattle.coherence.specs.Lawful.{Tells}
 use Rattle.coherence.specs.World.{Region, Wanted, World, put, put_both, put_range}
-use Rattle.coherence.proofs.Telling.{tells_nothing, tells_then}
-use Rattle.coherence.proofs.TellingNotes.{alike-same}
+use Rattle.coherence.proofs.Callers.{tells_nothing, tells_then, alike-same}
 use Rattle.rack_core.specs.Seen.{sent_on, region_of, region_at, wanted_at}
 use Rattle.rack_core.specs.SwitchMoves.{shown, Shows, HasPlaces, IsSoundSwitch, SendsNoneUp, AsksAt, AskPlaces, LeadsByMoves, AreEntriesApart, HasSlots}
 use Rattle.rack_core.proofs.Log.Held.SwitchNotes.{HoldsWithin, IsTold}

@@ -1,5 +1,5 @@
 use Rattle.std.proofs.Common.{sym, ◌∙◌}
-use Rattle.coherence.proofs.BladeMoves.{single_writer}
+use Rattle.coherence.proofs.Callers.{single_writer}
 use Rattle.rack_core.specs.Seen.{seen}
 use Rattle.rack_core.proofs.Events.Starting.{starts}
 use Rattle.rack_core.proofs.Events.Whole.{run_keeps-all}
