@@ -1,2 +1,2 @@
 -- What the proofs of other crates may cite.
-unfoldable pub use Rattle.journal_text.proofs.Judgements.{one}
+pub use Rattle.journal_text.proofs.Judgements.{one}

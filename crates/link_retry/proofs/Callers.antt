@@ -1,2 +1,2 @@
 -- What the proofs of other crates may cite.
-unfoldable pub use Rattle.link_retry.proofs.InOrder.{deliver_keeps}
+pub use Rattle.link_retry.proofs.InOrder.{deliver_keeps}

@@ -1,2 +1,2 @@
 -- What the proofs of other crates may cite.
-unfoldable pub use Rattle.mind_steps.proofs.Fronts.{stands-empty, stands-event, stands-whole}
+pub use Rattle.mind_steps.proofs.Fronts.{stands-empty, stands-event, stands-whole}

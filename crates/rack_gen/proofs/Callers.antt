@@ -1,2 +1,2 @@
 -- What the proofs of other crates may cite.
-unfoldable pub use Rattle.rack_gen.proofs.Made.{IsSized, text_fits, text_reads}
+pub use Rattle.rack_gen.proofs.Made.{IsSized, text_fits, text_reads}

@@ -1,2 +1,2 @@
 -- What the proofs of other crates may cite.
-unfoldable pub use Rattle.rack_net.proofs.Naming.{same-or-not}
+pub use Rattle.rack_net.proofs.Naming.{same-or-not}

@@ -1,3 +1,3 @@
 -- What the proofs of other crates may cite.
-unfoldable pub use Rattle.rack_settle.proofs.Prompts.{happens_in_log}
-unfoldable pub use Rattle.rack_settle.proofs.Schedules.{settled_labels_of}
+pub use Rattle.rack_settle.proofs.Prompts.{happens_in_log}
+pub use Rattle.rack_settle.proofs.Schedules.{settled_labels_of}

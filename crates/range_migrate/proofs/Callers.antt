@@ -1,2 +1,2 @@
 -- What the proofs of other crates may cite.
-unfoldable pub use Rattle.range_migrate.proofs.Onward.{reached-first}
+pub use Rattle.range_migrate.proofs.Onward.{reached-first}

@@ -1,5 +1,5 @@
 -- What the proofs of other crates may cite.
-unfoldable pub use Rattle.range_translate.proofs.Apart.{AreApart-front, AreApart-rest, pages_of-cons}
-unfoldable pub use Rattle.range_translate.proofs.BlockOrder.{after, before, not_after, ordered-filter, parts_of}
-unfoldable pub use Rattle.range_translate.proofs.HomeSteps.{home_step_value, in_span-has, shifted}
-unfoldable pub use Rattle.range_translate.proofs.SmallestLaw.{at_home, in_range-has, moved}
+pub use Rattle.range_translate.proofs.Apart.{AreApart-front, AreApart-rest, pages_of-cons}
+pub use Rattle.range_translate.proofs.BlockOrder.{after, before, not_after, ordered-filter, parts_of}
+pub use Rattle.range_translate.proofs.HomeSteps.{home_step_value, in_span-has, shifted}
+pub use Rattle.range_translate.proofs.SmallestLaw.{at_home, in_range-has, moved}

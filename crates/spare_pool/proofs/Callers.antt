@@ -1,2 +1,2 @@
 -- What the proofs of other crates may cite.
-unfoldable pub use Rattle.spare_pool.proofs.Pages.{in_range, range_has}
+pub use Rattle.spare_pool.proofs.Pages.{in_range, range_has}

@@ -1,2 +1,2 @@
 -- What the proofs of other crates may cite.
-unfoldable pub use Rattle.wire_msg.proofs.Messages.{whole_again}
+pub use Rattle.wire_msg.proofs.Messages.{whole_again}

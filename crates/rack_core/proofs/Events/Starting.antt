@@ -30,7 +30,7 @@ use Rattle.switch_core.specs.Invariant.{IsFitEntry}
 use Rattle.switch_core.specs.Switch.{SwitchView, place_in}
 use Rattle.coherence.specs.Facts.{IsCoherent, ArePlaced}
 use Rattle.coherence.specs.Runs.{start}
-use Rattle.coherence.proofs.Callers.{starts}
+use Rattle.coherence.proofs.Callers as coherence
 use Rattle.rack_core.specs.BladeMoves.{IsSoundBlade, AreBladesSound}
 use Rattle.rack_core.specs.Rack.{RackView}
 use Rattle.rack_core.specs.Safe.{IsSafe}
@@ -151,7 +151,7 @@ enough plan rack h memory pages e page phys at =
 
 -- it is coherent with images that are all zero
 pub starts_coherent : (plan : RackPlan) (rack : RackView) → IsFit plan → IsStart plan rack → IsCoherent (seen rack (λ page. zero_image))
-starts_coherent plan rack fit h = subst IsCoherent (sym (first_seen plan rack h)) (starts (place_in rack.switch) (permission_at rack.switch.protect) (are_placed plan rack.switch fit h.switch))
+starts_coherent plan rack fit h = subst IsCoherent (sym (first_seen plan rack h)) (coherence.starts (place_in rack.switch) (permission_at rack.switch.protect) (are_placed plan rack.switch fit h.switch))
 
 pub starts : (plan : RackPlan) (rack : RackView) → IsFit plan → IsStart plan rack → IsSafe rack
 starts plan rack fit h = record {
