@@ -1,5 +1,6 @@
 pub mod BlockLemmas
 pub mod ChangeLemmas
+pub mod LookUpLemmas
 pub mod OrderLemmas
 pub mod ResizeLemmas
 pub mod RoomLemmas

@@ -9,8 +9,12 @@ mod entries;
 mod merges;
 mod rooms;
 mod searches;
+mod sides;
 mod splits;
+mod step_counts;
 
 pub use directories::Directory;
 pub use entries::{Busy, Entry};
 pub use rooms::{Room, has_any};
+pub use sides::Where;
+pub use step_counts::Steps;
