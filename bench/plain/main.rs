@@ -2389,16 +2389,31 @@ enum Message {
 
 const WIRE_ROOM: usize = 64;
 
-/// One way between two nodes, which may lose and repeat frames but hands messages over in order:
-/// only the one that is expected is taken, and all are kept until they are acknowledged. A frame is
-/// the number of its message, and an acknowledgement that of the next one expected.
+/// A frame: the number of its message, or the next expected number, and the mask of what came after it.
+#[derive(Clone, Copy)]
+struct WireFrame {
+    number: u32,
+    /// Bit j, from the lowest, says that message `number + 1 + j` has come. Of an acknowledgement alone.
+    mask: u64,
+}
+
+/// One way between two nodes, by selective repeat: frames may be lost and repeated, and messages are
+/// handed over in order. One that comes early waits until those before it came, and all are kept until
+/// they are acknowledged; those that a mask names are not sent again.
 struct Line {
     next: u32,
+    /// The number of the first message that the sender keeps.
     first_kept: u32,
-    /// The messages that were sent and not yet taken.
+    /// Bit j says that message `first_kept + 1 + j` need not be sent again.
+    marked: u64,
+    /// The number of the message that the receiver expects.
+    expected: u32,
+    /// Bit j says that the receiver has message `expected + 1 + j`.
+    ahead: u64,
+    /// The messages that were sent and not yet handed over.
     pending: VecDeque<Message>,
-    messages: VecDeque<u32>,
-    acknowledgements: VecDeque<u32>,
+    messages: VecDeque<WireFrame>,
+    acknowledgements: VecDeque<WireFrame>,
 }
 
 impl Line {
@@ -2406,22 +2421,51 @@ impl Line {
         Line {
             next: 0,
             first_kept: 0,
+            marked: 0,
+            expected: 0,
+            ahead: 0,
             pending: VecDeque::new(),
             messages: VecDeque::with_capacity(WIRE_ROOM),
             acknowledgements: VecDeque::with_capacity(WIRE_ROOM),
         }
     }
 
-    fn expected(&self) -> u32 {
-        self.next - self.pending.len() as u32
-    }
-
-    fn frames(&mut self, wire: Wire) -> &mut VecDeque<u32> {
+    fn frames(&mut self, wire: Wire) -> &mut VecDeque<WireFrame> {
         if wire.carries_messages() {
             &mut self.messages
         } else {
             &mut self.acknowledgements
         }
+    }
+
+    /// A message frame has come: how many messages can be handed over now.
+    fn receive(&mut self, number: u32) -> u32 {
+        if number == self.expected {
+            let count = 1 + self.ahead.trailing_ones();
+            self.expected += count;
+            self.ahead = self.ahead.checked_shr(count).unwrap_or(0);
+            return count;
+        }
+        let distance = number.saturating_sub(self.expected);
+        if (1..=64).contains(&distance) {
+            self.ahead |= 1 << (distance - 1);
+        }
+        0
+    }
+
+    /// An acknowledgement has come: messages before its number are kept no longer, and those that its
+    /// mask names are marked.
+    fn acknowledge(&mut self, frame: WireFrame) {
+        let first = self.first_kept.max(frame.number);
+        let marked = self.marked.checked_shr(first - self.first_kept).unwrap_or(0);
+        let named = frame.mask.checked_shr(first - frame.number).unwrap_or(0);
+        self.first_kept = first;
+        self.marked = marked | named;
+    }
+
+    fn is_marked(&self, number: u32) -> bool {
+        let distance = number - self.first_kept;
+        (1..=64).contains(&distance) && self.marked >> (distance - 1) & 1 == 1
     }
 }
 
@@ -2451,11 +2495,11 @@ impl Net {
         line.next += 1;
         line.pending.push_back(message);
         self.keeping |= 1 << link.0;
-        self.put(link.messages(), number);
+        self.put(link.messages(), WireFrame { number, mask: 0 });
     }
 
     /// Puts a frame at the end of a wire; where there is no room it is lost.
-    fn put(&mut self, wire: Wire, frame: u32) {
+    fn put(&mut self, wire: Wire, frame: WireFrame) {
         let frames = self.line(wire.link()).frames(wire);
         if frames.len() < WIRE_ROOM {
             frames.push_back(frame);
@@ -2464,7 +2508,7 @@ impl Net {
     }
 
     /// Takes a frame out of a wire, by its place modulo the wire's length.
-    fn lose(&mut self, wire: Wire, place: u32) -> Option<u32> {
+    fn lose(&mut self, wire: Wire, place: u32) -> Option<WireFrame> {
         let frames = self.line(wire.link()).frames(wire);
         let frame = match place {
             0 => frames.pop_front()?,
@@ -2485,35 +2529,46 @@ impl Net {
     }
 
     fn resend(&mut self, link: Link) {
-        let &mut Line {
-            first_kept, next, ..
-        } = self.line(link);
-        for number in (first_kept..next).take(WIRE_ROOM) {
-            self.put(link.messages(), number);
+        let line = self.line(link);
+        for number in line.first_kept..line.next {
+            if line.messages.len() == WIRE_ROOM {
+                break;
+            }
+            if !line.is_marked(number) {
+                line.messages.push_back(WireFrame { number, mask: 0 });
+            }
+        }
+        if !line.messages.is_empty() {
+            self.filled |= 1 << link.messages().0;
         }
     }
 
-    /// Delivers a frame, and gives the message that is handed over.
-    fn deliver(&mut self, wire: Wire, place: u32) -> Option<Message> {
-        let frame = self.lose(wire, place)?;
+    /// Delivers a frame, and says how many messages `take` hands over now.
+    fn deliver(&mut self, wire: Wire, place: u32) -> u32 {
+        let Some(frame) = self.lose(wire, place) else {
+            return 0;
+        };
         let link = wire.link();
         let line = self.line(link);
         if wire.carries_messages() {
-            let message = if frame == line.expected() {
-                line.pending.pop_front()
-            } else {
-                None
+            let count = line.receive(frame.number);
+            let acknowledgement = WireFrame {
+                number: line.expected,
+                mask: line.ahead,
             };
-            let expected = line.expected();
-            self.put(link.acknowledgements(), expected);
-            message
-        } else {
-            line.first_kept = line.first_kept.max(frame);
-            if line.first_kept == line.next {
-                self.keeping &= !(1 << link.0);
-            }
-            None
+            self.put(link.acknowledgements(), acknowledgement);
+            return count;
         }
+        line.acknowledge(frame);
+        if line.first_kept == line.next {
+            self.keeping &= !(1 << link.0);
+        }
+        0
+    }
+
+    /// The next message that a link hands over.
+    fn take(&mut self, link: Link) -> Option<Message> {
+        self.line(link).pending.pop_front()
     }
 
     /// The first wire that has frames.
@@ -3107,10 +3162,16 @@ impl<'a> Rack<'a> {
     }
 
     fn deliver(&mut self, wire: Wire, place: u32) {
-        let Some(message) = self.net.deliver(wire, place) else {
-            return;
-        };
-        match self.plan.links.way(wire.link()) {
+        let link = wire.link();
+        for _ in 0..self.net.deliver(wire, place) {
+            if let Some(message) = self.net.take(link) {
+                self.hand_over(link, message);
+            }
+        }
+    }
+
+    fn hand_over(&mut self, link: Link, message: Message) {
+        match self.plan.links.way(link) {
             Way::Up(blade) => {
                 self.switch
                     .receive_from_blade(blade, message, &mut self.net, &mut self.log)

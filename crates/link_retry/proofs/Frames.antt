@@ -1,12 +1,13 @@
 -- What holds of the frames of a wire when one is taken out or put.
-use Rattle.std.proofs.Common.{◌≡◌, ℕ, ◌+◌, ◌<◌, ◌≤◌, ◌%◌, zero, suc, List, [], ◌∷◌, ◌++◌, length, take, drop, refl, subst, sym, ap, ◌∙◌, arith, Bool, true, false, cond, length-append, length-take, length-drop}
-use Rattle.std.specs.Prelude.{All, Some, slice_get, nat_lt}
+use Rattle.std.proofs.Common.{◌≡◌, ℕ, ◌+◌, ◌<◌, ◌≤◌, ◌%◌, zero, suc, List, [], ◌∷◌, ◌++◌, length, take, drop, map, refl, subst, sym, ap, ◌∙◌, arith, Bool, true, false, cond, length-append, length-take, length-drop}
+use Rattle.std.specs.Prelude.{All, Option, Some, None, option_map, remove, slice_get, nat_lt}
 use Rattle.std.specs.List.{range_with_len}
 use Rattle.std.specs.List.Sorted.{IsStrictlyIncreasing}
 use Rattle.std.proofs.lemmas.List.Elements.{All-append, All-take, All-drop, All-push}
 use Rattle.std.proofs.lemmas.List.FromFn.{length-range_with_len, get_or-range_with_len}
-use Rattle.std.proofs.lemmas.Option.{get_or_from_slice_get, slice_get_within}
-use Rattle.link_retry.specs.Wire.{frame_at, without_frame, with_frame}
+use Rattle.std.proofs.lemmas.List.{map-append, take-map, drop-map, length-map}
+use Rattle.std.proofs.lemmas.Option.{get_or_from_slice_get, slice_get_within, slice_get-map}
+use Rattle.link_retry.specs.Wire.{frame_at, without_frame, with_frame, with_any, with_copy}
 
 pub All-without : (P : ℕ → Type 0) (wire : List ℕ) (k : ℕ) → All P wire → All P (without_frame wire k)
 All-without P wire k h =
@@ -53,6 +54,39 @@ IsStrictlyIncreasing-range a n = λ k b.
     let here : k < n = omega arith in
     omega (arith, get_or-range_with_len a n k 0 here, get_or-range_with_len a n (k + 1) 0 later)
 
-pub slice_get-range : (a n : ℕ) → 0 < n → slice_get (range_with_len a n) 0 ≡ Some a
-slice_get-range a zero h = absurd (omega arith)
-slice_get-range a (suc n) h = refl
+-- ---- what is read of each frame, on the wire with another frame or without one
+
+pub map-without : {A : Type 0} (f : A → ℕ) (wire : List A) (k : ℕ) → map f (without_frame wire k) ≡ without_frame (map f wire) k
+map-without {A} f wire k =
+    map-append f (take (k % length wire) wire) (drop (suc (k % length wire)) wire)
+    ∙ (λ i. sym (take-map f (k % length wire) wire) i ++ sym (drop-map f (suc (k % length wire)) wire) i)
+    ∙ ap (λ (n : ℕ). remove (map f wire) (k % n)) (sym (length-map wire f))
+
+pub map-with : {A : Type 0} (f : A → ℕ) (wire : List A) (frame : A) → map f (with_frame wire frame) ≡ with_frame (map f wire) (f frame)
+map-with {A} f wire frame = by (nat_lt (length wire) 64) ∙ ap (λ (n : ℕ). cond (nat_lt n 64) (map f wire ++ f frame ∷ []) (map f wire)) (sym (length-map wire f)) where
+  by : (fits : Bool) → map f (cond fits (wire ++ frame ∷ []) wire) ≡ cond fits (map f wire ++ f frame ∷ []) (map f wire)
+  by true = map-append f wire (frame ∷ [])
+  by false = refl
+
+pub map-frame : {A : Type 0} (f : A → ℕ) (wire : List A) (k : ℕ) → frame_at (map f wire) k ≡ option_map f (frame_at wire k)
+map-frame {A} f wire k = ap (λ (n : ℕ). slice_get (map f wire) (k % n)) (length-map wire f) ∙ slice_get-map f wire (k % length wire)
+
+map-any : {A : Type 0} (f : A → ℕ) (wire : List A) (frame : Option A) → map f (with_any wire frame) ≡ with_any (map f wire) (option_map f frame)
+map-any {A} f wire None = refl
+map-any {A} f wire (Some frame) = map-with f wire frame
+
+pub map-copy : {A : Type 0} (f : A → ℕ) (wire : List A) (k : ℕ) → map f (with_copy wire k) ≡ with_copy (map f wire) k
+map-copy {A} f wire k = map-any f wire (frame_at wire k) ∙ ap (with_any (map f wire)) (sym (map-frame f wire k))
+
+-- a copy of a frame is one of the wire's
+pub All-copy : (P : ℕ → Type 0) (wire : List ℕ) (k : ℕ) → All P wire → All P (with_copy wire k)
+All-copy P wire k h = by (frame_at wire k) refl where
+  by : (frame : Option ℕ) → frame_at wire k ≡ frame → All P (with_any wire frame)
+  by None is = h
+  by (Some n) is = All-with_frame P wire n h (at_frame P wire k n h is)
+
+pub length-copy : (wire : List ℕ) (k : ℕ) → length wire ≤ 64 → length (with_copy wire k) ≤ 64
+length-copy wire k h = by (frame_at wire k) where
+  by : (frame : Option ℕ) → length (with_any wire frame) ≤ 64
+  by None = h
+  by (Some n) = length-with_frame wire n h

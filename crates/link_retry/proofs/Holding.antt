@@ -6,8 +6,7 @@ use Rattle.std.proofs.lemmas.List.Elements.{All-append}
 use Rattle.std.proofs.lemmas.List.FromFn.{length-range_with_len}
 use Rattle.link_retry.specs.Wire.{frame_at, without_frame, with_frame}
 use Rattle.link_retry.specs.Link.{LinkView, IsLink, expected}
-use Rattle.link_retry.specs.GoBackN.{all_kept, after_resend}
-use Rattle.link_retry.specs.Kept.{link_view, IsKeptLink}
+use Rattle.link_retry.specs.Kept.{link_view, bases, selective_view, IsKeptLink, IsKeptSelective}
 use Rattle.link_retry.proofs.Frames.{All-without, length-without, All-with_frame, length-with_frame, All-range, at_frame}
 
 -- the expected number, as a link shows it
@@ -57,19 +56,6 @@ ack_put {first} {number} {pending} {messages} {acks} h wire e = subst (λ (w : L
   acks_fit = length-with_frame acks number h.acks_fit;
 }
 
--- frames of kept messages are put on the message wire
-pub resent : {first number : ℕ} {pending : List (List ℕ)} {messages acks : List ℕ} → IsKeptLink first number pending messages acks → (n : ℕ) (wire : List ℕ) → n ≤ number + length pending - first → length messages + n ≤ 64 → wire ≡ messages ++ range_with_len first n → IsKeptLink first number pending wire acks
-resent {first} {number} {pending} {messages} {acks} h n wire few room e =
-    let from : first ≤ number = h.from in
-    subst (λ (w : List ℕ). IsKeptLink first number pending w acks) (sym e) record {
-      from = h.from;
-      next = h.next;
-      message_numbers = All-append (λ x. x < number + length pending) messages (range_with_len first n) h.message_numbers (All-range (λ x. x < number + length pending) first n (λ x a b. omega arith));
-      ack_numbers = h.ack_numbers;
-      messages_fit = omega (arith, length-append messages (range_with_len first n), length-range_with_len first n);
-      acks_fit = h.acks_fit;
-    }
-
 -- an acknowledgement passes no expected number
 acked_frame : {first number : ℕ} {pending : List (List ℕ)} {messages acks : List ℕ} → IsKeptLink first number pending messages acks → (k n : ℕ) → frame_at acks k ≡ Some n → n ≤ number
 acked_frame {first} {number} {pending} {messages} {acks} h k n e = at_frame (λ x. x ≤ number) acks k n h.ack_numbers e
@@ -88,15 +74,3 @@ acked {first} {number} {pending} {messages} {acks} h k n later wire named is e =
       messages_fit = h.messages_fit;
       acks_fit = out.acks_fit;
     }
-
--- frames of all kept messages were put
-put_all : (first number : ℕ) (pending : List (List ℕ)) (messages acks : List ℕ) (count : ℕ) (wire : List ℕ) → first ≤ number → count ≡ min (64 - length messages) (number + length pending - first) → wire ≡ messages ++ range_with_len first count → link_view first number pending wire acks ≡ after_resend (link_view first number pending messages acks)
-put_all first number pending messages acks count wire from whole e =
-    let same : first ≡ number + length pending - (number + length pending - first) = omega arith in
-    let frames : range_with_len first count ≡ all_kept (link_view first number pending messages acks) = λ i. range_with_len (same i) (whole i) in
-    let put : wire ≡ messages ++ all_kept (link_view first number pending messages acks) = e ∙ ap (λ (xs : List ℕ). messages ++ xs) frames in
-    λ i. record { pending = pending; next = number + length pending; kept = number + length pending - first; messages = put i; acks = acks }
-
-pub resent_view : {T E : Type 0} {first number : ℕ} {pending : List (List ℕ)} {messages acks : List ℕ} (r : Result T E) (old : LinkView) (count : ℕ) (wire : List ℕ) → IsKeptLink first number pending messages acks → link_view first number pending messages acks ≡ old → OnOk r (wire ≡ messages ++ range_with_len first count) → count ≡ min (64 - length messages) (number + length pending - first) → OnOk r (link_view first number pending wire acks ≡ after_resend old)
-resent_view {T} {E} {first} {number} {pending} {messages} {acks} (Ok x) old count wire h viewed e whole = put_all first number pending messages acks count wire h.from whole e ∙ ap after_resend viewed
-resent_view (Err x) old count wire h viewed e whole = e

@@ -1,5 +1,6 @@
-pub mod GoBackN
 pub mod Kept
 pub mod Link
 pub mod Run
+pub mod SelectiveRepeat
+pub mod Window
 pub mod Wire

@@ -5,7 +5,9 @@
 
 mod laws;
 mod links;
+mod windows;
 mod wires;
 
 pub use laws::in_order;
 pub use links::Link;
+pub use windows::Window;

@@ -4,12 +4,13 @@ use Rattle.std.specs.Prelude.{Option, unwrap_or}
 use Rattle.std.proofs.lemmas.List.Elements.{All-take, All-drop, All-map}
 use Rattle.std.proofs.Math.Seq.{take-append_seam, drop-append_seam}
 use Rattle.link_retry.specs.Link.{LinkView}
+use Rattle.link_retry.specs.SelectiveRepeat.{SelectiveView}
 use Rattle.wire_msg.specs.declared.msgs.Msg.{Msg}
 use Rattle.wire_msg.specs.declared.msgs.Msg.TheVariants.{Closed}
 use Rattle.wire_msg.specs.Spelling.{spelling}
 use Rattle.wire_msg.specs.WellFormed.{IsWellFormed}
 use Rattle.wire_msg.proofs.Callers.{whole_again}
-use Rattle.rack_net.specs.Net.{spelled}
+use Rattle.rack_net.specs.Net.{spelled, with_windows}
 use Rattle.rack_net.specs.Kept.{IsSpelled, message_spelled, link_of}
 
 -- what a well-formed message spells is read as it
@@ -37,8 +38,11 @@ pub all-formed : (texts : List (List ℕ)) → All IsSpelled texts → All IsWel
 all-formed texts h = All-map IsWellFormed message_spelled texts (λ k d lt. formed-read _ (h k d lt))
 
 -- the link as a queue of messages, spelled, is the link
-pub spelled-link_of : (link : LinkView) → All IsSpelled link.pending → spelled (link_of link) ≡ link
-spelled-link_of link h = ap (λ (pending : List (List ℕ)). record link { pending = pending }) (spelled-read link.pending h)
+pub spelled-link_of : (link : SelectiveView) → All IsSpelled link.link.pending → spelled (link_of link) ≡ link.link
+spelled-link_of link h = ap (λ (pending : List (List ℕ)). record link.link { pending = pending }) (spelled-read link.link.pending h)
+
+pub selective-link_of : (link : SelectiveView) → All IsSpelled link.link.pending → with_windows (link_of link) ≡ link
+selective-link_of link h = ap (λ (l : LinkView). record link { link = l }) (spelled-link_of link h)
 
 -- both parts of what is pending are spelled
 pub front-spelled : (taken rest : List (List ℕ)) → All IsSpelled (taken ++ rest) → All IsSpelled taken

@@ -4,6 +4,7 @@ use Rattle.mind_base.specs.declared.links.LinkName.{LinkName}
 use Rattle.mind_base.specs.declared.links.Side.{Side}
 use Rattle.mind_base.specs.declared.links.Side.TheVariants.{Messages, Acks}
 use Rattle.link_retry.specs.Link.{LinkView, IsLink}
+use Rattle.link_retry.specs.SelectiveRepeat.{SelectiveView, WindowsView}
 use Rattle.wire_msg.specs.declared.msgs.Msg.{Msg}
 use Rattle.wire_msg.specs.declared.msgs.Msg.TheVariants.{Closed}
 use Rattle.wire_msg.specs.Spelling.{spelling}
@@ -16,10 +17,13 @@ unfoldable pub message_spelled : List ℕ → Msg
 message_spelled bytes = unwrap_or (message_of bytes) (Closed 0)
 
 -- the link as a queue of messages
-abbrev pub link_of : LinkView → NetLink
-link_of link = record { pending = map message_spelled link.pending; next = link.next; kept = link.kept; messages = link.messages; acks = link.acks }
+abbrev pub queue_of : LinkView → WindowsView → NetLink
+queue_of link windows = record { pending = map message_spelled link.pending; next = link.next; kept = link.kept; messages = link.messages; acks = link.acks; windows = windows }
 
-abbrev pub net_view : ℕ → ℕ → List LinkView → NetView
+abbrev pub link_of : SelectiveView → NetLink
+link_of link = queue_of link.link link.windows
+
+abbrev pub net_view : ℕ → ℕ → List SelectiveView → NetView
 net_view blades memories links = record { blades = blades; memories = memories; links = map link_of links }
 
 -- the bytes spell a well-formed message
@@ -29,12 +33,12 @@ pub record IsSpelled (bytes : List ℕ) : Type 0 where
   pub spelled : spelling message ≡ bytes
 
 -- a sound link on which only messages are pending
-pub record IsHeld (link : LinkView) : Type 0 where
-  pub sound : IsLink link
-  pub spelled : All IsSpelled link.pending
+pub record IsHeld (link : SelectiveView) : Type 0 where
+  pub sound : IsLink link.link
+  pub spelled : All IsSpelled link.link.pending
 
 -- two links for each blade
-pub record AreKeptLinks (blades memories : ℕ) (links : List LinkView) : Type 0 where
+pub record AreKeptLinks (blades memories : ℕ) (links : List SelectiveView) : Type 0 where
   pub count : length links ≡ 2 * (blades + memories)
   pub held : All IsHeld links
 
@@ -44,33 +48,33 @@ pub record IsNameAt (blades memories place : ℕ) (name : LinkName) : Type 0 whe
   pub of_net : name.number < links_of_kind blades memories name.kind
 
 -- both wires are empty
-abbrev pub IsQuietLink : LinkView → Type 0
-IsQuietLink link = (link.messages ≡ []) × (link.acks ≡ [])
+abbrev pub IsQuietLink : SelectiveView → Type 0
+IsQuietLink link = (link.link.messages ≡ []) × (link.link.acks ≡ [])
 
 -- the first wire of a link that is not empty
-abbrev pub FindsSide : LinkView → Option Side → Type 0
+abbrev pub FindsSide : SelectiveView → Option Side → Type 0
 FindsSide link None = IsQuietLink link
-FindsSide link (Some Messages) = 0 < length link.messages
-FindsSide link (Some Acks) = (link.messages ≡ []) × (0 < length link.acks)
+FindsSide link (Some Messages) = 0 < length link.link.messages
+FindsSide link (Some Acks) = (link.link.messages ≡ []) × (0 < length link.link.acks)
 
 -- the link at this place is the first with a frame, on this side
-pub record IsFirstBusy (links : List LinkView) (place : ℕ) (side : Side) : Type 0 where
-  pub link : LinkView
+pub record IsFirstBusy (links : List SelectiveView) (place : ℕ) (side : Side) : Type 0 where
+  pub link : SelectiveView
   pub here : slice_get links place ≡ Some link
   pub busy : FindsSide link (Some side)
   pub before : All IsQuietLink (take place links)
 
-abbrev pub FindsBusy : List LinkView → Option (ℕ × Side) → Type 0
+abbrev pub FindsBusy : List SelectiveView → Option (ℕ × Side) → Type 0
 FindsBusy links None = All IsQuietLink links
 FindsBusy links (Some found) = IsFirstBusy links found.0 found.1
 
 -- the link at this place is the first that keeps messages
-pub record IsFirstKeeping (links : List LinkView) (place : ℕ) : Type 0 where
-  pub link : LinkView
+pub record IsFirstKeeping (links : List SelectiveView) (place : ℕ) : Type 0 where
+  pub link : SelectiveView
   pub here : slice_get links place ≡ Some link
-  pub keeps : 0 < link.kept
-  pub before : All (λ other. other.kept ≡ 0) (take place links)
+  pub keeps : 0 < link.link.kept
+  pub before : All (λ other. other.link.kept ≡ 0) (take place links)
 
-abbrev pub FindsKeeping : List LinkView → Option ℕ → Type 0
-FindsKeeping links None = All (λ link. link.kept ≡ 0) links
+abbrev pub FindsKeeping : List SelectiveView → Option ℕ → Type 0
+FindsKeeping links None = All (λ link. link.link.kept ≡ 0) links
 FindsKeeping links (Some place) = IsFirstKeeping links place

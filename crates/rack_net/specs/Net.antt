@@ -6,26 +6,32 @@ use Rattle.mind_base.specs.declared.links.LinkName.{LinkName}
 use Rattle.mind_base.specs.declared.links.Side.{Side}
 use Rattle.mind_base.specs.declared.links.Side.TheVariants.{Messages, Acks}
 use Rattle.link_retry.specs.Link.{LinkView, IsLink, wire_of}
+use Rattle.link_retry.specs.SelectiveRepeat.{SelectiveView, WindowsView, new_windows}
 use Rattle.wire_msg.specs.declared.msgs.Msg.{Msg}
 use Rattle.wire_msg.specs.Spelling.{spelling}
 use Rattle.wire_msg.specs.WellFormed.{IsWellFormed}
 
 -- a link: the messages sent and not yet taken, in order; the number of the next one; how many the sender
--- keeps; the message wire and the acknowledgement wire, of numbers
+-- keeps; the message wire and the acknowledgement wire, of numbers; and the windows of both ends
 pub record NetLink : Type 0 where
   pub pending : List Msg
   pub next : ℕ
   pub kept : ℕ
   pub messages : List ℕ
   pub acks : List ℕ
+  pub windows : WindowsView
 
 -- the same link with its messages in bytes
 abbrev pub spelled : NetLink → LinkView
 spelled link = record { pending = map spelling link.pending; next = link.next; kept = link.kept; messages = link.messages; acks = link.acks }
 
+-- the same with its windows
+abbrev pub with_windows : NetLink → SelectiveView
+with_windows link = record { link = spelled link; windows = link.windows }
+
 -- a link that nothing was sent on
 abbrev pub empty_link : NetLink
-empty_link = record { pending = []; next = 0; kept = 0; messages = []; acks = [] }
+empty_link = record { pending = []; next = 0; kept = 0; messages = []; acks = []; windows = new_windows }
 
 -- how many compute blades and memory blades there are, and their links in order: up and down of each
 -- compute blade, then to and from each memory blade

@@ -3,10 +3,10 @@
 ghost use Rattle.std.specs.Prelude.{◌≡◌, ◌↔◌, ◌++◌, ◌∷◌, [], Err, map, All, IfOk, OnOk};
 ghost use Rattle.mind_base.specs.declared.failures.Stop.TheVariants.{Spent};
 ghost use Rattle.link_retry.specs.Link.{after_send, FrameDelivers, after_lose, after_repeat, Resends};
-ghost use Rattle.link_retry.specs.GoBackN.{DeliversInOrder, after_resend};
+ghost use Rattle.link_retry.specs.SelectiveRepeat.{DeliversSelectively, windows_after_lose, windows_after_repeat, after_resend};
 ghost use Rattle.wire_msg.specs.Spelling.{spelling};
 ghost use Rattle.wire_msg.specs.WellFormed.{FieldsAgree, IsWellFormed};
-ghost use Rattle.rack_net.specs.Net.{spelled};
+ghost use Rattle.rack_net.specs.Net.{spelled, with_windows};
 ghost use Rattle.rack_net.specs.Kept.{IsHeld, IsSpelled, link_of, message_spelled};
 
 use link_retry::Link;
@@ -20,9 +20,10 @@ pub(crate) fn send_on(link: &mut Link, alloc: Global, msg: &Msg) -> Result<(), S
     requires held { IsHeld link.old }
     ensures fifo { OnOk result ((link_of link.new).pending ≡ (link_of link.old).pending ++ msg.now ∷ []) }
     ensures link { OnOk result (spelled (link_of link.new) ≡ after_send (spelled (link_of link.old)) (spelling msg.now)) }
+    ensures windows { OnOk result ((link_of link.new).windows ≡ (link_of link.old).windows) }
     ensures held { OnOk result (IsHeld link.new) }
     ensures formed { OnOk result (IsWellFormed msg.now) }
-    ensures spent { (result ≡ Err Spent) ↔ (link.old.next ≡ 4294967295) }
+    ensures spent { (result ≡ Err Spent) ↔ (link.old.link.next ≡ 4294967295) }
     ensures unchanged { result ≡ Err Spent → link.new ≡ link.old }
 {
     if link.is_spent() {
@@ -45,7 +46,7 @@ pub(crate) fn deliver_on(
     requires { IsHeld link.old }
     ensures fifo { IfOk result (λ taken. (link_of link.old).pending ≡ taken.items ++ (link_of link.new).pending) }
     ensures link { IfOk result (λ taken. FrameDelivers (spelled (link_of link.old)) side k (map spelling taken.items) (spelled (link_of link.new))) }
-    ensures go_back_n { IfOk result (λ taken. DeliversInOrder (spelled (link_of link.old)) side k (map spelling taken.items) (spelled (link_of link.new))) }
+    ensures selective_repeat { IfOk result (λ taken. DeliversSelectively (with_windows (link_of link.old)) side k (map spelling taken.items) (with_windows (link_of link.new))) }
     ensures formed { IfOk result (λ taken. All IsWellFormed taken.items) }
     ensures held { OnOk result (IsHeld link.new) }
 {
@@ -59,6 +60,7 @@ pub(crate) fn lose_on(link: &mut Link, side: Side, k: u32)
     requires { IsHeld link.old }
     ensures fifo { (link_of link.new).pending ≡ (link_of link.old).pending }
     ensures link { spelled (link_of link.new) ≡ after_lose (spelled (link_of link.old)) side k }
+    ensures windows { (link_of link.new).windows ≡ windows_after_lose (link_of link.old).windows side k }
     ensures held { IsHeld link.new }
 {
     link.lose(side, k);
@@ -69,6 +71,7 @@ pub(crate) fn repeat_on(link: &mut Link, side: Side, k: u32) -> Result<(), NoMem
     requires { IsHeld link.old }
     ensures fifo { OnOk result ((link_of link.new).pending ≡ (link_of link.old).pending) }
     ensures link { OnOk result (spelled (link_of link.new) ≡ after_repeat (spelled (link_of link.old)) side k) }
+    ensures windows { OnOk result ((link_of link.new).windows ≡ windows_after_repeat (link_of link.old).windows side k) }
     ensures held { OnOk result (IsHeld link.new) }
 {
     link.repeat(side, k)
@@ -79,7 +82,8 @@ pub(crate) fn resend_on(link: &mut Link) -> Result<(), NoMemory>
     requires { IsHeld link.old }
     ensures fifo { OnOk result ((link_of link.new).pending ≡ (link_of link.old).pending) }
     ensures link { OnOk result (Resends (spelled (link_of link.old)) (spelled (link_of link.new))) }
-    ensures go_back_n { OnOk result (spelled (link_of link.new) ≡ after_resend (spelled (link_of link.old))) }
+    ensures selective_repeat { OnOk result (spelled (link_of link.new) ≡ after_resend (with_windows (link_of link.old))) }
+    ensures windows { OnOk result ((link_of link.new).windows ≡ (link_of link.old).windows) }
     ensures held { OnOk result (IsHeld link.new) }
 {
     link.resend()

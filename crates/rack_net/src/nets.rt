@@ -3,10 +3,10 @@
 ghost use Rattle.std.specs.Prelude.{◌≡◌, ◌↔◌, ◌++◌, ◌∷◌, [], Err, map, All, IfOk, OnOk};
 ghost use Rattle.mind_base.specs.declared.failures.Stop.TheVariants.{Spent};
 ghost use Rattle.link_retry.specs.Link.{after_send, FrameDelivers, after_lose, after_repeat, Resends};
-ghost use Rattle.link_retry.specs.GoBackN.{DeliversInOrder, after_resend};
+ghost use Rattle.link_retry.specs.SelectiveRepeat.{DeliversSelectively, windows_after_lose, windows_after_repeat, after_resend};
 ghost use Rattle.wire_msg.specs.Spelling.{spelling};
 ghost use Rattle.wire_msg.specs.WellFormed.{FieldsAgree, IsWellFormed};
-ghost use Rattle.rack_net.specs.Net.{IsLinkOf, IsNet, ChangesOnly, FindsFrame, FindsKept, links_of, empty_link, spelled};
+ghost use Rattle.rack_net.specs.Net.{IsLinkOf, IsNet, ChangesOnly, FindsFrame, FindsKept, links_of, empty_link, spelled, with_windows};
 
 use crate::carried::{deliver_on, lose_on, repeat_on, resend_on, send_on};
 use crate::places::{name, place};
@@ -65,6 +65,7 @@ impl Net {
         requires fields { FieldsAgree msg.now }
         ensures fifo { OnOk result ((links_of self.new link).pending ≡ (links_of self.old link).pending ++ msg.now ∷ []) }
         ensures link { OnOk result (spelled (links_of self.new link) ≡ after_send (spelled (links_of self.old link)) (spelling msg.now)) }
+        ensures windows { OnOk result ((links_of self.new link).windows ≡ (links_of self.old link).windows) }
         ensures only { OnOk result (ChangesOnly link self.old self.new) }
         ensures formed { OnOk result (IsWellFormed msg.now) }
         ensures spent { (result ≡ Err Spent) ↔ ((links_of self.old link).next ≡ 4294967295) }
@@ -89,8 +90,8 @@ impl Net {
         // What is taken is the front of what was pending, and leaves it.
         ensures fifo { IfOk result (λ taken. (links_of self.old link).pending ≡ taken.items ++ (links_of self.new link).pending) }
         ensures link { IfOk result (λ taken. FrameDelivers (spelled (links_of self.old link)) side k (map spelling taken.items) (spelled (links_of self.new link))) }
-        // Of the protocols that keep the order, this is go-back-N.
-        ensures go_back_n { IfOk result (λ taken. DeliversInOrder (spelled (links_of self.old link)) side k (map spelling taken.items) (spelled (links_of self.new link))) }
+        // Of the protocols that keep the order, this is selective repeat.
+        ensures selective_repeat { IfOk result (λ taken. DeliversSelectively (with_windows (links_of self.old link)) side k (map spelling taken.items) (with_windows (links_of self.new link))) }
         ensures formed { IfOk result (λ taken. All IsWellFormed taken.items) }
         ensures only { OnOk result (ChangesOnly link self.old self.new) }
         ensures net { IsNet self.new }
@@ -110,6 +111,7 @@ impl Net {
         requires { IsLinkOf self.old link }
         ensures fifo { (links_of self.new link).pending ≡ (links_of self.old link).pending }
         ensures link { spelled (links_of self.new link) ≡ after_lose (spelled (links_of self.old link)) side k }
+        ensures windows { (links_of self.new link).windows ≡ windows_after_lose (links_of self.old link).windows side k }
         ensures only { ChangesOnly link self.old self.new }
         ensures net { IsNet self.new }
     {
@@ -122,6 +124,7 @@ impl Net {
         requires { IsLinkOf self.old link }
         ensures fifo { OnOk result ((links_of self.new link).pending ≡ (links_of self.old link).pending) }
         ensures link { OnOk result (spelled (links_of self.new link) ≡ after_repeat (spelled (links_of self.old link)) side k) }
+        ensures windows { OnOk result ((links_of self.new link).windows ≡ windows_after_repeat (links_of self.old link).windows side k) }
         ensures only { OnOk result (ChangesOnly link self.old self.new) }
         ensures net { IsNet self.new }
     {
@@ -140,7 +143,8 @@ impl Net {
         requires { IsLinkOf self.old link }
         ensures fifo { OnOk result ((links_of self.new link).pending ≡ (links_of self.old link).pending) }
         ensures link { OnOk result (Resends (spelled (links_of self.old link)) (spelled (links_of self.new link))) }
-        ensures go_back_n { OnOk result (spelled (links_of self.new link) ≡ after_resend (spelled (links_of self.old link))) }
+        ensures selective_repeat { OnOk result (spelled (links_of self.new link) ≡ after_resend (with_windows (links_of self.old link))) }
+        ensures windows { OnOk result ((links_of self.new link).windows ≡ (links_of self.old link).windows) }
         ensures only { OnOk result (ChangesOnly link self.old self.new) }
         ensures net { IsNet self.new }
     {

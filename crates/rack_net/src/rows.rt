@@ -1,7 +1,7 @@
 //! The links in their order, searched from the first.
 
 ghost use Rattle.std.specs.Prelude.{◌≡◌, replicate, IfOk};
-ghost use Rattle.link_retry.specs.Link.{new_link};
+ghost use Rattle.link_retry.specs.SelectiveRepeat.{new_selective};
 ghost use Rattle.rack_net.specs.Net.{IsNet};
 ghost use Rattle.rack_net.specs.Kept.{FindsBusy, FindsKeeping, FindsSide, AreKeptLinks, net_view};
 
@@ -11,7 +11,7 @@ use std::alloc::Global;
 
 /// So many links that nothing was sent on.
 pub(crate) fn empty_links(alloc: Global, count: usize) -> Result<Vec<Link>, NoMemory>
-    ensures { IfOk result (λ links. links.items ≡ replicate count new_link) }
+    ensures { IfOk result (λ links. links.items ≡ replicate count new_selective) }
 {
     let mut links = Vec::with_capacity(alloc, count)?;
     for _ in 0..count {

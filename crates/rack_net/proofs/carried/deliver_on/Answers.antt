@@ -1,11 +1,11 @@
 use Rattle.std.proofs.Common.{◌≡◌, ℕ, List, ◌++◌, map, All, sym, subst}
 use Rattle.std.specs.Global.{Vec}
-use Rattle.link_retry.specs.Link.{LinkView, FrameDelivers}
-use Rattle.link_retry.specs.GoBackN.{DeliversInOrder}
+use Rattle.link_retry.specs.Link.{FrameDelivers}
+use Rattle.link_retry.specs.SelectiveRepeat.{SelectiveView, DeliversSelectively}
 use Rattle.wire_msg.specs.Spelling.{spelling}
 use Rattle.wire_msg.specs.declared.msgs.Msg.{Msg}
 use Rattle.wire_msg.specs.WellFormed.{IsWellFormed}
-use Rattle.rack_net.specs.Net.{spelled}
+use Rattle.rack_net.specs.Net.{spelled, with_windows}
 use Rattle.rack_net.specs.Kept.{IsSpelled, link_of}
 use Rattle.rack_net.proofs.Carrying.{taken-spelled, held-delivered, fifo-delivered, as-messages, when-read}
 use Rattle.rack_net.proofs.Texts.{all-formed}
@@ -24,14 +24,14 @@ returns-clause-fifo c =
 pub returns-clause-link : goal.returns-clause-link
 returns-clause-link c =
     when-read (λ (msgs : List Msg). FrameDelivers (spelled (link_of c.args.link.now)) c.args.side c.args.k (map spelling msgs) (spelled (link_of c.deliver.new.self))) _ _ _ c.in_ok-msgs.ensures c.as_slice.ensures.value
-    (as-messages (λ (a : LinkView) (t : List (List ℕ)) (b : LinkView). FrameDelivers a c.args.side c.args.k t b) c.args.link.now c.args.side c.args.k _ c.deliver.new.self
+    (as-messages (λ (a : SelectiveView) (t : List (List ℕ)) (b : SelectiveView). FrameDelivers a.link c.args.side c.args.k t b.link) c.args.link.now c.args.side c.args.k _ c.deliver.new.self
     c.requires c.in_ok-taken.ensures.link c.in_ok-taken.ensures.ok c.in_ok-taken.ensures.ok)
 
-pub returns-clause-go_back_n : goal.returns-clause-go_back_n
-returns-clause-go_back_n c =
-    when-read (λ (msgs : List Msg). DeliversInOrder (spelled (link_of c.args.link.now)) c.args.side c.args.k (map spelling msgs) (spelled (link_of c.deliver.new.self))) _ _ _ c.in_ok-msgs.ensures c.as_slice.ensures.value
-    (as-messages (λ (a : LinkView) (t : List (List ℕ)) (b : LinkView). DeliversInOrder a c.args.side c.args.k t b) c.args.link.now c.args.side c.args.k _ c.deliver.new.self
-    c.requires c.in_ok-taken.ensures.link c.in_ok-taken.ensures.ok c.in_ok-taken.ensures.go_back_n)
+pub returns-clause-selective_repeat : goal.returns-clause-selective_repeat
+returns-clause-selective_repeat c =
+    when-read (λ (msgs : List Msg). DeliversSelectively (with_windows (link_of c.args.link.now)) c.args.side c.args.k (map spelling msgs) (with_windows (link_of c.deliver.new.self))) _ _ _ c.in_ok-msgs.ensures c.as_slice.ensures.value
+    (as-messages (λ (a : SelectiveView) (t : List (List ℕ)) (b : SelectiveView). DeliversSelectively a c.args.side c.args.k t b) c.args.link.now c.args.side c.args.k _ c.deliver.new.self
+    c.requires c.in_ok-taken.ensures.link c.in_ok-taken.ensures.ok c.in_ok-taken.ensures.selective_repeat)
 
 pub returns-clause-formed : goal.returns-clause-formed
 returns-clause-formed c =

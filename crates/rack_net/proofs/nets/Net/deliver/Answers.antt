@@ -1,8 +1,8 @@
 use Rattle.std.proofs.Common.{◌≡◌, ◌++◌, map, set}
 use Rattle.link_retry.specs.Link.{FrameDelivers}
-use Rattle.link_retry.specs.GoBackN.{DeliversInOrder}
+use Rattle.link_retry.specs.SelectiveRepeat.{DeliversSelectively}
 use Rattle.wire_msg.specs.Spelling.{spelling}
-use Rattle.rack_net.specs.Net.{spelled}
+use Rattle.rack_net.specs.Net.{spelled, with_windows}
 use Rattle.rack_net.specs.Kept.{net_view}
 use Rattle.rack_net.proofs.Putting.{Updates, updates, by-name}
 use Rattle.rack_net.proofs.nets.Net.deliver.Goals as goal
@@ -16,8 +16,8 @@ returns-in-Ok-clause-fifo c = by-name _ _ c.args.link _ _ (λ a b. a.pending ≡
 pub returns-in-Ok-clause-link : goal.returns-in-Ok-clause-link
 returns-in-Ok-clause-link c = by-name _ _ c.args.link _ _ (λ a b. FrameDelivers (spelled a) c.args.side c.args.k (map spelling c.in-Ok.taken.items) (spelled b)) (step c) c.in-Ok.ensures.link
 
-pub returns-in-Ok-clause-go_back_n : goal.returns-in-Ok-clause-go_back_n
-returns-in-Ok-clause-go_back_n c = by-name _ _ c.args.link _ _ (λ a b. DeliversInOrder (spelled a) c.args.side c.args.k (map spelling c.in-Ok.taken.items) (spelled b)) (step c) c.in-Ok.ensures.go_back_n
+pub returns-in-Ok-clause-selective_repeat : goal.returns-in-Ok-clause-selective_repeat
+returns-in-Ok-clause-selective_repeat c = by-name _ _ c.args.link _ _ (λ a b. DeliversSelectively (with_windows a) c.args.side c.args.k (map spelling c.in-Ok.taken.items) (with_windows b)) (step c) c.in-Ok.ensures.selective_repeat
 
 pub returns-in-Ok-clause-only : goal.returns-in-Ok-clause-only
 returns-in-Ok-clause-only c = (step c).only

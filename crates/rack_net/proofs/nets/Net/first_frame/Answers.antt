@@ -1,6 +1,6 @@
 use Rattle.std.proofs.Common.{List, All, subst}
 use Rattle.std.specs.Prelude.{None}
-use Rattle.link_retry.specs.Link.{LinkView}
+use Rattle.link_retry.specs.SelectiveRepeat.{SelectiveView}
 use Rattle.rack_net.specs.Net.{NetView, IsNet, IsFirstFrame, FindsFrame}
 use Rattle.rack_net.specs.Kept.{IsQuietLink, IsFirstBusy}
 use Rattle.rack_net.proofs.Putting.{is-net}
@@ -17,14 +17,14 @@ returns-in-None-clause-net c = subst IsNet c.self.view_is (is-net _ _ _ c.self.i
 
 pub name-requires : goal.name-requires
 name-requires c =
-    let found = subst (λ (links : List LinkView). IsFirstBusy links c.in-Some.at c.in-Some.side) c.as_slice.ensures.value c.in-Some.ensures in
+    let found = subst (λ (links : List SelectiveView). IsFirstBusy links c.in-Some.at c.in-Some.side) c.as_slice.ensures.value c.in-Some.ensures in
     found-below _ _ c.self.inside.links.items c.in-Some.at found.link c.self.invariant found.here
 
 pub returns-in-Some-clause-first : goal.returns-in-Some-clause-first
 returns-in-Some-clause-first c =
     subst (λ (v : NetView). IsFirstFrame v c.name.result c.in-Some.side) c.self.view_is
     (first-frame c.self.inside.blades c.self.inside.memories c.self.inside.links.items c.in-Some.at c.in-Some.side c.name.result c.self.invariant
-    (subst (λ (links : List LinkView). IsFirstBusy links c.in-Some.at c.in-Some.side) c.as_slice.ensures.value c.in-Some.ensures) c.name.ensures)
+    (subst (λ (links : List SelectiveView). IsFirstBusy links c.in-Some.at c.in-Some.side) c.as_slice.ensures.value c.in-Some.ensures) c.name.ensures)
 
 pub returns-in-Some-clause-net : goal.returns-in-Some-clause-net
 returns-in-Some-clause-net c = subst IsNet c.self.view_is (is-net _ _ _ c.self.invariant)

@@ -1,5 +1,6 @@
 use Rattle.std.proofs.Common.{◌≡◌, set}
 use Rattle.link_retry.specs.Link.{after_lose}
+use Rattle.link_retry.specs.SelectiveRepeat.{windows_after_lose}
 use Rattle.rack_net.specs.Net.{spelled}
 use Rattle.rack_net.specs.Kept.{net_view}
 use Rattle.rack_net.proofs.Putting.{Updates, updates, by-name}
@@ -19,3 +20,6 @@ returns-clause-only c = (step c).only
 
 pub returns-clause-net : goal.returns-clause-net
 returns-clause-net c = (step c).net
+
+pub returns-clause-windows : goal.returns-clause-windows
+returns-clause-windows c = by-name _ _ c.args.link _ _ (λ a b. b.windows ≡ windows_after_lose a.windows c.args.side c.args.k) (step c) c.lose_on.ensures.windows

@@ -1,5 +1,6 @@
 use Rattle.std.proofs.Common.{◌≡◌, set}
 use Rattle.link_retry.specs.Link.{after_repeat}
+use Rattle.link_retry.specs.SelectiveRepeat.{windows_after_repeat}
 use Rattle.rack_net.specs.Net.{spelled}
 use Rattle.rack_net.specs.Kept.{net_view}
 use Rattle.rack_net.proofs.Putting.{Updates, updates, by-name}
@@ -19,3 +20,6 @@ returns-in-Ok-clause-only c = (step c).only
 
 pub returns-in-Ok-clause-net : goal.returns-in-Ok-clause-net
 returns-in-Ok-clause-net c = (step c).net
+
+pub returns-in-Ok-clause-windows : goal.returns-in-Ok-clause-windows
+returns-in-Ok-clause-windows c = by-name _ _ c.args.link _ _ (λ a b. b.windows ≡ windows_after_repeat a.windows c.args.side c.args.k) (step c) c.in-Ok.ensures.windows

@@ -1,7 +1,7 @@
 use Rattle.std.proofs.Common.{◌≡◌, set}
 use Rattle.link_retry.specs.Link.{Resends}
-use Rattle.link_retry.specs.GoBackN.{after_resend}
-use Rattle.rack_net.specs.Net.{spelled}
+use Rattle.link_retry.specs.SelectiveRepeat.{after_resend}
+use Rattle.rack_net.specs.Net.{spelled, with_windows}
 use Rattle.rack_net.specs.Kept.{net_view}
 use Rattle.rack_net.proofs.Putting.{Updates, updates, by-name}
 use Rattle.rack_net.proofs.nets.Net.resend.Goals as goal
@@ -15,11 +15,14 @@ returns-in-Ok-clause-fifo c = by-name _ _ c.args.link _ _ (λ a b. b.pending ≡
 pub returns-in-Ok-clause-link : goal.returns-in-Ok-clause-link
 returns-in-Ok-clause-link c = by-name _ _ c.args.link _ _ (λ a b. Resends (spelled a) (spelled b)) (step c) c.in-Ok.ensures.link
 
-pub returns-in-Ok-clause-go_back_n : goal.returns-in-Ok-clause-go_back_n
-returns-in-Ok-clause-go_back_n c = by-name _ _ c.args.link _ _ (λ a b. spelled b ≡ after_resend (spelled a)) (step c) c.in-Ok.ensures.go_back_n
+pub returns-in-Ok-clause-selective_repeat : goal.returns-in-Ok-clause-selective_repeat
+returns-in-Ok-clause-selective_repeat c = by-name _ _ c.args.link _ _ (λ a b. spelled b ≡ after_resend (with_windows a)) (step c) c.in-Ok.ensures.selective_repeat
 
 pub returns-in-Ok-clause-only : goal.returns-in-Ok-clause-only
 returns-in-Ok-clause-only c = (step c).only
 
 pub returns-in-Ok-clause-net : goal.returns-in-Ok-clause-net
 returns-in-Ok-clause-net c = (step c).net
+
+pub returns-in-Ok-clause-windows : goal.returns-in-Ok-clause-windows
+returns-in-Ok-clause-windows c = by-name _ _ c.args.link _ _ (λ a b. b.windows ≡ a.windows) (step c) c.in-Ok.ensures.windows

@@ -27,3 +27,6 @@ pub returns-in-Err-Spent-clause-net : goal.returns-in-Err-Spent-clause-net
 returns-in-Err-Spent-clause-net c = is-net _ _ _ (kept-changed _ _ c.self.inside.links.items c.place-at.result c.send_on.new.link c.self.invariant
     (subst IsHeld (sym (c.in-Err-Spent.ensures.unchanged (ap (λ (s : Stop). Err s) c.in-Err-Spent.field-0-is)))
     (held-at c.args.self.now c.self.inside.blades c.self.inside.memories c.self.inside.links.items c.args.link c.place-at.result c.index_mut.result.now c.self.view_is c.self.invariant c.requires.of_net c.place-at.ensures c.index_mut.ensures.value)))
+
+pub returns-in-Ok-clause-windows : goal.returns-in-Ok-clause-windows
+returns-in-Ok-clause-windows c = by-name _ _ c.args.link _ _ (λ a b. b.windows ≡ a.windows) (step c) c.in-Ok.ensures.windows
