@@ -10,6 +10,7 @@ pub mod LawsRuns
 mod LawsSeen
 pub mod LawsSources
 mod LawsSteps
+pub mod RowLemmas
 pub mod Runs
 pub mod Starts
 pub mod Carrying
