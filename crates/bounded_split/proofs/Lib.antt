@@ -1,4 +1,5 @@
 pub mod Merging
 pub mod Splitting
+pub mod Stepping
 pub mod Turning
 pub mod Walking

@@ -1,5 +1,6 @@
 pub mod Epoch
 pub mod Hot
 pub mod Policy
+pub mod Steps
 pub mod Turns
 pub mod Verdict
