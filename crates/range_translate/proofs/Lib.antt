@@ -3,6 +3,8 @@ pub mod BlockOrder
 pub mod HomeSteps
 pub mod Smallest
 pub mod TableFacts
+pub mod OneHome
+pub mod PieceLemmas
 pub mod PieceSteps
 pub mod SmallestLaw
 pub mod FirstInside
