@@ -61,11 +61,11 @@ one-place (s ∷ spans) a b n ea eb = elim (split s spans a n ea) [
 
 -- ---- among the memory blades
 
-record IsAt (k : ℕ) (memory : MemoryPlan) (page : PageView) (home : ℕ × ℕ) : Type 0 where
-  blade : home.0 ≡ k
-  place : number_in_homes memory.homes page ≡ Some home.1
+pub record IsAt (k : ℕ) (memory : MemoryPlan) (page : PageView) (home : ℕ × ℕ) : Type 0 where
+  pub blade : home.0 ≡ k
+  pub place : number_in_homes memory.homes page ≡ Some home.1
 
-at-or-after : (k : ℕ) (memory : MemoryPlan) (memories : List MemoryPlan) (page : PageView) (home : ℕ × ℕ) → home_from k (memory ∷ memories) page ≡ Some home
+pub at-or-after : (k : ℕ) (memory : MemoryPlan) (memories : List MemoryPlan) (page : PageView) (home : ℕ × ℕ) → home_from k (memory ∷ memories) page ≡ Some home
     → IsAt k memory page home ⊎ (home_from (k + 1) memories page ≡ Some home)
 at-or-after k memory memories page home e = by (number_in_homes memory.homes page) refl e where
   by : (o : Option ℕ) → number_in_homes memory.homes page ≡ o → home_step_value k o (home_from (k + 1) memories page) ≡ Some home
@@ -74,7 +74,7 @@ at-or-after k memory memories page home e = by (number_in_homes memory.homes pag
   by (Some n) is e = let same : (k, n) ≡ home = same_Some _ _ e in
       inl (record { blade = ap (λ (h : ℕ × ℕ). h.0) (sym same); place = is ∙ ap (λ (h : ℕ × ℕ). Some h.1) same })
 
-from-on : (k : ℕ) (memories : List MemoryPlan) (page : PageView) (home : ℕ × ℕ) → home_from k memories page ≡ Some home → k ≤ home.0
+pub from-on : (k : ℕ) (memories : List MemoryPlan) (page : PageView) (home : ℕ × ℕ) → home_from k memories page ≡ Some home → k ≤ home.0
 from-on k [] page home e = absurd (none-some home e)
 from-on k (memory ∷ memories) page home e = elim (at-or-after k memory memories page home e) [
   | inl here ↦ omega (arith, here.blade)
