@@ -2,7 +2,7 @@
 use Rattle.std.specs.Prelude.{◌≡◌, ℕ, List, [], ◌∷◌, map, Some, slice_get}
 use Rattle.mind_base.specs.declared.notes.Note.{Note}
 use Rattle.mind_base.specs.declared.notes.Note.TheVariants as note
-use Rattle.region_directory.specs.Directory.{DirectoryView}
+use Rattle.region_directory.specs.Directory.{DirectoryView, IsDirectory}
 use Rattle.region_directory.specs.Entry.{with_hits}
 use Rattle.region_directory.specs.Merge.{merge_of, with_merge}
 use Rattle.region_directory.specs.Split.{split_of, with_split}
@@ -35,6 +35,11 @@ MayStepEach (step ∷ steps) directory = MayStep step directory × MayStepEach s
 abbrev pub after_epoch_steps : List EpochStep → DirectoryView → DirectoryView
 after_epoch_steps [] directory = directory
 after_epoch_steps (step ∷ steps) directory = after_epoch_steps steps (after_epoch_step step directory)
+
+-- each directory on the way is one
+abbrev pub AreDirectories : List EpochStep → DirectoryView → Type 0
+AreDirectories [] directory = IsDirectory directory
+AreDirectories (step ∷ steps) directory = IsDirectory directory × AreDirectories steps (after_epoch_step step directory)
 
 -- the directory with no hits
 abbrev pub without_hits : DirectoryView → DirectoryView
