@@ -54,7 +54,7 @@ both-true true true e = (refl, refl)
 both-true true false e = absurd (cc)
 both-true false y e = absurd (cc)
 
-merged-from : (x y : Bool) (o : Option Entry) (w : Entry) → cond (x && y) o None ≡ Some w → (x ≡ true) × (y ≡ true) × (o ≡ Some w)
+pub merged-from : (x y : Bool) (o : Option Entry) (w : Entry) → cond (x && y) o None ≡ Some w → (x ≡ true) × (y ≡ true) × (o ≡ Some w)
 merged-from true true o w e = (refl, refl, e)
 merged-from true false o w e = absurd (cc)
 merged-from false y o w e = absurd (cc)
@@ -72,7 +72,7 @@ AreKept t (Stays e ∷ ts) = AreKept t ts
 AreKept t (Merges w ∷ ts) = (is_split (judged t w) ≡ false) × AreKept t ts
 AreKept t (Splits e h ∷ ts) = ⊥
 
-are-kept : (t m : ℕ) (o : Option Entry) (es : List Entry) → AreKept t (turns_behind t m o es)
+pub are-kept : (t m : ℕ) (o : Option Entry) (es : List Entry) → AreKept t (turns_behind t m o es)
 are-kept t m None [] = tt
 are-kept t m (Some a) [] = tt
 are-kept t m None (e ∷ es) = are-kept t m (Some e) es

@@ -3,6 +3,7 @@
 ghost use Rattle.std.specs.Prelude.{◌≡◌, ◌+◌, ◌*◌, ◌≤◌, ◌++◌, length, IfOk, OnOk, OnErr};
 ghost use Rattle.region_directory.specs.Directory.{IsDirectory};
 ghost use Rattle.bounded_split.specs.Epoch.{after_epoch, epoch_notes, epoch_turns, merge_notes, split_notes, total_hits};
+ghost use Rattle.bounded_split.specs.Threshold.{threshold_of};
 
 use crate::Policy;
 use crate::merges::merge_all;
@@ -39,15 +40,15 @@ pub fn epoch(
     policy: &Policy,
     log: &mut Log,
 ) -> Result<EpochSums, NoMemory>
-    ensures directory { OnOk result (directory.new ≡ after_epoch policy.now.threshold directory.old) }
+    ensures directory { OnOk result (directory.new ≡ after_epoch (threshold_of policy.now) directory.old) }
     ensures notes { OnOk result
-        (log.new.notes ≡ log.old.notes ++ epoch_notes policy.now.threshold directory.old) }
+        (log.new.notes ≡ log.old.notes ++ epoch_notes (threshold_of policy.now) directory.old) }
     ensures sums { IfOk result (λ sums. sums ≡ record {
-      merges = length (merge_notes (epoch_turns policy.now.threshold directory.old));
-      splits = length (split_notes (epoch_turns policy.now.threshold directory.old));
+      merges = length (merge_notes (epoch_turns (threshold_of policy.now) directory.old));
+      splits = length (split_notes (epoch_turns (threshold_of policy.now) directory.old));
       hits = total_hits directory.old.entries;
     }) }
-    ensures bound { IfOk result (λ sums. sums.splits * (policy.now.threshold + 1) ≤ sums.hits) }
+    ensures bound { IfOk result (λ sums. sums.splits * ((threshold_of policy.now) + 1) ≤ sums.hits) }
     ensures refused { OnErr result ((directory.new ≡ directory.old) × (log.new ≡ log.old)) }
     ensures valid { IsDirectory directory.new }
 {

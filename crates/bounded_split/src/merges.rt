@@ -3,6 +3,7 @@
 ghost use Rattle.std.specs.Prelude.{◌≡◌, ◌+◌, ◌≤◌, ◌<◌, length};
 ghost use Rattle.bounded_split.specs.Epoch.{judged, entries_left, merge_notes, turns_of_merges};
 ghost use Rattle.bounded_split.specs.Turns.{MergesAt, Turned};
+ghost use Rattle.bounded_split.specs.Threshold.{threshold_of};
 
 use crate::{Load, Policy, Verdict};
 use mind_base::{Log, Note};
@@ -10,7 +11,7 @@ use region_directory::{Directory, Entry};
 
 /// The policy's verdict on an entry.
 pub fn judge(policy: &Policy, entry: &Entry) -> Verdict
-    ensures { result ≡ judged policy.now.threshold entry.now }
+    ensures { result ≡ judged (threshold_of policy.now) entry.now }
 {
     policy.verdict(Load {
         log: entry.range.log,
@@ -23,7 +24,7 @@ pub fn judge(policy: &Policy, entry: &Entry) -> Verdict
 fn merge_cold(directory: &mut Directory, policy: &Policy, log: &mut Log, i: u32) -> u32
     requires within { i < length directory.old.entries }
     requires room { 0 < log.old.spare }
-    ensures turned { MergesAt policy.now.threshold i directory.old directory.new log.old log.new result }
+    ensures turned { MergesAt (threshold_of policy.now) i directory.old directory.new log.old log.new result }
     ensures spare { log.old.spare ≤ log.new.spare + result }
 {
     let count = directory.len();
@@ -46,8 +47,8 @@ fn merge_cold(directory: &mut Directory, policy: &Policy, log: &mut Log, i: u32)
 /// is room for a note of each.
 pub fn merge_all(directory: &mut Directory, policy: &Policy, log: &mut Log) -> u32
     requires { length directory.old.entries ≤ log.old.spare }
-    ensures turned { Turned (entries_left (turns_of_merges policy.now.threshold directory.old))
-        (merge_notes (turns_of_merges policy.now.threshold directory.old)) directory.old directory.new log.old log.new result }
+    ensures turned { Turned (entries_left (turns_of_merges (threshold_of policy.now) directory.old))
+        (merge_notes (turns_of_merges (threshold_of policy.now) directory.old)) directory.old directory.new log.old log.new result }
     ensures spare { length directory.new.entries ≤ log.new.spare }
 {
     let mut merges = 0;

@@ -4,6 +4,7 @@ ghost use Rattle.std.specs.Prelude.{◌+◌, ◌≤◌, ◌<◌, length};
 ghost use Rattle.bounded_split.specs.Epoch.{entries_left, split_notes};
 ghost use Rattle.bounded_split.specs.Hot.{hot_turns_in};
 ghost use Rattle.bounded_split.specs.Turns.{SplitsAt, Turned};
+ghost use Rattle.bounded_split.specs.Threshold.{threshold_of};
 
 use crate::merges::judge;
 use crate::{Policy, Verdict};
@@ -15,7 +16,7 @@ use region_directory::Directory;
 fn split_hot(directory: &mut Directory, policy: &Policy, log: &mut Log, i: u32) -> u32
     requires within { i < length directory.old.entries }
     requires room { 0 < log.old.spare }
-    ensures turned { SplitsAt policy.now.threshold i directory.old directory.new log.old log.new result }
+    ensures turned { SplitsAt (threshold_of policy.now) i directory.old directory.new log.old log.new result }
     ensures spare { log.old.spare ≤ log.new.spare + result }
 {
     let entry = directory.entry(i);
@@ -30,8 +31,8 @@ fn split_hot(directory: &mut Directory, policy: &Policy, log: &mut Log, i: u32) 
 /// again. There is room for a note of each.
 pub fn split_all(directory: &mut Directory, policy: &Policy, log: &mut Log) -> u32
     requires { length directory.old.entries ≤ log.old.spare }
-    ensures turned { Turned (entries_left (hot_turns_in policy.now.threshold directory.old))
-        (split_notes (hot_turns_in policy.now.threshold directory.old)) directory.old directory.new log.old log.new result }
+    ensures turned { Turned (entries_left (hot_turns_in (threshold_of policy.now) directory.old))
+        (split_notes (hot_turns_in (threshold_of policy.now) directory.old)) directory.old directory.new log.old log.new result }
 {
     let mut splits = 0;
     let mut i = 0;

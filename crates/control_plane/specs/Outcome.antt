@@ -12,7 +12,7 @@ use Rattle.mind_base.specs.declared.commands.Outcome.{Outcome}
 use Rattle.mind_base.specs.declared.commands.Outcome.TheVariants.{Fine, Unplaced, Overlap, Unmapped, Slots}
 use Rattle.mind_base.specs.declared.plans.MapPlan.{MapPlan}
 use Rattle.mind_base.specs.declared.plans.MemoryPlan.{MemoryPlan}
-use Rattle.protect_table.specs.Protect.{changed}
+use Rattle.protect_table.specs.Protect.{ProtectView, changed, span_set}
 
 -- whether each page of a run passes a test
 abbrev pub all_in : SpanView → (PageView → Bool) → Bool
@@ -53,6 +53,14 @@ permissions_with (Some setting) permissions = changed permissions setting.span s
 
 abbrev pub permissions_after : Command → (PageView → Perm) → PageView → Perm
 permissions_after command permissions = permissions_with (setting_of command) permissions
+
+-- the table of permissions after an accepted command
+abbrev pub protect_with : Option MapPlan → ProtectView → ProtectView
+protect_with None table = table
+protect_with (Some setting) table = span_set table setting.span setting.perm
+
+abbrev pub protect_after : Command → ProtectView → ProtectView
+protect_after command table = protect_with (setting_of command) table
 
 -- why a command is refused, whatever slots there are: pages that are to be mapped have homes and no permission, and
 -- those of an unmap or a protect have one

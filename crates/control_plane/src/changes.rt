@@ -4,8 +4,8 @@ ghost use Rattle.std.specs.Prelude.{◌≡◌, ◌≤◌, OnOk, OnErr};
 ghost use Rattle.std.specs.List.{list_any};
 ghost use Rattle.mind_base.specs.Span.{in_span};
 ghost use Rattle.mind_base.specs.Cover.{cover_of};
-ghost use Rattle.protect_table.specs.Protect.{permission_at, changed};
-ghost use Rattle.control_plane.specs.Outcome.{are_placed, are_mapped, are_unmapped, outcome_in, IsChange, setting_of, refusal_of, refusal_of_unmapped, permissions_after, outcome_of};
+ghost use Rattle.protect_table.specs.Protect.{permission_at, changed, span_set};
+ghost use Rattle.control_plane.specs.Outcome.{are_placed, are_mapped, are_unmapped, outcome_in, IsChange, setting_of, refusal_of, refusal_of_unmapped, permissions_after, protect_after, outcome_of};
 
 use mind_base::{Command, MapPlan, MemoryPlan, NoMemory, Outcome, Page, Perm, Span};
 use protect_table::{Protect, SetRefusal};
@@ -33,6 +33,7 @@ pub fn apply(command: &Command, protect: &mut Protect) -> Result<(), NoMemory>
     requires change { IsChange command.now }
     requires room { cover_of (permissions_after command.now (permission_at protect.old)) ≤ protect.old.slots }
     ensures ok { OnOk result (permission_at protect.new ≡ permissions_after command.now (permission_at protect.old)) }
+    ensures exact { OnOk result (protect.new ≡ protect_after command.now protect.old) }
     ensures slots { protect.new.slots ≡ protect.old.slots }
     ensures refused { OnErr result (protect.new ≡ protect.old) }
 {
@@ -97,6 +98,7 @@ fn refusal_of_unmapped(protect: &Protect, span: &Span) -> Option<Outcome>
 fn set(protect: &mut Protect, span: &Span, perm: Perm) -> Result<(), NoMemory>
     requires { cover_of (changed (permission_at protect.old) span.now perm) ≤ protect.old.slots }
     ensures ok { OnOk result (permission_at protect.new ≡ changed (permission_at protect.old) span.now perm) }
+    ensures exact { OnOk result (protect.new ≡ span_set protect.old span.now perm) }
     ensures slots { protect.new.slots ≡ protect.old.slots }
     ensures refused { OnErr result (protect.new ≡ protect.old) }
 {

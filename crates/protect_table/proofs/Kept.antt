@@ -25,7 +25,7 @@ module _ (slots kept : ℕ) (items : List Block) (span : SpanView) (perm : Perm)
       cover-step slots kept (map block_view items) span perm before after h there fits (b ∙ ap blocks_in e) (a ∙ ap (λ x. blocks_in (block_set 20 x span.base (span.base + span.pages) perm)) e)
 
   -- the domains with the changed block
-  set-read : (next : Block) → block_view next ≡ block_set 20 (block_view block) span.base (span.base + span.pages) perm → map block_view (set items span.domain next) ≡ set (map block_view items) span.domain (domain_with (map block_view items) span perm)
+  pub set-read : (next : Block) → block_view next ≡ block_set 20 (block_view block) span.base (span.base + span.pages) perm → map block_view (set items span.domain next) ≡ set (map block_view items) span.domain (domain_with (map block_view items) span perm)
   set-read next e =
       let r = view_of-read items span.domain block h.count there read in
       map-set block_view items span.domain next ∙ ap (set (map block_view items) span.domain) (e ∙ ap (λ x. block_set 20 x span.base (span.base + span.pages) perm) r)

@@ -1,11 +1,11 @@
 -- Tables of permissions, and the first page of a run that has one.
-use Rattle.std.specs.Prelude.{◌≡◌, ℕ, ◌<◌, ◌≤◌, ◌^◌, nat_lt, List, length, sum_by, slice_index_or, Option, Some, None, refl, if◌then◌else◌}
+use Rattle.std.specs.Prelude.{◌≡◌, ℕ, ◌+◌, ◌<◌, ◌≤◌, ◌^◌, nat_lt, List, length, sum_by, slice_index_or, slice_set, Option, Some, None, refl, if◌then◌else◌}
 use Rattle.std.specs.Coded.{Coded, code_by, coded×, coded_list, coded_ℕ}
 use Rattle.mind_base.specs.Page.{PageView}
 use Rattle.mind_base.specs.Span.{SpanView, InSpan, in_span}
 use Rattle.mind_base.specs.declared.commands.Perm.{Perm}
 use Rattle.mind_base.specs.declared.commands.Perm.TheVariants.{No}
-use Rattle.protect_table.specs.Block.{BlockView, whole, permission_in, blocks_in, IsHalved}
+use Rattle.protect_table.specs.Block.{BlockView, whole, permission_in, blocks_in, IsHalved, block_set}
 use Rattle.protect_table.specs.BlockCode.{block_code}
 
 -- a table: how many blocks it may need, and the permissions of each domain as a block of 2 ^ 20 pages
@@ -29,6 +29,13 @@ permission_at table page = permission_among table.domains page
 -- these permissions, but for a run of pages that have this one
 abbrev pub changed : (PageView → Perm) → SpanView → Perm → PageView → Perm
 changed permissions span perm page = if in_span span page then perm else permissions page
+
+-- the table in which a run of pages is set to a permission: the block of its domain alone is another
+abbrev pub span_set : ProtectView → SpanView → Perm → ProtectView
+span_set table span perm = record table {
+  domains = slice_set table.domains span.domain
+      (block_set 20 (slice_index_or table.domains span.domain (whole No)) span.base (span.base + span.pages) perm);
+}
 
 -- a table keeps 16 domains in as few blocks as there can be, counts those that are not of permission none, and has a slot for each
 pub record IsProtect (slots cover : ℕ) (domains : List BlockView) : Type 0 where

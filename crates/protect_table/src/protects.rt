@@ -6,7 +6,7 @@ ghost use Rattle.mind_base.specs.Permission.{permission_of};
 ghost use Rattle.mind_base.specs.declared.commands.Perm.TheVariants.{No};
 ghost use Rattle.mind_base.specs.Cover.{cover_of};
 ghost use Rattle.protect_table.specs.Block.{is_sought, whole, block_view, IsHalved};
-ghost use Rattle.protect_table.specs.Protect.{permission_at, changed, FirstPage};
+ghost use Rattle.protect_table.specs.Protect.{permission_at, changed, span_set, FirstPage};
 
 use crate::blocks::{Block, Sought};
 use mind_base::{MapPlan, NoMemory, Page, Perm, Span};
@@ -115,6 +115,7 @@ impl Protect {
     /// Sets the run of pages to the permission. A refused call leaves the table as it was.
     pub fn set(&mut self, span: &Span, perm: Perm) -> Result<(), SetRefusal>
         ensures ok { OnOk result (permission_at self.new ≡ changed (permission_at self.old) span.now perm) }
+        ensures exact { OnOk result (self.new ≡ span_set self.old span.now perm) }
         ensures slots { self.new.slots ≡ self.old.slots }
         ensures full { (result ≡ Err SetRefusal.Slots)
             ↔ (self.old.slots < cover_of (changed (permission_at self.old) span.now perm)) }
@@ -132,6 +133,7 @@ impl Protect {
     fn put(&mut self, span: &Span, perm: Perm) -> Result<(), NoMemory>
         requires { cover_of (changed (permission_at self.old) span.now perm) ≤ self.old.slots }
         ensures ok { OnOk result (permission_at self.new ≡ changed (permission_at self.old) span.now perm) }
+        ensures exact { OnOk result (self.new ≡ span_set self.old span.now perm) }
         ensures slots { self.new.slots ≡ self.old.slots }
         ensures refused { OnErr result (self.new ≡ self.old) }
     {

@@ -5,6 +5,7 @@ pub mod Kept
 pub mod Nested
 pub mod Onward
 pub mod PageSteps
+pub mod PlacesApart
 pub mod PlanFacts
 pub mod Pools
 pub mod Removing

@@ -161,7 +161,7 @@ pub record CanGive (pools : List PoolView) (memory first log : ℕ) : Type 0 whe
   pub taken : (page : ℕ) → InRun log first page → IsFreeAt pools memory page → ⊥
 
 -- the pages that an outlier's run has
-to_lies : (memory m first page size : ℕ) → memory ≡ m → first ≤ page → page < first + size → (memory == m && nat_le first page && nat_lt page (first + size)) ≡ true
+pub to_lies : (memory m first page size : ℕ) → memory ≡ m → first ≤ page → page < first + size → (memory == m && nat_le first page && nat_lt page (first + size)) ≡ true
 to_lies memory m first page size e a b = grind (arith, nat_tests)
 
 from_lies : (memory m first page size : ℕ) → (memory == m && nat_le first page && nat_lt page (first + size)) ≡ true → (memory ≡ m) × ((first ≤ page) × (page < first + size))

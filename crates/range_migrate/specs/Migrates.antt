@@ -58,3 +58,12 @@ Reached homes slots (migrate ∷ earlier) outliers pools =
 -- a table and pools that can stand after some migrates
 abbrev pub AreReached : TableView → List PoolView → Type 0
 AreReached table pools = (migrates : List Migrate) × Reached table.homes table.slots migrates table.outliers pools
+
+-- a move was planned after these migrates, of a block to a memory blade: the pools are as the plan left them
+pub record IsPlanned (table : TableView) (pools : List PoolView) (migrates : List Migrate) (range : RangeView) (memory : ℕ) (move : Move) : Type 0 where
+  pub before : List PoolView
+  pub reached : Reached table.homes table.slots migrates table.outliers before
+  pub block : IsRange range.domain range.base range.log
+  pub there : memory < length table.homes
+  pub planned : Plans table before range memory (Ok move)
+  pub taken : Takes before (Ok move) pools

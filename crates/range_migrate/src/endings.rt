@@ -1,12 +1,13 @@
 //! The end of a move: the table and the pools that it leaves.
 
-ghost use Rattle.std.specs.Prelude.{◌≡◌, ℕ, ◌≤◌, ◌^◌, ◌↔◌, ◌⊎◌, Some, filter, not, Contains, IsTrue};
-ghost use Rattle.mind_base.specs.Range.{same_range};
+ghost use Rattle.std.specs.Prelude.{◌≡◌, ℕ, ◌≤◌, ◌^◌, ◌↔◌, ◌⊎◌, ◌∷◌, List, Some, filter, not, Contains, IsTrue};
+ghost use Rattle.mind_base.specs.Range.{RangeView, same_range};
 ghost use Rattle.range_translate.specs.Place.{FitsOutlier};
 ghost use Rattle.range_translate.specs.Table.{IsTable};
 ghost use Rattle.range_migrate.specs.Run.{ArePools, AreRuns, FitsRun, IsFreeAt, first_spare_of, has_spare_page};
 ghost use Rattle.range_migrate.specs.Plan.{outside};
 ghost use Rattle.range_migrate.specs.Ending.{FitsSpare, IsUnderWay, Frees, outlier_of, table_after};
+ghost use Rattle.range_migrate.specs.Migrates.{Migrate, Reached, IsPlanned};
 
 use crate::Move;
 use crate::runs::give_run;
@@ -15,8 +16,24 @@ use range_translate::{Outlier, Table};
 use spare_pool::Pool;
 
 /// Ends a move whose pages were all copied: the moved blocks inside its block are removed and their
-/// runs become free, and then its own run, if it has one, is entered. It takes no memory.
+/// runs become free, and then its own run, if it has one, is entered. It takes no memory. The move is
+/// one migrate more after those that led to its plan.
 pub fn finish(step: Move, table: &mut Table, pools: &mut Vec<Pool>)
+    requires under_way { IsUnderWay table.old pools.old.items step }
+    requires copied { 2 ^ step.range.log ≤ step.next }
+    ensures table { table.new ≡ table_after step table.old }
+    ensures freed { Frees table.old.homes step.range table.old.outliers pools.old.items pools.new.items }
+    ensures pools { ArePools table.old.homes pools.new.items }
+    ensures runs { AreRuns table.old.homes table.new.outliers pools.new.items }
+    ensures reached { (migrates : List Migrate) (range : RangeView) (memory : ℕ) (planned : Move)
+        → IsPlanned table.old pools.old.items migrates range memory planned → step ≡ record planned { next = step.next }
+        → Reached table.new.homes table.new.slots (record { range = range; memory = memory; result = Ok planned } ∷ migrates) table.new.outliers pools.new.items }
+    ensures valid { IsTable table.new }
+{
+    end_move(step, table, pools);
+}
+
+fn end_move(step: Move, table: &mut Table, pools: &mut Vec<Pool>)
     requires under_way { IsUnderWay table.old pools.old.items step }
     requires copied { 2 ^ step.range.log ≤ step.next }
     ensures table { table.new ≡ table_after step table.old }

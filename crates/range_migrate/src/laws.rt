@@ -1,12 +1,12 @@
-//! The law of accepted moves: a function that does nothing, with the law as clauses.
+//! The laws of accepted moves and of places: functions that do nothing, with the laws as clauses.
 
-ghost use Rattle.std.specs.Prelude.{◌≡◌, ◌↔◌, ℕ, List, [], Result, map};
+ghost use Rattle.std.specs.Prelude.{◌≡◌, ◌↔◌, ℕ, List, [], Result, Some, map};
 ghost use Rattle.mind_base.specs.Page.{PageView};
 ghost use Rattle.mind_base.specs.Range.{RangeView};
 ghost use Rattle.mind_base.specs.declared.commands.Outcome.{Outcome as Refusal};
 ghost use Rattle.mind_base.specs.declared.plans.MemoryPlan.{MemoryPlan};
 ghost use Rattle.range_translate.specs.Place.{physical_place};
-ghost use Rattle.range_translate.specs.Table.{IsTable};
+ghost use Rattle.range_translate.specs.Table.{TableView, IsTable};
 ghost use Rattle.range_translate.specs.declared.outliers.Outlier.{Outlier};
 ghost use Rattle.spare_pool.specs.Pool.{PoolView, all_free};
 ghost use Rattle.range_migrate.specs.Run.{IsFreeAt, ArePools, AreRuns};
@@ -37,4 +37,13 @@ pub fn accepted_moves_decide()
         → Reached homes slots migrates outliers pools → ArePools homes pools }
     ensures runs { (homes : List MemoryPlan) (slots : ℕ) (migrates : List Migrate) (outliers : List Outlier) (pools : List PoolView)
         → Reached homes slots migrates outliers pools → AreRuns homes outliers pools }
+{}
+
+/// No two pages lie at one place, where each moved block has a run of its own among the spare pages: homes
+/// are apart, runs are apart, and no run has a home page.
+pub fn places_are_apart()
+    ensures apart { (table : TableView) (pools : List PoolView) (a b : PageView) (place : ℕ × ℕ)
+        → IsTable table → AreRuns table.homes table.outliers pools
+        → physical_place table.homes table.outliers a ≡ Some place → physical_place table.homes table.outliers b ≡ Some place
+        → a ≡ b }
 {}

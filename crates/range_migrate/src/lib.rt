@@ -12,7 +12,7 @@ mod runs;
 
 pub use copies::next_copy;
 pub use endings::finish;
-pub use laws::accepted_moves_decide;
+pub use laws::{accepted_moves_decide, places_are_apart};
 pub use migrates::migrate;
 pub use moves::{Copy1, Move};
 pub use plans::plan;

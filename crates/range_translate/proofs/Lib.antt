@@ -3,6 +3,8 @@ pub mod BlockOrder
 pub mod Callers
 pub mod FirstInside
 pub mod HomeSteps
+pub mod OneHome
+pub mod PieceLemmas
 pub mod PieceSteps
 pub mod Smallest
 pub mod SmallestLaw

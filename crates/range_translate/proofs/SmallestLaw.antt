@@ -41,7 +41,7 @@ same_range a b page ia ib e ha hb =
     range_by_parts a b (sym ha.domain ∙ hb.domain) (same_base a.log ia.2 a.base b.base page.number ia.3 align ha.from ha.below hb.from below) e
 
 -- the first of the outliers, or one of the rest
-first_or_rest : (x : Outlier) (xs : List Outlier) (o : Outlier) → Contains (x ∷ xs) o → (x ≡ o) ⊎ Contains xs o
+pub first_or_rest : (x : Outlier) (xs : List Outlier) (o : Outlier) → Contains (x ∷ xs) o → (x ≡ o) ⊎ Contains xs o
 first_or_rest x xs o (zero, l, e) = inl e
 first_or_rest x xs o (suc k, l, e) = inr (k, omega (arith, l), e)
 

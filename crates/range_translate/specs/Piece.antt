@@ -1,6 +1,6 @@
 -- Runs of pages whose places follow one another.
-use Rattle.std.specs.Prelude.{◌≡◌, ℕ, ◌+◌, ◌<◌, List, [], ◌∷◌, map}
-use Rattle.std.specs.List.{range_with_len}
+use Rattle.std.specs.Prelude.{◌≡◌, ℕ, ◌+◌, ◌<◌, ◌&&◌, ◌==◌, List, [], ◌∷◌, map, Option, if◌then◌else◌}
+use Rattle.std.specs.List.{range_with_len, filter_map}
 use Rattle.mind_base.specs.Page.{PageView}
 use Rattle.mind_base.specs.Span.{SpanView}
 use Rattle.range_translate.specs.declared.outliers.Piece.{Piece}
@@ -26,3 +26,20 @@ IsLast p (q ∷ qs) = Follows p q → ⊥
 abbrev pub AreLongest : List Piece → Type 0
 AreLongest [] = Unit {0}
 AreLongest (p ∷ ps) = (0 < p.pages) × IsLast p ps × AreLongest ps
+
+-- one place more in front: the first piece is longer by it where it goes on there
+abbrev pub with_place : ℕ × ℕ → List Piece → List Piece
+with_place place [] = record { memory = place.0; first = place.1; pages = 1 } ∷ []
+with_place place (p ∷ ps) =
+    if place.0 == p.memory && place.1 + 1 == p.first
+    then record { memory = place.0; first = place.1; pages = p.pages + 1 } ∷ ps
+    else record { memory = place.0; first = place.1; pages = 1 } ∷ p ∷ ps
+
+-- the pieces that places make, one after another
+abbrev pub pieces_from : List (ℕ × ℕ) → List Piece
+pieces_from [] = []
+pieces_from (place ∷ places) = with_place place (pieces_from places)
+
+-- the pieces of a run of pages that lie where this says
+abbrev pub pieces_of : (PageView → Option (ℕ × ℕ)) → SpanView → List Piece
+pieces_of place span = pieces_from (filter_map place (pages_in span))

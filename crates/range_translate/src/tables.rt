@@ -9,7 +9,7 @@ ghost use Rattle.range_translate.specs.Place.{pages_of, physical_place};
 ghost use Rattle.mind_base.specs.Page.{PageView};
 ghost use Rattle.mind_base.specs.Span.{InSpan};
 ghost use Rattle.mind_base.specs.Range.{same_range};
-ghost use Rattle.range_translate.specs.Piece.{pages_in, places_in, AreLongest};
+ghost use Rattle.range_translate.specs.Piece.{pages_in, places_in, pieces_of, AreLongest};
 ghost use Rattle.range_translate.specs.Order.{put_in_order};
 ghost use Rattle.range_translate.specs.Table.{IsTable};
 
@@ -165,6 +165,10 @@ impl Table {
         ensures places { IfOk result (λ pieces. map Some (flat_map places_in pieces.items)
             ≡ map (physical_place self.now.homes self.now.outliers) (pages_in span.now)) }
         ensures longest { IfOk result (λ pieces. AreLongest pieces.items) }
+        ensures exact { IfOk result (λ pieces. pieces.items
+            ≡ pieces_of (physical_place self.now.homes self.now.outliers) span.now) }
+        ensures few { IfOk result (λ pieces. length pieces.items ≤ span.now.pages) }
+        ensures short { IfOk result (λ pieces. All (λ piece. (0 < piece.pages) × (piece.pages ≤ span.now.pages)) pieces.items) }
     {
         let mut found = Vec::new(self.alloc);
         for i in 0..span.pages {

@@ -15,6 +15,7 @@ pub mod LawsOwnStores
 pub mod LawsRuns
 pub mod LawsSources
 pub mod Marking
+pub mod RowLemmas
 pub mod Runs
 pub mod Starts
 pub mod Threads

@@ -1,12 +1,12 @@
 -- Which command is taken next, whether a buffered store holds it up, and what it does.
-use Rattle.std.specs.Prelude.{ℕ, suc, Bool, true, false, ◌==◌, ◌&&◌, ◌||◌, not, List, [], ◌∷◌, ◌++◌, map, slice_get, Option, Some, None, is_some, option_and_then, if◌then◌else◌}
+use Rattle.std.specs.Prelude.{ℕ, suc, ◌^◌, Bool, true, false, ◌==◌, ◌&&◌, ◌||◌, not, List, [], ◌∷◌, ◌++◌, map, slice_get, Option, Some, None, is_some, option_and_then, if◌then◌else◌}
 use Rattle.std.specs.List.{list_any}
 use Rattle.control_plane.specs.Outcome.{setting_of, outcome_of}
 use Rattle.mind_base.specs.Pending.{PendingView}
 use Rattle.mind_base.specs.Permission.{permission_of}
 use Rattle.mind_base.specs.Span.{SpanView, in_span}
 use Rattle.mind_base.specs.declared.commands.Command.{Command}
-use Rattle.mind_base.specs.declared.commands.Command.TheVariants.{Map, Unmap}
+use Rattle.mind_base.specs.declared.commands.Command.TheVariants.{Map, Unmap, Protect, Migrate}
 use Rattle.mind_base.specs.declared.commands.Outcome.{Outcome}
 use Rattle.mind_base.specs.declared.commands.Outcome.TheVariants as outcome
 use Rattle.mind_base.specs.declared.plans.MapPlan.{MapPlan}
@@ -35,6 +35,13 @@ next_from n (command ∷ commands) taken =
 -- the number of the command that is next: the least one of a map, unmap or protect that is not taken yet
 abbrev pub next_command : List Command → List Taken → Option ℕ
 next_command commands taken = next_from 0 commands taken
+
+-- the pages that a command is about
+abbrev pub command_span : Command → SpanView
+command_span (Map span perm) = span
+command_span (Unmap span) = span
+command_span (Protect span perm) = span
+command_span (Migrate range memory) = record { domain = range.domain; base = range.base; pages = 2 ^ range.log }
 
 -- ---- what holds it up
 

@@ -6,6 +6,7 @@ pub mod Memory
 pub mod Orders
 pub mod Queue
 pub mod Replay
+pub mod Rows
 pub mod Scheduled
 pub mod State
 pub mod Step

@@ -1,7 +1,8 @@
-use Rattle.std.proofs.Common.{◌≡◌, ℕ, ◌+◌, Option, Some, ap, sym, ◌∙◌}
+use Rattle.std.proofs.Common.{◌≡◌, ℕ, ◌+◌, Option, Some, ap, sym, ◌∙◌, arith}
 use Rattle.mind_base.specs.Page.{PageView}
 use Rattle.mind_base.specs.Span.{SpanView}
 use Rattle.range_translate.specs.Place.{physical_place}
+use Rattle.range_translate.proofs.PieceLemmas.{all-seen, exactly, few, short}
 use Rattle.range_translate.proofs.PieceSteps.{one_page_more}
 use Rattle.range_translate.proofs.tables.Table.pieces.Goals as goal
 
@@ -19,3 +20,24 @@ loop-i-preserved c =
       places = one_page_more place span.domain span.base c.loop-i.i c.in-Some.memory c.in-Some.number _ _ c.loop-i.invariant.places c.in_ok-add_place.ensures.places here;
       longest = c.in_ok-add_place.ensures.longest;
     }
+
+pub returns-clause-exact : goal.returns-clause-exact
+returns-clause-exact c =
+    let place : PageView → Option (ℕ × ℕ) = physical_place c.args.self.now.homes c.args.self.now.outliers in
+    let pages : c.span.inside.pages ≡ c.args.span.now.pages = ap (λ (s : SpanView). s.pages) c.span.view_is in
+    let all : c.loop-i.i ≡ c.args.span.now.pages = omega (arith, pages, c.loop-i.auto.i-end, c.loop-i-test.false) in
+    exactly place c.args.span.now c.loop-i.found.items (all-seen place c.args.span.now c.loop-i.i c.loop-i.found.items c.loop-i.invariant.places all) c.loop-i.invariant.longest
+
+pub returns-clause-few : goal.returns-clause-few
+returns-clause-few c =
+    let place : PageView → Option (ℕ × ℕ) = physical_place c.args.self.now.homes c.args.self.now.outliers in
+    let pages : c.span.inside.pages ≡ c.args.span.now.pages = ap (λ (s : SpanView). s.pages) c.span.view_is in
+    let all : c.loop-i.i ≡ c.args.span.now.pages = omega (arith, pages, c.loop-i.auto.i-end, c.loop-i-test.false) in
+    few place c.args.span.now c.loop-i.found.items (all-seen place c.args.span.now c.loop-i.i c.loop-i.found.items c.loop-i.invariant.places all) c.loop-i.invariant.longest
+
+pub returns-clause-short : goal.returns-clause-short
+returns-clause-short c =
+    let place : PageView → Option (ℕ × ℕ) = physical_place c.args.self.now.homes c.args.self.now.outliers in
+    let pages : c.span.inside.pages ≡ c.args.span.now.pages = ap (λ (s : SpanView). s.pages) c.span.view_is in
+    let all : c.loop-i.i ≡ c.args.span.now.pages = omega (arith, pages, c.loop-i.auto.i-end, c.loop-i-test.false) in
+    short place c.args.span.now c.loop-i.found.items (all-seen place c.args.span.now c.loop-i.i c.loop-i.found.items c.loop-i.invariant.places all) c.loop-i.invariant.longest
