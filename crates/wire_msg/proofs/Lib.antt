@@ -1,4 +1,5 @@
 pub mod Fields
+pub mod GranuleSteps
 pub mod Images
 pub mod KindLaws
 pub mod Messages
