@@ -1,1 +1,2 @@
 pub mod MemoryBlade
+pub mod Stored

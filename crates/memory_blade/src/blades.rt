@@ -5,7 +5,7 @@ ghost use Rattle.page_image.specs.PageImage.{IsPageImage, zero_image};
 ghost use Rattle.wire_msg.specs.WellFormed.{IsWellFormed};
 ghost use Rattle.memory_blade.specs.MemoryBlade.{IsFor, image_at, with_zeros, answer_to, images_after};
 
-use crate::zeros::make_zero;
+use crate::zeros::{Stored, make_zero};
 use mind_base::NoMemory;
 use page_image::PageImage;
 use std::alloc::Global;
@@ -13,22 +13,24 @@ use std::marker::Model;
 use wire_msg::Msg;
 
 /// The pages of a memory blade. Contracts see it as the list of their images, by physical numbers
-/// from 0 on. After `NoMemory` a blade is only to be dropped.
+/// from 0 on. A page that was not written has no image in memory. After `NoMemory` a blade is only to
+/// be dropped.
 #[derive(Debug, Drop)]
 pub struct MemoryBlade {
     alloc: Global,
-    images: Vec<PageImage>,
+    images: Vec<Stored>,
 }
 
 impl Model for MemoryBlade {
     ghost use Rattle.std.specs.Prelude.{List, All};
     ghost use Rattle.page_image.specs.PageImage.{PageImageView, IsPageImage};
+    ghost use Rattle.memory_blade.specs.Stored.{images_in};
 
     ghost Value = { List PageImageView };
 
-    ghost view = { λ b. b.images.items };
+    ghost view = { λ b. images_in b.images.items };
 
-    ghost invariant = { λ b. All IsPageImage b.images.items };
+    ghost invariant = { λ b. All IsPageImage (images_in b.images.items) };
 }
 
 impl MemoryBlade {
@@ -39,7 +41,7 @@ impl MemoryBlade {
     {
         let mut images = Vec::with_capacity(alloc, pages as usize)?;
         for _ in 0..pages {
-            images.push(PageImage::zero(alloc)?)?;
+            images.push(None)?;
         }
         Ok(MemoryBlade { alloc, images })
     }
@@ -62,11 +64,11 @@ impl MemoryBlade {
                 Ok(Some(Msg::Image { blade, page, image }))
             }
             Msg::Write { phys, image } => {
-                self.write(phys, image);
+                self.write(phys, image)?;
                 Ok(None)
             }
             Msg::Zero { phys, pages } => {
-                self.zero(phys, pages)?;
+                self.zero(phys, pages);
                 Ok(None)
             }
             _ => unreachable!(),
@@ -80,27 +82,33 @@ impl MemoryBlade {
         ensures shape { IfOk result (λ image. IsPageImage image) }
         ensures all { All IsPageImage self.now }
     {
-        self.images[phys as usize].copy()
+        match &self.images[phys as usize] {
+            Some(image) => image.copy(),
+            None => PageImage::zero(self.alloc),
+        }
     }
 
     /// Puts an image in the place of a page's.
-    fn write(&mut self, phys: u32, image: PageImage)
+    fn write(&mut self, phys: u32, image: PageImage) -> Result<(), NoMemory>
         requires { phys < length self.old }
-        ensures after { self.new ≡ slice_set self.old phys image }
+        ensures after { OnOk result (self.new ≡ slice_set self.old phys image) }
+        ensures length { length self.new ≡ length self.old }
         ensures shape { All IsPageImage self.new }
     {
         // An image that is asked tells that it is one.
         let _tag = image.tag(0);
-        self.images[phys as usize] = image;
+        let stored = Box::new(self.alloc, image)?;
+        self.images[phys as usize] = Some(stored);
+        Ok(())
     }
 
     /// Makes so many pages zero, from a page on.
-    fn zero(&mut self, phys: u32, pages: u32) -> Result<(), NoMemory>
+    fn zero(&mut self, phys: u32, pages: u32)
         requires { phys + pages ≤ length self.old }
-        ensures after { OnOk result (self.new ≡ with_zeros self.old phys pages) }
+        ensures after { self.new ≡ with_zeros self.old phys pages }
         ensures length { length self.new ≡ length self.old }
         ensures shape { All IsPageImage self.new }
     {
-        make_zero(self.alloc, &mut self.images, phys as usize, pages as usize)
+        make_zero(&mut self.images, phys as usize, pages as usize)
     }
 }

@@ -47,6 +47,32 @@ impl PageImage {
         Ok(PageImage { bytes, tags })
     }
 
+    /// The image of 4096 bytes and 64 tags. Takes no memory.
+    pub fn from_parts(bytes: Vec<u8>, tags: Vec<u64>) -> PageImage
+        requires bytes { length bytes.items ≡ 4096 }
+        requires tags { length tags.items ≡ 64 }
+        ensures parts { result ≡ record { bytes = bytes.items; tags = tags.items } }
+        ensures shape { IsPageImage result }
+    {
+        PageImage { bytes, tags }
+    }
+
+    /// The 4096 bytes.
+    pub fn bytes(&self) -> &[u8]
+        ensures bytes { result.now ≡ self.now.bytes }
+        ensures shape { IsPageImage self.now }
+    {
+        self.bytes.as_slice()
+    }
+
+    /// The 64 tags, that of the first granule first.
+    pub fn tags(&self) -> &[u64]
+        ensures tags { result.now ≡ self.now.tags }
+        ensures shape { IsPageImage self.now }
+    {
+        self.tags.as_slice()
+    }
+
     /// The number in `size` bytes, 1, 2 or 4, from the byte `offset` on, the lowest byte first. It is
     /// not extended by a sign. `offset` is a multiple of the size, below 4096.
     pub fn load(&self, offset: u32, size: u8) -> u32

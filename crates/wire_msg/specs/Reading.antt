@@ -1,5 +1,5 @@
 -- Reading from left to right. A reader gives what stands at the front of the bytes, and the bytes after it.
-use Rattle.std.specs.Prelude.{◌≡◌, ℕ, zero, suc, ◌+◌, ◌/◌, ◌%◌, ◌^◌, Bool, true, false, ◌&&◌, ◌==◌, nat_lt, nat_le, List, [], ◌∷◌, length, take, drop, Option, Some, None, option_and_then, option_map, Result, Ok, Err, if◌then◌else◌}
+use Rattle.std.specs.Prelude.{◌≡◌, ℕ, zero, suc, ◌+◌, ◌/◌, ◌%◌, ◌^◌, Bool, true, false, ◌&&◌, not, ◌==◌, nat_lt, nat_le, List, [], ◌∷◌, ◌++◌, replicate, length, take, drop, Option, Some, None, option_and_then, option_map, Result, Ok, Err, if◌then◌else◌}
 use Rattle.std.specs.Int.{w64, from_be_bytes}
 use Rattle.byteorder.specs.Endian.{big_number}
 use Rattle.mind_base.specs.Page.{PageView}
@@ -10,6 +10,7 @@ use Rattle.mind_base.specs.declared.commands.Perm.TheVariants.{R, Rw}
 use Rattle.page_image.specs.PageImage.{PageImageView}
 use Rattle.wire_msg.specs.declared.msgs.Msg.{Msg}
 use Rattle.wire_msg.specs.declared.msgs.Msg.TheVariants.{Get, Fill, Deny, Back, Inv, Lower, Ack, Close, Closed, Reopen, Read, Image, Write, Zero}
+use Rattle.wire_msg.specs.Spelling.{is_blank}
 use Rattle.wire_msg.specs.declared.refusals.WireRefusal.{WireRefusal}
 use Rattle.wire_msg.specs.declared.refusals.WireRefusal.TheVariants.{BadFrame, NoMemory}
 
@@ -97,13 +98,26 @@ fill_of b =
 unfoldable pub blade_of : ℕ → Option (Option ℕ)
 blade_of b = if nat_lt b 8 then Some (Some b) else (if b == 255 then Some None else None)
 
--- so many numbers of 8 bytes, the highest byte first
-unfoldable pub tags_from : ℕ → List ℕ → List ℕ
-tags_from zero bytes = []
-tags_from (suc n) bytes = from_be_bytes w64 (take 8 bytes) ∷ tags_from n (drop 8 bytes)
+-- a number of 8 bytes, the highest first
+unfoldable pub long_read : List ℕ → Option (ℕ × List ℕ)
+long_read = made_read (bytes_read 8) (λ run. from_be_bytes w64 run)
 
-unfoldable pub image_from : List ℕ → PageImageView
-image_from bytes = record { bytes = take 4096 bytes; tags = tags_from 64 (drop 4096 bytes) }
+-- a granule that is spelled: 64 bytes and a tag, which are not all zero
+unfoldable pub spelled_read : List ℕ → Option ((List ℕ × ℕ) × List ℕ)
+spelled_read = where_read (then_read (bytes_read 64) long_read) (λ granule. not (is_blank granule.0 granule.1))
+
+-- a granule: spelled where its bit is set, else zero
+unfoldable pub granule_read : Bool → List ℕ → Option ((List ℕ × ℕ) × List ℕ)
+granule_read false bytes = Some ((replicate 64 0, 0), bytes)
+granule_read true bytes = spelled_read bytes
+
+-- so many granules, by the bits of a mask, the lowest first: the bytes of all, and the tags of all
+unfoldable pub granules_read : ℕ → ℕ → List ℕ → Option ((List ℕ × List ℕ) × List ℕ)
+granules_read zero mask bytes = Some (([], []), bytes)
+granules_read (suc n) mask bytes = do
+  granule ← granule_read (mask % 2 == 1) bytes
+  others ← granules_read n (mask / 2) granule.1
+  Some ((granule.0.0 ++ others.0.0, granule.0.1 ∷ others.0.1), others.1)
 
 unfoldable pub page_read : List ℕ → Option (PageView × List ℕ)
 page_read = parsed_read number_read page_numbered
@@ -127,7 +141,10 @@ unfoldable pub blade_read : List ℕ → Option (Option ℕ × List ℕ)
 blade_read = parsed_read byte_read blade_of
 
 unfoldable pub image_read : List ℕ → Option (PageImageView × List ℕ)
-image_read = made_read (bytes_read 4608) image_from
+image_read bytes = do
+  mask ← long_read bytes
+  parts ← granules_read 64 mask.0 mask.1
+  Some (record { bytes = parts.0.0; tags = parts.0.1 }, parts.1)
 
 abbrev pub asks_in : RangeView → Option PageView → Bool
 asks_in range None = true

@@ -1,13 +1,14 @@
 -- How each message is spelled in bytes: a first byte for its kind, and its fields. Numbers have four bytes,
 -- the highest first.
-use Rattle.std.specs.Prelude.{ℕ, ◌+◌, ◌*◌, Bool, List, [], ◌∷◌, ◌++◌, Option, Some, None, if◌then◌else◌}
-use Rattle.std.specs.Int.{w32, to_be_bytes}
+use Rattle.std.specs.Prelude.{ℕ, ◌+◌, ◌*◌, Bool, ◌&&◌, ◌==◌, List, [], ◌∷◌, ◌++◌, take, drop, Option, Some, None, if◌then◌else◌}
+use Rattle.std.specs.Int.{w32, w64, to_be_bytes}
+use Rattle.std.specs.List.{list_all}
 use Rattle.mind_base.specs.Page.{PageView}
 use Rattle.mind_base.specs.Range.{RangeView}
 use Rattle.mind_base.specs.Span.{SpanView}
 use Rattle.mind_base.specs.declared.commands.Perm.{Perm}
 use Rattle.mind_base.specs.declared.commands.Perm.TheVariants.{No, R, Rw}
-use Rattle.page_image.specs.PageImage.{PageImageView, spelling_of}
+use Rattle.page_image.specs.PageImage.{PageImageView}
 use Rattle.wire_msg.specs.declared.msgs.Msg.{Msg}
 use Rattle.wire_msg.specs.declared.msgs.Msg.TheVariants.{Get, Fill, Deny, Back, Inv, Lower, Ack, Close, Closed, Reopen, Read, Image, Write, Zero}
 
@@ -51,9 +52,27 @@ abbrev pub blade_bytes : Option ℕ → List ℕ
 blade_bytes None = 255 ∷ []
 blade_bytes (Some blade) = blade ∷ []
 
--- the one spelling of an image on the wire
+-- a granule of which nothing is spelled: its bytes are all zero, and so is its tag
+unfoldable pub is_blank : List ℕ → ℕ → Bool
+is_blank bytes tag = tag == 0 && list_all (λ byte. byte == 0) bytes
+
+-- a granule: its bytes, and its tag in 8 bytes, the highest first
+abbrev pub granule_bytes : List ℕ → ℕ → List ℕ
+granule_bytes bytes tag = if is_blank bytes tag then [] else bytes ++ to_be_bytes w64 tag
+
+-- The granules of a page, from the first on: each 64 of the bytes and the next of the tags.
+unfoldable pub granules_bytes : List ℕ → List ℕ → List ℕ
+granules_bytes bytes [] = []
+granules_bytes bytes (tag ∷ tags) = granule_bytes (take 64 bytes) tag ++ granules_bytes (drop 64 bytes) tags
+
+-- which of these granules are spelled: a bit for each, that of the first the lowest
+unfoldable pub mask_of : List ℕ → List ℕ → ℕ
+mask_of bytes [] = 0
+mask_of bytes (tag ∷ tags) = (if is_blank (take 64 bytes) tag then 0 else 1) + 2 * mask_of (drop 64 bytes) tags
+
+-- the one spelling of an image on the wire: the mask of its granules in 8 bytes, the highest first, and the granules
 unfoldable pub image_bytes : PageImageView → List ℕ
-image_bytes image = spelling_of image
+image_bytes image = to_be_bytes w64 (mask_of image.bytes image.tags) ++ granules_bytes image.bytes image.tags
 
 -- the first byte
 abbrev pub kind_byte : Msg → ℕ

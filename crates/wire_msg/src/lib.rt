@@ -1,6 +1,7 @@
 //! The messages of the rack's nodes, and the one way in which each is spelled in bytes.
 #![tactic(auto)]
 
+mod granules;
 mod laws;
 mod msgs;
 mod reading;

@@ -5,8 +5,9 @@ ghost use Rattle.wire_msg.specs.declared.msgs.Msg.{Msg as message};
 ghost use Rattle.wire_msg.specs.declared.refusals.WireRefusal.TheVariants.{BadFrame as bad_frame};
 ghost use Rattle.wire_msg.specs.Spelling.{spelling};
 ghost use Rattle.wire_msg.specs.WellFormed.{IsWellFormed};
-ghost use Rattle.wire_msg.specs.Reading.{GivesRead, number_read, byte_read, bytes_read, page_numbered, asked_numbered, range_numbered, span_numbered, flag_of, fill_of, blade_of, image_from, range_read, span_read, flag_read, fill_read, blade_read, image_read, get_read, fill_message_read, deny_read, back_read, inv_read, lower_read, ack_read, close_read, closed_read, reopen_read, read_read, image_message_read, write_read, zero_read, fields_read, message_read, message_of};
+ghost use Rattle.wire_msg.specs.Reading.{GivesRead, number_read, byte_read, bytes_read, page_numbered, asked_numbered, range_numbered, span_numbered, flag_of, fill_of, blade_of, range_read, span_read, flag_read, fill_read, blade_read, image_read, get_read, fill_message_read, deny_read, back_read, inv_read, lower_read, ack_read, close_read, closed_read, reopen_read, read_read, image_message_read, write_read, zero_read, fields_read, message_read, message_of};
 
+use crate::granules::{granules, long};
 use crate::{Msg, WireRefusal};
 use byteorder::{BigEndian, ByteOrder};
 use mind_base::{Page, Perm, Range, Span};
@@ -92,7 +93,7 @@ fn byte(bytes: &[u8]) -> Result<(u8, &[u8]), WireRefusal>
 }
 
 #[tactic(auto, unfolding(crate::specs::Reading::bytes_read))]
-fn run(count: usize, bytes: &[u8]) -> Result<(&[u8], &[u8]), WireRefusal>
+pub fn run(count: usize, bytes: &[u8]) -> Result<(&[u8], &[u8]), WireRefusal>
     ensures given { GivesRead (λ x. (x.0.now, x.1.now)) result (bytes_read count bytes.now) }
     ensures count { IfOk result (λ x. length x.0.now ≡ count) }
 {
@@ -186,16 +187,6 @@ fn blade(byte: u8) -> Result<Option<u8>, WireRefusal>
     }
 }
 
-fn image(alloc: Global, bytes: &[u8]) -> Result<PageImage, WireRefusal>
-    requires { length bytes.now ≡ 4608 }
-    ensures { GivesRead (λ image. image) result (Some (image_from bytes.now)) }
-{
-    match PageImage::from_bytes(alloc, bytes)? {
-        None => Err(WireRefusal::BadFrame),
-        Some(image) => Ok(image),
-    }
-}
-
 #[tactic(auto, unfolding(crate::specs::Reading::range_read, crate::specs::Reading::page_read))]
 fn range_at(bytes: &[u8]) -> Result<(Range, &[u8]), WireRefusal>
     ensures { GivesRead (λ x. (x.0, x.1.now)) result (range_read bytes.now) }
@@ -244,8 +235,9 @@ fn blade_at(bytes: &[u8]) -> Result<(Option<u8>, &[u8]), WireRefusal>
 fn image_at(alloc: Global, bytes: &[u8]) -> Result<(PageImage, &[u8]), WireRefusal>
     ensures { GivesRead (λ x. (x.0, x.1.now)) result (image_read bytes.now) }
 {
-    let (spelled, rest) = run(4608, bytes)?;
-    Ok((image(alloc, spelled)?, rest))
+    let (mask, rest) = long(bytes)?;
+    let ((page, tags), rest) = granules(alloc, mask, rest)?;
+    Ok((PageImage::from_parts(page, tags), rest))
 }
 
 #[tactic(auto, unfolding(crate::specs::Reading::get_read, crate::specs::Reading::page_read))]

@@ -4,6 +4,7 @@ ghost use Rattle.std.specs.Prelude.{◌≡◌};
 ghost use Rattle.wire_msg.specs.declared.refusals.WireRefusal.TheVariants.{NoMemory as no_memory};
 
 use mind_base::NoMemory;
+use std::alloc::{AllocError, AllocFailed};
 use std::error::Error;
 use std::fmt;
 
@@ -29,6 +30,22 @@ impl From<NoMemory> for WireRefusal {
     ghost from_gives = { λ _ e. e ≡ no_memory };
 
     fn from(_: NoMemory) -> Self {
+        WireRefusal::NoMemory
+    }
+}
+
+impl From<AllocError> for WireRefusal {
+    ghost from_gives = { λ _ e. e ≡ no_memory };
+
+    fn from(_: AllocError) -> Self {
+        WireRefusal::NoMemory
+    }
+}
+
+impl<T: Drop> From<AllocFailed<T>> for WireRefusal {
+    ghost from_gives = { λ _ e. e ≡ no_memory };
+
+    fn from(_: AllocFailed<T>) -> Self {
         WireRefusal::NoMemory
     }
 }

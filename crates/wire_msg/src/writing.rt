@@ -1,12 +1,13 @@
 //! The bytes that spell a message.
 
-ghost use Rattle.std.specs.Prelude.{◌≡◌, ◌<◌, ◌^◌, ◌++◌, ◌∷◌, [], take, IfSome, OnOk, OnErr, option_copied};
+ghost use Rattle.std.specs.Prelude.{◌≡◌, ◌<◌, ◌≤◌, ◌^◌, ◌++◌, ◌∷◌, [], List, ℕ, take, vec_len, IfSome, OnOk, OnErr, option_copied};
 ghost use Rattle.page_image.specs.PageImage.{IsPageImage};
 ghost use Rattle.wire_msg.specs.Spelling.{spelling, number_bytes, page_bytes, range_bytes, span_bytes, asked_bytes, flag_bytes, fill_bytes, blade_bytes, image_bytes};
 ghost use Rattle.wire_msg.specs.WellFormed.{FieldsAgree, IsWellFormed, IsPageView, IsRangeView, IsSpanView, IsAsked};
 ghost use Rattle.wire_msg.specs.Writing.{head_of, FitsHead, image_in};
 
 use crate::Msg;
+use crate::granules::{mask, put_granules, put_long};
 use byteorder::{BigEndian, ByteOrder};
 use mind_base::{NoMemory, Page, Perm, Range, Span};
 use page_image::PageImage;
@@ -29,19 +30,32 @@ pub fn encode(msg: &Msg, out: &mut Vec<u8>) -> Result<(), NoMemory>
 }
 
 /// Appends the spelling of an image. After an error the first `held` bytes are left.
-#[tactic(auto, unfolding(crate::specs::Spelling::image_bytes))]
 fn put_image(out: &mut Vec<u8>, image: &PageImage, held: usize) -> Result<(), NoMemory>
+    requires { held ≤ vec_len out.old }
     ensures ok { OnOk result (out.new.items ≡ out.old.items ++ image_bytes image.now) }
     ensures err { OnErr result (out.new.items ≡ take held out.old.items) }
     ensures fits { IsPageImage image.now }
 {
-    match image.to_bytes(out) {
+    match add_image(out, image) {
         Ok(()) => Ok(()),
         Err(failure) => {
             out.truncate(held);
             Err(failure)
         }
     }
+}
+
+/// Appends the spelling of an image. After an error a part of it may stand there.
+#[tactic(auto, unfolding(crate::specs::Spelling::image_bytes))]
+fn add_image(out: &mut Vec<u8>, image: &PageImage) -> Result<(), NoMemory>
+    ensures ok { OnOk result (out.new.items ≡ out.old.items ++ image_bytes image.now) }
+    ensures err { OnErr result ((more : List ℕ) × (out.new.items ≡ out.old.items ++ more)) }
+    ensures fits { IsPageImage image.now }
+{
+    let mask = mask(image.bytes(), image.tags());
+    out.reserve(8 + 72 * mask.count_ones() as usize)?;
+    put_long(out, mask)?;
+    put_granules(out, image.bytes(), image.tags())
 }
 
 /// The image that the message has as its last field.

@@ -35,14 +35,29 @@ fn image(alloc: Global) -> Result<PageImage, Fail> {
     Ok(image)
 }
 
-/// These bytes, and then that image.
+/// These bytes, and then that image: the mask, and its last granule with its tag.
 fn before_image(alloc: Global, head: &[u8]) -> Result<Vec<u8>, AllocError> {
     let mut bytes = head.to_vec(alloc)?;
-    bytes.resize(head.len() + 4092, 0)?;
+    bytes.extend_from_slice(b"\x80\0\0\0\0\0\0\0")?;
+    bytes.resize(head.len() + 68, 0)?;
     bytes.extend_from_slice(b"\x01\x02\x03\x04")?;
-    bytes.resize(head.len() + 4600, 0)?;
     bytes.extend_from_slice(b"\x11\x22\x33\x44\x55\x66\x77\x88")?;
     Ok(bytes)
+}
+
+/// A Fill of page 1 of domain 0, to be read, with an image.
+fn fill_of(image: PageImage) -> Msg
+    ensures { FieldsAgree result }
+{
+    Msg::Fill {
+        page: Page {
+            domain: 0,
+            number: 1,
+        },
+        perm: Perm::R,
+        writable: false,
+        image,
+    }
 }
 
 fn is_refused(rt: &impl Abort, alloc: Global, bytes: &[u8]) {
@@ -295,6 +310,30 @@ fn images_are_spelled_by_their_rows(rt: HostRuntime) -> Result<(), Fail> {
         &write,
         &before_image(alloc, b"\x0d\xff\xff\xff\xff")?,
     )
+}
+
+#[test]
+fn a_granule_is_spelled_where_it_is_not_zero(rt: HostRuntime) -> Result<(), Fail> {
+    let alloc = rt.alloc();
+    let head = b"\x02\0\0\0\x01\0".as_slice();
+    let zero = b"\x02\0\0\0\x01\0\0\0\0\0\0\0\0\0".as_slice();
+    is_spelled(&rt, alloc, &fill_of(PageImage::zero(alloc)?), zero)?;
+
+    let mut second = head.to_vec(alloc)?;
+    second.extend_from_slice(b"\0\0\0\0\0\0\0\x02")?;
+    second.resize(head.len() + 80, 0)?;
+    is_refused(&rt, alloc, second.as_slice());
+
+    second[head.len() + 8 + 5] = 9;
+    let mut one_byte = PageImage::zero(alloc)?;
+    one_byte.store(69, 1, 9, 0);
+    is_spelled(&rt, alloc, &fill_of(one_byte), second.as_slice())?;
+
+    second[head.len() + 8 + 5] = 0;
+    second[head.len() + 79] = 3;
+    let mut one_tag = PageImage::zero(alloc)?;
+    one_tag.store(64, 4, 0, 3);
+    is_spelled(&rt, alloc, &fill_of(one_tag), second.as_slice())
 }
 
 #[test]
