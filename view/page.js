@@ -68,7 +68,7 @@ const view = (() => {
     const events = [...new Set(slots.map(slot => Math.min(Math.max(model.eventOfSlot(slot), 0), model.eventSlot.length - 1)))];
     const [from, to] = state.x.domain();
     const inside = events.map(event => model.eventSlot[event]).filter(slot => slot >= from && slot <= to);
-    const axis = d3.axisTop(state.x).tickValues(inside).tickFormat(slot => model.eventOfSlot(slot));
+    const axis = d3.axisTop(state.x).tickValues(inside).tickSizeOuter(0).tickFormat(slot => model.eventOfSlot(slot));
     d3.select('#axis g').attr('transform', `translate(${GUTTER},22)`).call(axis);
   }
 
@@ -371,6 +371,7 @@ const view = (() => {
     element('closer').addEventListener('click', () => scaled(1.5));
     element('wider').addEventListener('click', () => scaled(1 / 1.5));
     element('whole').addEventListener('click', () => setWindow(0, model.slots));
+    if (!model.eventAt.length) return void line(element('detail'), 'The schedule has no event.');
     lanes.addEventListener('scroll', ask);
     lanes.addEventListener('wheel', wheel, {passive: false});
     canvas.addEventListener('click', clicked);
@@ -389,7 +390,7 @@ const view = (() => {
       does(event);
     });
     resize();
-    setWindow(0, Math.min(model.slots, Math.max(state.width / 80, 10)));
+    setWindow(0, Math.min(model.slots, Math.max(state.width / 96, 10)));
     choose(0, null);
   }
 

@@ -42,7 +42,7 @@ function laneWords(label) {
   if (label.register != null) told.push(`x${label.register} = ${short(label.value)}`);
   if (label.source) told.push(`from ${short(label.address)}`);
   if (label.says) told.push(label.says);
-  return [label.kind === 'drain' ? 'drain' : label.text || 'no word', told.join(', ')];
+  return [label.kind === 'drain' ? 'drain' : `${label.text || 'no word'}  at ${short(label.pc)}`, told.join(', ')];
 }
 
 function labelWords(label) {
