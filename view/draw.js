@@ -276,13 +276,14 @@ function drawLines(context, view, drew) {
   let drawnTo = -1;
   for (let event = Math.max(model.eventOfSlot(from), 0); event < model.eventSlot.length && model.eventSlot[event] < to;) {
     const line = model.lineOf(event), next = model.data.lines[line.index + 1];
-    const end = next ? model.eventSlot[next[1]] : model.slots;
-    const left = Math.max(x(model.eventSlot[line.index < 0 ? 0 : model.data.lines[line.index][1]]), 0), right = Math.min(x(end), view.width + 2);
+    const following = next ? next[1] : model.eventSlot.length; // the first event of another line
+    const begin = model.eventSlot[model.data.lines[line.index][1]], end = model.eventEnd(following - 1);
+    const left = Math.max(x(begin), 0), right = Math.min(x(end), view.width + 2);
     if (right - drawnTo >= 1) {
       box(context, {x: left, y: 3, w: Math.max(right - left, 1), h: 22}, line.index % 2 ? 'white' : 'grey', `${line.number}: ${line.text}`);
       drawnTo = right;
     }
-    event = next ? next[1] : model.eventSlot.length;
+    event = following;
     if (right - left < 1) event = Math.max(event, model.eventOfSlot(x.invert(left + 1)));
   }
   const first = Math.max(model.eventOfSlot(from), 0), last = model.eventOfSlot(to);

@@ -198,7 +198,7 @@ class Model {
   // The line of the schedule that an event is of, and its words; `run` written out.
   lineOf(event) {
     if (!this.firsts) this.firsts = this.data.lines.map(line => line[1]);
-    let index = firstAtLeast(this.firsts, event + 1) - 1;
+    const index = firstAtLeast(this.firsts, event + 1) - 1;
     const [number, first, text] = this.data.lines[index];
     if (!text.startsWith('run ')) return {index, number, text, words: text};
     const place = event - first, thread = Math.floor(place % (4 * this.data.threads.length) / 4);

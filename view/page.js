@@ -130,7 +130,7 @@ const view = (() => {
     const letter = model.notes[place][0], slot = model.slotOf[place];
     if (letter === 'e') return null;
     const label = model.labelOf(place);
-    if (label >= 0 && model.data.labels[label][1] != null) return tracks.find(track => track.spans.some && holdsLabel(track, slot, label));
+    if (label >= 0 && model.data.labels[label][1] != null) return tracks.find(track => holdsLabel(track, slot, label));
     const words = model.notes[place].split(' ');
     if ('tgl'.includes(letter)) {
       const bars = (model.bars.get(+words[1]) || new Map()).get(pageKey(+words[2], +words[3]));
