@@ -8,10 +8,9 @@ use Rattle.mind_base.specs.declared.links.Side.{Side}
 use Rattle.link_retry.specs.Link.{LinkView, IsLink, after_send, FrameDelivers}
 <<<<<<< HEAD
 use Rattle.link_retry.specs.GoBackN.{after_resend}
-use Rattle.link_retry.proofs.Callers.{deliver_keeps}
 =======
 use Rattle.link_retry.specs.SelectiveRepeat.{SelectiveView, after_resend}
-use Rattle.link_retry.proofs.InOrder.{deliver_keeps}
+use Rattle.link_retry.proofs.Callers.{deliver_keeps}
 >>>>>>> 8494c0364930c49157639d173f512e154c84d330
 use Rattle.wire_msg.specs.declared.msgs.Msg.{Msg}
 use Rattle.wire_msg.specs.Spelling.{spelling}
