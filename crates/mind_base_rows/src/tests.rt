@@ -101,6 +101,9 @@ fn a_log_keeps_its_notes_in_order(rt: HostRuntime) -> Result<(), Fail> {
     assert_eq!(rt; log.len(), 2);
     assert_eq!(rt; log.get(0), Note::Event { index: 0 });
     assert_eq!(rt; log.get(1), Note::Exec { hart: 5 });
+    log.truncate(1);
+    assert_eq!(rt; log.len(), 1);
+    assert_eq!(rt; log.get(0), Note::Event { index: 0 });
     Ok(())
 }
 

@@ -1,9 +1,9 @@
 //! The bytes that spell a message.
 
-ghost use Rattle.std.specs.Prelude.{◌≡◌, ◌<◌, ◌≤◌, ◌^◌, ◌++◌, ◌∷◌, [], List, ℕ, take, vec_len, IfSome, OnOk, OnErr, option_copied};
+ghost use Rattle.std.specs.Prelude.{◌≡◌, ◌<◌, ◌≤◌, ◌^◌, ◌++◌, ◌∷◌, [], List, ℕ, IfSome, OnOk, OnErr, option_copied};
 ghost use Rattle.page_image.specs.PageImage.{IsPageImage};
-ghost use Rattle.wire_msg.specs.Spelling.{spelling, number_bytes, page_bytes, range_bytes, span_bytes, asked_bytes, flag_bytes, fill_bytes, blade_bytes, image_bytes};
-ghost use Rattle.wire_msg.specs.WellFormed.{FieldsAgree, IsWellFormed, IsPageView, IsRangeView, IsSpanView, IsAsked};
+ghost use Rattle.wire_msg.specs.Spelling.{spelling, number_bytes, page_bytes, range_bytes, span_bytes, asked_bytes, flag_bytes, fill_bytes, blade_bytes, mask_of, image_bytes};
+ghost use Rattle.wire_msg.specs.WellFormed.{FieldsAgree, IsInBounds, IsWellFormed, IsPageView, IsRangeView, IsSpanView, IsAsked};
 ghost use Rattle.wire_msg.specs.Writing.{head_of, FitsHead, image_in};
 
 use crate::Msg;
@@ -19,24 +19,8 @@ pub fn encode(msg: &Msg, out: &mut Vec<u8>) -> Result<(), NoMemory>
     ensures err { OnErr result (out.new.items ≡ out.old.items) }
     ensures formed { OnOk result (IsWellFormed msg.now) }
 {
-    let mut head = Vec::with_capacity(*out.allocator(), 16)?;
-    put_head(&mut head, msg)?;
     let held = out.len();
-    out.extend_from_slice(head.as_slice())?;
-    match image_of(msg) {
-        None => Ok(()),
-        Some(image) => put_image(out, image, held),
-    }
-}
-
-/// Appends the spelling of an image. After an error the first `held` bytes are left.
-fn put_image(out: &mut Vec<u8>, image: &PageImage, held: usize) -> Result<(), NoMemory>
-    requires { held ≤ vec_len out.old }
-    ensures ok { OnOk result (out.new.items ≡ out.old.items ++ image_bytes image.now) }
-    ensures err { OnErr result (out.new.items ≡ take held out.old.items) }
-    ensures fits { IsPageImage image.now }
-{
-    match add_image(out, image) {
+    match put_message(out, msg) {
         Ok(()) => Ok(()),
         Err(failure) => {
             out.truncate(held);
@@ -45,17 +29,55 @@ fn put_image(out: &mut Vec<u8>, image: &PageImage, held: usize) -> Result<(), No
     }
 }
 
-/// Appends the spelling of an image. After an error a part of it may stand there.
+/// How many bytes there are before an image.
+fn size_of_head(msg: &Msg) -> usize
+    ensures { result ≤ 14 }
+{
+    match msg {
+        Msg::Deny { .. }
+        | Msg::Back { .. }
+        | Msg::Closed { .. }
+        | Msg::Reopen { .. }
+        | Msg::Write { .. } => 5,
+        Msg::Get { .. } | Msg::Fill { .. } | Msg::Image { .. } => 6,
+        Msg::Ack { .. } | Msg::Zero { .. } => 9,
+        Msg::Read { .. } => 10,
+        Msg::Inv { .. } | Msg::Lower { .. } | Msg::Close { .. } => 14,
+    }
+}
+
+/// Appends the spelling of a message. After an error a part of it may stand there.
+fn put_message(out: &mut Vec<u8>, msg: &Msg) -> Result<(), NoMemory>
+    ensures ok { OnOk result (out.new.items ≡ out.old.items ++ spelling msg.now) }
+    ensures err { OnErr result ((more : List ℕ) × (out.new.items ≡ out.old.items ++ more)) }
+    ensures fits { OnOk result (IsInBounds msg.now) }
+{
+    match image_of(msg) {
+        None => {
+            out.reserve(size_of_head(msg))?;
+            put_head(out, msg)
+        }
+        Some(image) => {
+            let mask = mask(image.bytes(), image.tags());
+            out.reserve(size_of_head(msg) + 8 + 72 * mask.count_ones() as usize)?;
+            put_head(out, msg)?;
+            put_image(out, mask, image)
+        }
+    }
+}
+
+/// Appends the spelling of an image by its mask. After an error a part of it may stand there.
 #[tactic(auto, unfolding(crate::specs::Spelling::image_bytes))]
-fn add_image(out: &mut Vec<u8>, image: &PageImage) -> Result<(), NoMemory>
+fn put_image(out: &mut Vec<u8>, mask: u64, image: &PageImage) -> Result<(), NoMemory>
+    requires { mask ≡ mask_of image.now.bytes image.now.tags }
     ensures ok { OnOk result (out.new.items ≡ out.old.items ++ image_bytes image.now) }
     ensures err { OnErr result ((more : List ℕ) × (out.new.items ≡ out.old.items ++ more)) }
     ensures fits { IsPageImage image.now }
 {
-    let mask = mask(image.bytes(), image.tags());
-    out.reserve(8 + 72 * mask.count_ones() as usize)?;
+    let bytes = image.bytes();
+    let tags = image.tags();
     put_long(out, mask)?;
-    put_granules(out, image.bytes(), image.tags())
+    put_granules(out, bytes, tags)
 }
 
 /// The image that the message has as its last field.
@@ -74,6 +96,7 @@ fn image_of(msg: &Msg) -> Option<&PageImage>
 /// Appends the first byte of the message and all its fields but an image.
 fn put_head(head: &mut Vec<u8>, msg: &Msg) -> Result<(), NoMemory>
     ensures ok { OnOk result (head.new.items ≡ head.old.items ++ head_of msg.now) }
+    ensures err { OnErr result ((more : List ℕ) × (head.new.items ≡ head.old.items ++ more)) }
     ensures fits { OnOk result (FitsHead msg.now) }
 {
     match msg {
@@ -110,6 +133,7 @@ fn put_head(head: &mut Vec<u8>, msg: &Msg) -> Result<(), NoMemory>
 #[tactic(auto, unfolding(crate::specs::Spelling::number_bytes))]
 fn add_number(head: &mut Vec<u8>, number: u32) -> Result<(), NoMemory>
     ensures ok { OnOk result (head.new.items ≡ head.old.items ++ number_bytes number) }
+    ensures err { OnErr result ((more : List ℕ) × (head.new.items ≡ head.old.items ++ more)) }
     ensures fits { number < 2 ^ 32 }
 {
     let mut bytes = [0u8; 4];
@@ -120,6 +144,7 @@ fn add_number(head: &mut Vec<u8>, number: u32) -> Result<(), NoMemory>
 
 fn add_byte(head: &mut Vec<u8>, byte: u8) -> Result<(), NoMemory>
     ensures ok { OnOk result (head.new.items ≡ head.old.items ++ byte ∷ []) }
+    ensures err { OnErr result ((more : List ℕ) × (head.new.items ≡ head.old.items ++ more)) }
 {
     head.push(byte)?;
     Ok(())
@@ -127,6 +152,7 @@ fn add_byte(head: &mut Vec<u8>, byte: u8) -> Result<(), NoMemory>
 
 fn add_page(head: &mut Vec<u8>, page: Page) -> Result<(), NoMemory>
     ensures ok { OnOk result (head.new.items ≡ head.old.items ++ page_bytes page) }
+    ensures err { OnErr result ((more : List ℕ) × (head.new.items ≡ head.old.items ++ more)) }
     ensures fits { IsPageView page }
 {
     add_number(head, u32::from(page.domain) * 1_048_576 + page.number)
@@ -134,6 +160,7 @@ fn add_page(head: &mut Vec<u8>, page: Page) -> Result<(), NoMemory>
 
 fn add_range(head: &mut Vec<u8>, range: Range) -> Result<(), NoMemory>
     ensures ok { OnOk result (head.new.items ≡ head.old.items ++ range_bytes range) }
+    ensures err { OnErr result ((more : List ℕ) × (head.new.items ≡ head.old.items ++ more)) }
     ensures fits { IsRangeView range }
 {
     add_number(head, u32::from(range.domain) * 1_048_576 + range.base)?;
@@ -142,6 +169,7 @@ fn add_range(head: &mut Vec<u8>, range: Range) -> Result<(), NoMemory>
 
 fn add_span(head: &mut Vec<u8>, span: Span) -> Result<(), NoMemory>
     ensures ok { OnOk result (head.new.items ≡ head.old.items ++ span_bytes span) }
+    ensures err { OnErr result ((more : List ℕ) × (head.new.items ≡ head.old.items ++ more)) }
     ensures fits { IsSpanView span }
 {
     add_number(head, u32::from(span.domain) * 1_048_576 + span.base)?;
@@ -150,6 +178,7 @@ fn add_span(head: &mut Vec<u8>, span: Span) -> Result<(), NoMemory>
 
 fn add_asked(head: &mut Vec<u8>, asked: Option<Page>) -> Result<(), NoMemory>
     ensures ok { OnOk result (head.new.items ≡ head.old.items ++ asked_bytes asked) }
+    ensures err { OnErr result ((more : List ℕ) × (head.new.items ≡ head.old.items ++ more)) }
     ensures fits { IsAsked asked }
 {
     match asked {
@@ -160,12 +189,14 @@ fn add_asked(head: &mut Vec<u8>, asked: Option<Page>) -> Result<(), NoMemory>
 
 fn add_flag(head: &mut Vec<u8>, flag: bool) -> Result<(), NoMemory>
     ensures ok { OnOk result (head.new.items ≡ head.old.items ++ flag_bytes flag) }
+    ensures err { OnErr result ((more : List ℕ) × (head.new.items ≡ head.old.items ++ more)) }
 {
     add_byte(head, u8::from(flag))
 }
 
 fn add_perm(head: &mut Vec<u8>, perm: Perm, writable: bool) -> Result<(), NoMemory>
     ensures ok { OnOk result (head.new.items ≡ head.old.items ++ fill_bytes perm writable) }
+    ensures err { OnErr result ((more : List ℕ) × (head.new.items ≡ head.old.items ++ more)) }
 {
     let perm = match perm {
         Perm::No | Perm::R => 0,
@@ -176,6 +207,7 @@ fn add_perm(head: &mut Vec<u8>, perm: Perm, writable: bool) -> Result<(), NoMemo
 
 fn add_blade(head: &mut Vec<u8>, blade: Option<u8>) -> Result<(), NoMemory>
     ensures ok { OnOk result (head.new.items ≡ head.old.items ++ blade_bytes blade) }
+    ensures err { OnErr result ((more : List ℕ) × (head.new.items ≡ head.old.items ++ more)) }
 {
     match blade {
         None => add_byte(head, 255),
@@ -186,6 +218,7 @@ fn add_blade(head: &mut Vec<u8>, blade: Option<u8>) -> Result<(), NoMemory>
 /// Appends for whom a page is read.
 fn add_reader(head: &mut Vec<u8>, blade: Option<u8>, page: Page) -> Result<(), NoMemory>
     ensures ok { OnOk result (head.new.items ≡ head.old.items ++ (blade_bytes blade ++ page_bytes page)) }
+    ensures err { OnErr result ((more : List ℕ) × (head.new.items ≡ head.old.items ++ more)) }
     ensures fits { OnOk result (IsPageView page) }
 {
     add_blade(head, blade)?;
@@ -194,6 +227,7 @@ fn add_reader(head: &mut Vec<u8>, blade: Option<u8>, page: Page) -> Result<(), N
 
 fn put_number(head: &mut Vec<u8>, kind: u8, number: u32) -> Result<(), NoMemory>
     ensures ok { OnOk result (head.new.items ≡ head.old.items ++ kind ∷ number_bytes number) }
+    ensures err { OnErr result ((more : List ℕ) × (head.new.items ≡ head.old.items ++ more)) }
     ensures fits { OnOk result (number < 2 ^ 32) }
 {
     add_byte(head, kind)?;
@@ -203,6 +237,7 @@ fn put_number(head: &mut Vec<u8>, kind: u8, number: u32) -> Result<(), NoMemory>
 fn put_numbers(head: &mut Vec<u8>, kind: u8, first: u32, second: u32) -> Result<(), NoMemory>
     ensures ok { OnOk result (head.new.items
         ≡ head.old.items ++ kind ∷ (number_bytes first ++ number_bytes second)) }
+    ensures err { OnErr result ((more : List ℕ) × (head.new.items ≡ head.old.items ++ more)) }
     ensures fits { OnOk result ((first < 2 ^ 32) × (second < 2 ^ 32)) }
 {
     put_number(head, kind, first)?;
@@ -211,6 +246,7 @@ fn put_numbers(head: &mut Vec<u8>, kind: u8, first: u32, second: u32) -> Result<
 
 fn put_page(head: &mut Vec<u8>, kind: u8, page: Page) -> Result<(), NoMemory>
     ensures ok { OnOk result (head.new.items ≡ head.old.items ++ kind ∷ page_bytes page) }
+    ensures err { OnErr result ((more : List ℕ) × (head.new.items ≡ head.old.items ++ more)) }
     ensures fits { OnOk result (IsPageView page) }
 {
     add_byte(head, kind)?;
@@ -219,6 +255,7 @@ fn put_page(head: &mut Vec<u8>, kind: u8, page: Page) -> Result<(), NoMemory>
 
 fn put_get(head: &mut Vec<u8>, page: Page, write: bool) -> Result<(), NoMemory>
     ensures ok { OnOk result (head.new.items ≡ head.old.items ++ 1 ∷ (page_bytes page ++ flag_bytes write)) }
+    ensures err { OnErr result ((more : List ℕ) × (head.new.items ≡ head.old.items ++ more)) }
     ensures fits { OnOk result (IsPageView page) }
 {
     put_page(head, 1, page)?;
@@ -228,6 +265,7 @@ fn put_get(head: &mut Vec<u8>, page: Page, write: bool) -> Result<(), NoMemory>
 fn put_fill(head: &mut Vec<u8>, page: Page, perm: Perm, writable: bool) -> Result<(), NoMemory>
     ensures ok { OnOk result (head.new.items
         ≡ head.old.items ++ 2 ∷ (page_bytes page ++ fill_bytes perm writable)) }
+    ensures err { OnErr result ((more : List ℕ) × (head.new.items ≡ head.old.items ++ more)) }
     ensures fits { OnOk result (IsPageView page) }
 {
     put_page(head, 2, page)?;
@@ -244,6 +282,7 @@ fn put_order(
 ) -> Result<(), NoMemory>
     ensures ok { OnOk result (head.new.items
         ≡ head.old.items ++ kind ∷ (number_bytes number ++ (range_bytes range ++ asked_bytes asked))) }
+    ensures err { OnErr result ((more : List ℕ) × (head.new.items ≡ head.old.items ++ more)) }
     ensures fits { OnOk result ((number < 2 ^ 32) × IsRangeView range × IsAsked asked) }
 {
     put_number(head, kind, number)?;
@@ -254,6 +293,7 @@ fn put_order(
 fn put_close(head: &mut Vec<u8>, number: u32, span: Span, ends: bool) -> Result<(), NoMemory>
     ensures ok { OnOk result (head.new.items
         ≡ head.old.items ++ 8 ∷ (number_bytes number ++ (span_bytes span ++ flag_bytes ends))) }
+    ensures err { OnErr result ((more : List ℕ) × (head.new.items ≡ head.old.items ++ more)) }
     ensures fits { OnOk result ((number < 2 ^ 32) × IsSpanView span) }
 {
     put_number(head, 8, number)?;
@@ -264,6 +304,7 @@ fn put_close(head: &mut Vec<u8>, number: u32, span: Span, ends: bool) -> Result<
 fn put_read(head: &mut Vec<u8>, phys: u32, blade: Option<u8>, page: Page) -> Result<(), NoMemory>
     ensures ok { OnOk result (head.new.items
         ≡ head.old.items ++ 11 ∷ (number_bytes phys ++ (blade_bytes blade ++ page_bytes page))) }
+    ensures err { OnErr result ((more : List ℕ) × (head.new.items ≡ head.old.items ++ more)) }
     ensures fits { OnOk result ((phys < 2 ^ 32) × IsPageView page) }
 {
     put_number(head, 11, phys)?;
@@ -272,6 +313,7 @@ fn put_read(head: &mut Vec<u8>, phys: u32, blade: Option<u8>, page: Page) -> Res
 
 fn put_image_head(head: &mut Vec<u8>, blade: Option<u8>, page: Page) -> Result<(), NoMemory>
     ensures ok { OnOk result (head.new.items ≡ head.old.items ++ 12 ∷ (blade_bytes blade ++ page_bytes page)) }
+    ensures err { OnErr result ((more : List ℕ) × (head.new.items ≡ head.old.items ++ more)) }
     ensures fits { OnOk result (IsPageView page) }
 {
     add_byte(head, 12)?;
