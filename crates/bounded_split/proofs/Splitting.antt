@@ -8,7 +8,7 @@ use Rattle.mind_base.specs.declared.notes.Note.TheVariants as note
 use Rattle.region_directory.specs.Directory.{DirectoryView}
 use Rattle.region_directory.specs.Split.{with_split}
 use Rattle.region_directory.specs.declared.entries.Entry.{Entry}
-use Rattle.region_directory.proofs.SearchLemmas.{blank}
+use Rattle.region_directory.proofs.Callers.{blank}
 use Rattle.bounded_split.specs.Epoch.{Stays, Splits, hot_split, hot_at, entries_left, split_notes}
 use Rattle.bounded_split.specs.Hot.{hot_block, hot_turns, hot_turns_in, split_noted}
 use Rattle.bounded_split.proofs.Walking.{IsWalking, left_from, notes_from, walking-stays, walking-turns}

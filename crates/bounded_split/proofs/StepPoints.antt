@@ -8,7 +8,7 @@ use Rattle.region_directory.specs.Directory.{DirectoryView, IsDirectory}
 use Rattle.region_directory.specs.Merge.{merged_entry, merge_of}
 use Rattle.region_directory.specs.Split.{split_entry, split_of}
 use Rattle.region_directory.specs.declared.entries.Entry.{Entry}
-use Rattle.region_directory.proofs.ResizeLemmas.{IsHalved, IsDirectory-merge, IsDirectory-two, split-halved}
+use Rattle.region_directory.proofs.Callers.{IsHalved, IsDirectory-merge, IsDirectory-two, split-halved}
 use Rattle.bounded_split.specs.Steps.{EpochStep, Joins, Parts, MayStep, MayStepEach, after_epoch_step, AreDirectories}
 
 -- two entries that become one stand there

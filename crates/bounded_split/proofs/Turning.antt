@@ -8,7 +8,7 @@ use Rattle.region_directory.specs.Directory.{DirectoryView}
 use Rattle.region_directory.specs.Merge.{merged_entry}
 use Rattle.region_directory.specs.Split.{split_entry}
 use Rattle.region_directory.specs.declared.entries.Entry.{Entry}
-use Rattle.region_directory.proofs.ResizeLemmas.{merged-hits}
+use Rattle.region_directory.proofs.Callers.{merged-hits}
 use Rattle.bounded_split.specs.Epoch.{Turn, Stays, Merges, Splits, judged, cold_merge, turns_behind, hot_split, split_turns, entries_left, merge_notes, split_notes, turns_of_merges, epoch_turns, total_hits}
 use Rattle.bounded_split.specs.Hot.{hot_turns, hot_turns_in}
 use Rattle.bounded_split.specs.Verdict.{is_split, is_cold}

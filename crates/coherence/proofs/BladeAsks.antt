@@ -1,7 +1,7 @@
 -- A blade asks for a page.
 use Rattle.std.proofs.Common.{◌≡◌, inl, ℕ, ◌==◌, Bool, false, refl, [], ◌∷◌, Some, arith}
 use Rattle.mind_base.specs.Page.{PageView}
-use Rattle.page_cache.proofs.Laws.{same_page-true}
+use Rattle.page_cache.proofs.Callers.{same_page-true}
 use Rattle.wire_msg.specs.declared.msgs.Msg.TheVariants.{Get}
 use Rattle.coherence.specs.World.{World}
 use Rattle.coherence.specs.Counts.{is_back}

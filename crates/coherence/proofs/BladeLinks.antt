@@ -10,7 +10,7 @@ use Rattle.mind_base.specs.Range.{in_range}
 use Rattle.mind_base.specs.Permission.{allows}
 use Rattle.page_cache.specs.PageCache.{is_writable}
 use Rattle.region_directory.specs.declared.entries.Busy.{Busy}
-use Rattle.page_cache.proofs.Laws.{same_page-refl}
+use Rattle.page_cache.proofs.Callers.{same_page-refl}
 use Rattle.page_cache.specs.declared.frames.Frame.{Frame}
 use Rattle.page_image.specs.PageImage.{PageImageView}
 use Rattle.wire_msg.specs.declared.msgs.Msg.{Msg}

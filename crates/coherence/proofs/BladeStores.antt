@@ -4,7 +4,7 @@ use Rattle.std.proofs.lemmas.Option.{same_Some}
 use Rattle.mind_base.specs.Page.{PageView}
 use Rattle.page_cache.specs.PageCache.{same_page}
 use Rattle.page_cache.specs.declared.frames.Frame.{Frame}
-use Rattle.page_cache.proofs.Laws.{same_page-true}
+use Rattle.page_cache.proofs.Callers.{same_page-true}
 use Rattle.page_image.specs.PageImage.{PageImageView}
 use Rattle.coherence.specs.World.{Wanted, World, put_page}
 use Rattle.coherence.specs.Counts.{is_back}

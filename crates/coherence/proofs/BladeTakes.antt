@@ -7,7 +7,7 @@ use Rattle.mind_base.specs.Page.{PageView}
 use Rattle.mind_base.specs.declared.commands.Perm.{Perm}
 use Rattle.page_cache.specs.PageCache.{same_page, is_writable}
 use Rattle.page_cache.specs.declared.frames.Frame.{Frame}
-use Rattle.page_cache.proofs.Laws.{same_page-refl}
+use Rattle.page_cache.proofs.Callers.{same_page-refl}
 use Rattle.page_image.specs.PageImage.{PageImageView}
 use Rattle.wire_msg.specs.declared.msgs.Msg.{Msg}
 use Rattle.wire_msg.specs.declared.msgs.Msg.TheVariants.{Fill, Deny}

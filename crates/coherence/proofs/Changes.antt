@@ -3,7 +3,7 @@ use Rattle.std.proofs.Common.{◌≡◌, ℕ, ◌==◌, Bool, true, false, ◌&&
 use Rattle.std.proofs.lemmas.Bool.{and_parts}
 use Rattle.mind_base.specs.Page.{PageView}
 use Rattle.page_cache.specs.PageCache.{same_page}
-use Rattle.page_cache.proofs.Laws.{same_page-true}
+use Rattle.page_cache.proofs.Callers.{same_page-true}
 
 -- by the answer of a test
 pub by-test : (P : Bool → Type 0) (b : Bool) → (b ≡ true → P true) → (b ≡ false → P false) → P b

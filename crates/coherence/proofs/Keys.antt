@@ -4,7 +4,7 @@ use Rattle.std.specs.Prelude.{if◌then◌else◌}
 use Rattle.std.proofs.lemmas.Bool.{eqb-true, and_parts, and_from}
 use Rattle.mind_base.specs.Page.{PageView}
 use Rattle.page_cache.specs.PageCache.{same_page}
-use Rattle.page_cache.proofs.Laws.{same_page-true, same_page-refl}
+use Rattle.page_cache.proofs.Callers.{same_page-true, same_page-refl}
 use Rattle.coherence.specs.World.{put, put_page, put_both}
 
 -- a blade and page are those of a change, or are not

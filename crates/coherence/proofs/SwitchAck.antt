@@ -7,7 +7,7 @@ use Rattle.mind_base.specs.Range.{in_range}
 use Rattle.page_cache.specs.PageCache.{is_writable}
 use Rattle.region_directory.specs.declared.entries.Busy.{Busy}
 use Rattle.invalidate_multicast.specs.Blades.{has_blade}
-use Rattle.page_cache.proofs.Laws.{same_page-refl}
+use Rattle.page_cache.proofs.Callers.{same_page-refl}
 use Rattle.wire_msg.specs.declared.msgs.Msg.{Msg}
 use Rattle.wire_msg.specs.declared.msgs.Msg.TheVariants.{Fill, Back, Inv, Lower, Ack}
 use Rattle.coherence.specs.Counts.{bit, is_back, is_fill, is_call, is_ack, total, none_is}

@@ -10,7 +10,7 @@ use Rattle.coherence.specs.Facts.{numbered, transition, names, owns, stays, has_
 use Rattle.coherence.proofs.Changes.{by-test}
 use Rattle.invalidate_multicast.specs.Blades.{without_blade}
 use Rattle.invalidate_multicast.specs.Transition.{after_answer}
-use Rattle.invalidate_multicast.proofs.BladeLemmas.{without-gone, without-other}
+use Rattle.invalidate_multicast.proofs.Callers.{without-gone, without-other}
 use Rattle.coherence.specs.Moves.{ended, region_answered}
 use Rattle.coherence.proofs.SwitchTransitions.{Tells, transition_tells}
 

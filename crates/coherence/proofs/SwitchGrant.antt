@@ -10,7 +10,7 @@ use Rattle.mind_base.specs.Range.{in_range}
 use Rattle.region_directory.specs.declared.entries.Busy.{Busy}
 use Rattle.page_cache.specs.PageCache.{same_page}
 use Rattle.page_cache.specs.declared.frames.Frame.{Frame}
-use Rattle.page_cache.proofs.Laws.{same_page-true, same_page-refl}
+use Rattle.page_cache.proofs.Callers.{same_page-true, same_page-refl}
 use Rattle.wire_msg.specs.declared.msgs.Msg.{Msg}
 use Rattle.wire_msg.specs.declared.msgs.Msg.TheVariants.{Get, Back, Ack, Read, Image}
 use Rattle.coherence.specs.Counts.{is_back, none_is}

@@ -6,7 +6,7 @@ use Rattle.mind_base.specs.Page.{PageView}
 use Rattle.mind_base.specs.declared.commands.Perm.{Perm}
 use Rattle.region_directory.specs.declared.entries.Busy.{Busy}
 use Rattle.page_cache.specs.PageCache.{same_page}
-use Rattle.page_cache.proofs.Laws.{same_page-true, same_page-refl}
+use Rattle.page_cache.proofs.Callers.{same_page-true, same_page-refl}
 use Rattle.page_image.specs.PageImage.{PageImageView}
 use Rattle.wire_msg.specs.declared.msgs.Msg.{Msg}
 use Rattle.wire_msg.specs.declared.msgs.Msg.TheVariants.{Fill, Back, Inv, Lower, Ack, Image}

@@ -20,8 +20,7 @@ use Rattle.mind_base.specs.declared.images.Image.{Image}
 use Rattle.mind_base.specs.declared.notes.Note.TheVariants as note
 use Rattle.mind_base.specs.declared.plans.ThreadPlan.{ThreadPlan}
 use Rattle.mind_base.specs.Permission.{may_write}
-use Rattle.page_cache.proofs.CallerLemmas.{length-held, put_of-Fresh, put_of-Replaced, put_of-Pushed}
-use Rattle.page_cache.proofs.Laws.{same_page-true, same_page-refl, without_absent}
+use Rattle.page_cache.proofs.Callers.{length-held, put_of-Fresh, put_of-Replaced, put_of-Pushed, same_page-true, same_page-refl, without_absent}
 use Rattle.page_cache.specs.PageCache.{CacheView, IsPageCache, frame_of, without_page, same_page, entries_after_put, put_of, is_writable}
 use Rattle.page_cache.specs.declared.frames.Frame.{Frame}
 use Rattle.page_cache.specs.declared.frames.Put.{Put}

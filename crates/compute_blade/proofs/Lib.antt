@@ -1,4 +1,5 @@
 pub mod Acting
+pub mod Callers
 pub mod Chains
 pub mod Coming
 pub mod Keeping

@@ -7,7 +7,7 @@ use Rattle.mind_base.specs.declared.plans.RackPlan.{RackPlan}
 use Rattle.mind_base.specs.declared.plans.ThreadPlan.{ThreadPlan}
 use Rattle.compute_blade.specs.Blade.{BladeView, IsBlade, StaysBlade}
 use Rattle.compute_blade.specs.Start.{first_blade}
-use Rattle.compute_blade.proofs.Placing.{own_kept}
+use Rattle.compute_blade.proofs.Callers.{own_kept}
 use Rattle.compute_blade_rows.specs.Ready.{IsReady}
 
 pub starts_ready : (plan : RackPlan) (blade : BladeView) (images : List Image) → IsBlade blade → blade ≡ first_blade plan 0

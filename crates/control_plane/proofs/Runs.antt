@@ -10,7 +10,7 @@ use Rattle.mind_base.specs.declared.commands.Perm.{Perm}
 use Rattle.mind_base.specs.declared.commands.Perm.TheVariants.{No, R, Rw}
 use Rattle.mind_base.specs.declared.plans.MemoryPlan.{MemoryPlan}
 use Rattle.protect_table.specs.Protect.{FirstPage}
-use Rattle.protect_table.proofs.Counting.{all_below-holds, all_below-from}
+use Rattle.protect_table.proofs.Callers.{all_below-holds, all_below-from}
 use Rattle.control_plane.specs.Outcome.{all_in, are_mapped, are_unmapped}
 
 -- one page more

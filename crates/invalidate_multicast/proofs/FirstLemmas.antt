@@ -7,7 +7,7 @@ use Rattle.std.proofs.lemmas.List.Edits.{map_over_more}
 use Rattle.std.proofs.lemmas.Option.{slice_get-get_or, slice_get_within, get_or_from_slice_get, none-some}
 use Rattle.region_directory.specs.Entry.{changed_at}
 use Rattle.region_directory.specs.declared.entries.Entry.{Entry}
-use Rattle.region_directory.proofs.ChangeLemmas.{set-changed}
+use Rattle.region_directory.proofs.Callers.{set-changed}
 use Rattle.invalidate_multicast.specs.First.{first_changed, IsFirst}
 
 some-same : (a b : Entry) → Some a ≡ Some b → a ≡ b

@@ -1,4 +1,5 @@
 pub mod AnswerLemmas
 pub mod BladeLemmas
+pub mod Callers
 pub mod FirstLemmas
 pub mod Sets

@@ -1,3 +1,4 @@
+pub mod Callers
 pub mod Decimals
 pub mod Growth
 pub mod Judgements

@@ -1,3 +1,4 @@
+pub mod Callers
 pub mod Frames
 pub mod Holding
 pub mod InOrder

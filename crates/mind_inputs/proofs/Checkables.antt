@@ -4,7 +4,7 @@ use Rattle.mind_base.specs.Log.{LogView}
 use Rattle.mind_base.specs.Store.{Files}
 use Rattle.mind_base.specs.declared.notes.Note.{Note}
 use Rattle.journal_text.specs.declared.refusals.JournalFault.{JournalFault}
-use Rattle.journal_text.proofs.Judgements.{one}
+use Rattle.journal_text.proofs.Callers.{one}
 use Rattle.mind_inputs.specs.Inputs.{Seen, Absent, Long, Bytes, Ending, Refused, Judged, Accepted, SeesFile, Judges}
 use Rattle.mind_inputs.specs.Journals.{IsJournal, JudgedJournal, GivesJournal, JudgesJournal, Checkable, AfterJournal, AfterRun, JudgesCheck, IsOnlyJudgement, notes_of}
 use Rattle.mind_inputs.specs.Loading.{StopsBy, Brings}

@@ -1,3 +1,4 @@
+pub mod Callers
 pub mod Chains
 pub mod Checkables
 pub mod Made

@@ -13,7 +13,7 @@ use Rattle.rack_gen.specs.declared.lines.Line.{Line}
 use Rattle.rack_gen.specs.declared.lines.Line.TheVariants.{Step, Drain, Frame, Epoch, Settle}
 use Rattle.rack_gen.specs.Line.{event_of}
 use Rattle.rack_gen.specs.Generator.{lines_for, generated, generated_text}
-use Rattle.rack_gen.proofs.Made.{IsSized, text_reads, text_fits}
+use Rattle.rack_gen.proofs.Callers.{IsSized, text_reads, text_fits}
 use Rattle.mind_inputs.specs.Inputs.{Long, Bytes, Ending, Judged, ImagesSeen, Judges, JudgesMade, is_built, IsBuilt, schedule_answer, schedule_judged, seen_of, rack_seen_judged, judged_then, images_judged, events_then, made_judged, judge, judge_made}
 use Rattle.mind_inputs.proofs.Chains.{judges-judge, judges-made, judge-judges, made-judges}
 use Rattle.mind_inputs.specs.Words.{Paths}

@@ -6,7 +6,7 @@ use Rattle.mind_base.specs.declared.notes.Note.{Note}
 use Rattle.mind_base.specs.declared.notes.Note.TheVariants as note
 use Rattle.tso_machine.specs.State.{Setup, State, start_state}
 use Rattle.tso_machine.specs.Replay.{labels, label_of, Whole, replay}
-use Rattle.tso_machine.proofs.Runs.{whole-front}
+use Rattle.tso_machine.proofs.Callers.{whole-front}
 use Rattle.mind_steps.specs.Run.{is_event, before_last, IsWholeRun, Stands}
 
 any-last : (ns : List Note) (index : ℕ) → list_any is_event (ns ++ note.Event index ∷ []) ≡ true

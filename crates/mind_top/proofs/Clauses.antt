@@ -7,8 +7,7 @@ use Rattle.rack_gen.specs.Generator.{generated_text}
 use Rattle.mind_inputs.specs.Words.{Paths}
 use Rattle.mind_inputs.specs.Inputs.{Ending, Missing, Refused, Accepted, JudgesOne, Judges, JudgesMade, rack_seen_judged}
 use Rattle.mind_inputs.specs.Journals.{Checkable, JudgesCheck}
-use Rattle.mind_inputs.proofs.Chains.{one-is, judges-judge, judges-made}
-use Rattle.mind_inputs.proofs.Checkables.{only}
+use Rattle.mind_inputs.proofs.Callers.{one-is, judges-judge, judges-made, only}
 use Rattle.mind_top.specs.Words.{Form, Run, Check, Make, Load, IsForm, IsCheckForm, IsMakeForm, IsLoadForm, IsNoForm}
 use Rattle.mind_top.specs.Due.{IsWhole, DoneBy, IsEndedBy, IsRunBy, Due, StopsRun, status_of_ending, status_of, status_of_replay, CallFor, IsSaid, IsAnswered, MayStop, Decides}
 use Rattle.mind_top.specs.Ending.{Counts, EndsWith}

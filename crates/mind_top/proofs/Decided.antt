@@ -8,8 +8,7 @@ use Rattle.mind_base.specs.declared.plans.RackPlan.{RackPlan}
 use Rattle.rack_gen.specs.Generator.{generated_text}
 use Rattle.mind_inputs.specs.Inputs.{Ending, Refused, Judged, Judges, JudgesMade, rack_seen_judged, seen_of}
 use Rattle.mind_inputs.specs.Journals.{Checkable, JudgesCheck}
-use Rattle.mind_inputs.proofs.Checkables.{one-check}
-use Rattle.mind_inputs.proofs.Made.{judged-made}
+use Rattle.mind_inputs.proofs.Callers.{one-check, judged-made}
 use Rattle.mind_top.specs.Words.{Form, Run, Check, Make, Load, IsCheckForm}
 use Rattle.mind_top.specs.Due.{DoneBy, IsEndedBy, Due, status_of_check, CallFor, said_of_replay, said_of_check}
 use Rattle.mind_top.specs.Left.{Left}

@@ -8,15 +8,14 @@ use Rattle.mind_base.specs.declared.notes.Note.{Note}
 use Rattle.mind_base.specs.declared.plans.RackPlan.{RackPlan}
 use Rattle.mind_inputs.specs.Inputs.{Accepted}
 use Rattle.mind_steps.specs.Run.{setup_of, events, below, IsWholeRun, Stands}
-use Rattle.mind_steps.proofs.Fronts.{stands-whole}
+use Rattle.mind_steps.proofs.Callers.{stands-whole}
 use Rattle.rack_core.specs.Calls.{HasSpentNumber}
 use Rattle.rack_core.specs.Rack.{RackView}
 use Rattle.rack_core.specs.Start.{IsStart}
 use Rattle.mind_top.specs.Headline.{setup_by, RunWrites, IsTextOf, IsStopped}
-use Rattle.rack_core.proofs.StandShaped.{shaped-counted}
+use Rattle.rack_core.proofs.Callers.{shaped-counted}
 use Rattle.rack_settle.specs.Ran.{IsRunFor, HasRun}
-use Rattle.rack_settle.proofs.Prompts.{happens_in_log}
-use Rattle.rack_settle.proofs.Schedules.{settled_labels_of}
+use Rattle.rack_settle.proofs.Callers.{happens_in_log, settled_labels_of}
 use Rattle.mind_top.specs.Ran.{RanThrough}
 use Rattle.mind_top.specs.declared.words.Output.{Output}
 use Rattle.mind_top.specs.declared.words.Output.TheVariants.{Report, Journal}

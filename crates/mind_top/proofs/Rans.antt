@@ -16,7 +16,7 @@ use Rattle.schedule_text.specs.Link.{ends_of}
 use Rattle.schedule_text.specs.Size.{sizes_of}
 use Rattle.mind_inputs.specs.Inputs.{IsBuilt, IsRunnable, Accepted}
 use Rattle.mind_steps.specs.Run.{setup_of, event_number, events, below, IsWholeRun, Stands}
-use Rattle.mind_steps.proofs.Fronts.{stands-whole, stands-event}
+use Rattle.mind_steps.proofs.Callers.{stands-whole, stands-event}
 use Rattle.rack_core.specs.Noted.{StandsIn, AreInPlace}
 use Rattle.rack_core.specs.Calls.{HasLink}
 use Rattle.rack_core.specs.Rack.{RackView}

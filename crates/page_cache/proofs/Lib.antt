@@ -1,2 +1,3 @@
 pub mod CallerLemmas
+pub mod Callers
 pub mod Laws

@@ -1,3 +1,4 @@
+pub mod Callers
 pub mod LineCuts
 pub mod Places
 pub mod Reading

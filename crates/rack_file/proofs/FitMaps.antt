@@ -15,7 +15,7 @@ use Rattle.mind_base.specs.declared.plans.MapPlan.{MapPlan}
 use Rattle.mind_base.specs.declared.plans.RackPlan.{RackPlan}
 use Rattle.toml.specs.Data.{Data, Items, no_items, Members, get_member}
 use Rattle.control_plane.specs.Outcome.{are_placed, are_unmapped}
-use Rattle.control_plane.proofs.Runs.{all_in-holds}
+use Rattle.control_plane.proofs.Callers.{all_in-holds}
 use Rattle.rack_file.specs.Keys.{and_then, demand, optional_array_judged, items_judged, count}
 use Rattle.rack_file.specs.Tables.{map_keys, table_judged, span_at, map_at, map_judged, maps_within, maps_judged, blades_judged, memories_judged, images_judged, threads_judged}
 use Rattle.rack_file.specs.Settings.{settings_at, settings_judged}

@@ -7,7 +7,7 @@ use Rattle.mind_base.specs.Span.{SpanView, InSpan, in_span}
 use Rattle.mind_base.specs.Fit.{Within, IsApart, AreApart, IsFitImage, IsFitThread}
 use Rattle.mind_base.specs.declared.plans.ImagePlan.{ImagePlan}
 use Rattle.mind_base.specs.declared.plans.ThreadPlan.{ThreadPlan}
-use Rattle.control_plane.proofs.Runs.{all_in-holds}
+use Rattle.control_plane.proofs.Callers.{all_in-holds}
 use Rattle.toml.specs.Data.{Data, Members, get_member, as_table}
 use Rattle.rack_file.specs.Keys.{and_then, Key, within, number_key, kind_judged, key_judged, keys_judged, known_judged, integer_at, text_at, array_judged, items_judged, under}
 use Rattle.rack_file.specs.Tables.{most_key, top_keys, blade_keys, image_keys, thread_keys, names_in, table_judged, blade_judged, blades_judged, image_judged, images_judged, thread_judged, threads_judged, thread_at, is_apart}

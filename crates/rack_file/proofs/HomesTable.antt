@@ -10,8 +10,7 @@ use Rattle.mind_base.specs.Permission.{permission_from, permission_of}
 use Rattle.mind_base.specs.declared.commands.Perm.{Perm}
 use Rattle.mind_base.specs.declared.commands.Perm.TheVariants.{No, R, Rw}
 use Rattle.protect_table.specs.Protect.{changed}
-use Rattle.protect_table.proofs.Counting.{all_below-same}
-use Rattle.protect_table.proofs.Tables.{permission_of-push}
+use Rattle.protect_table.proofs.Callers.{all_below-same, permission_of-push}
 use Rattle.toml.specs.Data.{Data}
 use Rattle.control_plane.specs.Outcome.{are_unmapped}
 use Rattle.rack_file.specs.Tables.{is_apart, home_judged, home_entry}

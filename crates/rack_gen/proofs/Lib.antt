@@ -1,3 +1,4 @@
+pub mod Callers
 pub mod Drawing
 pub mod Fitting
 pub mod Made

@@ -17,7 +17,7 @@ use Rattle.schedule_text.specs.declared.entries.Entry.TheVariants.{One}
 use Rattle.schedule_text.specs.declared.sizes.Sizes.{Sizes}
 use Rattle.plain_text.specs.Blank.{is_text}
 use Rattle.plain_text.specs.Reading.{lines_read}
-use Rattle.plain_text.proofs.LineCuts.{first_line}
+use Rattle.plain_text.proofs.Callers.{first_line}
 use Rattle.schedule_text.specs.Word.{words_of}
 use Rattle.schedule_text.specs.declared.keywords.Keyword.{Keyword}
 use Rattle.schedule_text.specs.declared.keywords.Keyword.TheVariants as keywords

@@ -9,7 +9,7 @@ use Rattle.std.proofs.lemmas.List.Sums.{AllPass-from_list_all}
 use Rattle.mind_base.specs.Name.{each_prints}
 use Rattle.plain_text.specs.Blank.{is_blank, is_text}
 use Rattle.schedule_text.specs.Word.{words_of}
-use Rattle.schedule_text.proofs.Cuts.{no_words}
+use Rattle.schedule_text.proofs.Callers.{no_words}
 use Rattle.rack_gen.specs.Line.{spaced}
 
 -- ---- words

@@ -7,7 +7,7 @@ use Rattle.std.proofs.lemmas.List.Elements.{All-push}
 use Rattle.mind_base.specs.declared.links.Side.{Side}
 use Rattle.link_retry.specs.Link.{LinkView, IsLink, after_send, FrameDelivers}
 use Rattle.link_retry.specs.GoBackN.{after_resend}
-use Rattle.link_retry.proofs.InOrder.{deliver_keeps}
+use Rattle.link_retry.proofs.Callers.{deliver_keeps}
 use Rattle.wire_msg.specs.declared.msgs.Msg.{Msg}
 use Rattle.wire_msg.specs.Spelling.{spelling}
 use Rattle.wire_msg.specs.WellFormed.{IsWellFormed}

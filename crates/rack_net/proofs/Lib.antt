@@ -1,3 +1,4 @@
+pub mod Callers
 pub mod Carrying
 pub mod Finding
 pub mod Naming

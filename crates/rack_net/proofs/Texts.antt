@@ -8,7 +8,7 @@ use Rattle.wire_msg.specs.declared.msgs.Msg.{Msg}
 use Rattle.wire_msg.specs.declared.msgs.Msg.TheVariants.{Closed}
 use Rattle.wire_msg.specs.Spelling.{spelling}
 use Rattle.wire_msg.specs.WellFormed.{IsWellFormed}
-use Rattle.wire_msg.proofs.Messages.{whole_again}
+use Rattle.wire_msg.proofs.Callers.{whole_again}
 use Rattle.rack_net.specs.Net.{spelled}
 use Rattle.rack_net.specs.Kept.{IsSpelled, message_spelled, link_of}
 

@@ -5,8 +5,8 @@ use Rattle.std.specs.List.{range_with_len}
 use Rattle.std.proofs.lemmas.Bool.{eqb-true, eq-eqb, false≢true}
 use Rattle.std.proofs.lemmas.Bool.Decides.{nat_tests}
 use Rattle.invalidate_multicast.specs.Blades.{has_blade, with_blade, without_blade, cast_to, casts_of}
-use Rattle.invalidate_multicast.proofs.BladeLemmas.{without-gone, without-other}
-use Rattle.rack_core.proofs.SwitchSets.{one-here, one-other, with-here}
+use Rattle.invalidate_multicast.proofs.Callers.{without-gone, without-other}
+use Rattle.rack_core.proofs.Callers.{one-here, one-other, with-here}
 
 -- how many blades a set has
 abbrev pub size : ℕ → ℕ

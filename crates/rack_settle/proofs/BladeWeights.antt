@@ -17,7 +17,7 @@ use Rattle.hart_effect.specs.Deed.{Deed, Alone, Storing, carried_out, found}
 use Rattle.hart_effect.specs.declared.finds.Found.{Found}
 use Rattle.page_cache.specs.PageCache.{CacheView, same_page, frame_of, without_page, with_first, written_frame, lowered_frame, entries_after_put, put_from, is_writable}
 use Rattle.page_cache.specs.declared.frames.Frame.{Frame}
-use Rattle.page_cache.proofs.Laws.{same_page-refl}
+use Rattle.page_cache.proofs.Callers.{same_page-refl}
 use Rattle.page_image.specs.PageImage.{PageImageView}
 use Rattle.wire_msg.specs.declared.msgs.Msg.{Msg}
 use Rattle.wire_msg.specs.declared.msgs.Msg.TheVariants.{Fill, Deny, Back, Inv, Lower, Ack}
@@ -36,11 +36,7 @@ use Rattle.compute_blade.specs.declared.kept.Waits.{Waits}
 use Rattle.compute_blade.specs.declared.kept.Waits.TheVariants.{Step, Drain}
 use Rattle.coherence.specs.Counts.{bit}
 use Rattle.rack_core.specs.BladeMoves.{IsRequestBy, IsRequest}
-use Rattle.rack_core.proofs.BladeFills.{Ends, awaking, resumed-is}
-use Rattle.rack_core.proofs.BladeSound.{of_found}
-use Rattle.rack_core.proofs.Lookups.{Entries}
-use Rattle.rack_core.proofs.ReleasedBlades.{bit-most, marked, marked-cons}
-use Rattle.rack_core.proofs.Resuming.{resumes-as}
+use Rattle.rack_core.proofs.Callers.{Ends, awaking, resumed-is, of_found, Entries, bit-most, marked, marked-cons, resumes-as}
 use Rattle.rack_settle.proofs.SentWeights.{messages-append}
 use Rattle.rack_settle.specs.Weight.{weight_of, messages_weight, blade_weight}
 

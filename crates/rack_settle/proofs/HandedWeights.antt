@@ -24,10 +24,7 @@ use Rattle.rack_core.specs.Rack.{RackView, with_net}
 use Rattle.rack_core.specs.Safe.{IsSafe, IsSound}
 use Rattle.rack_core.specs.Seen.{seen}
 use Rattle.rack_core.specs.SwitchMoves.{with_front}
-use Rattle.rack_core.proofs.BladeHanded.{did, handed_may_come}
-use Rattle.rack_core.proofs.Delivering.{gave_on, with_net-sound, asks_taken}
-use Rattle.rack_core.proofs.Handing.{each-handed}
-use Rattle.rack_core.proofs.Sending.{as-many}
+use Rattle.rack_core.proofs.Callers.{did, handed_may_come, gave_on, with_net-sound, asks_taken, each-handed, as-many}
 use Rattle.rack_settle.specs.Weight.{weight_of, messages_weight, sent_weight, blade_weight, switch_weight, net_weight, rack_weight}
 use Rattle.rack_settle.proofs.BladeWeights.{blade_lightens}
 use Rattle.rack_settle.proofs.MemoryWeights.{memory_lightens}

@@ -20,7 +20,7 @@ use Rattle.page_cache.specs.PageCache.{CacheView, IsPageCache, same_page, frame_
 use Rattle.page_cache.specs.declared.frames.Frame.{Frame}
 use Rattle.page_cache.specs.declared.frames.Put.{Put}
 use Rattle.page_cache.specs.declared.frames.Put.TheVariants.{Fresh, Replaced, Pushed}
-use Rattle.page_cache.proofs.Laws.{same_page-refl, same_page-true}
+use Rattle.page_cache.proofs.Callers.{same_page-refl, same_page-true}
 use Rattle.wire_msg.specs.declared.msgs.Msg.{Msg}
 use Rattle.wire_msg.specs.declared.msgs.Msg.TheVariants.{Fill, Deny, Inv, Lower}
 use Rattle.compute_blade.specs.Blade.{HartView, BladeView, BladeEffect, with_frames, request_for, requests_without}
@@ -40,13 +40,8 @@ use Rattle.tso_machine.specs.declared.labels.Label.{Label}
 use Rattle.tso_machine.specs.declared.labels.Label.TheVariants as label
 use Rattle.rack_core.specs.BladeMoves.{AreRequestsApart, IsDrainRequest, IsRequest, IsRequestBy, IsSoundBlade}
 use Rattle.rack_core.specs.Waits.{IsNeeded, woken_for}
-use Rattle.rack_core.proofs.BladeFills.{Ends, awaking, resumed-is}
-use Rattle.rack_core.proofs.BladeSound.{of_found}
-use Rattle.rack_core.proofs.Lookups.{Entries, found-put_fresh, found-put_replaced, found-put_pushed}
-use Rattle.rack_core.proofs.WaitsGoOn.{resumes}
-use Rattle.rack_core.proofs.WaitsMessages.{out_for}
+use Rattle.rack_core.proofs.Callers.{Ends, awaking, resumed-is, of_found, Entries, found-put_fresh, found-put_replaced, found-put_pushed, resumes, out_for, taken-silent}
 use Rattle.rack_settle.specs.Labels.{owed_by, owed_for, waiting_label}
-use Rattle.rack_core.proofs.StandMids.{taken-silent}
 
 -- ---- what a blade owes
 

@@ -27,7 +27,7 @@ use Rattle.compute_blade.specs.Messages.{after_message}
 use Rattle.compute_blade.specs.Pages.{given_up}
 use Rattle.compute_blade.specs.Steps.{step_at, drain_of, after_step, blade_after_drain}
 use Rattle.coherence.specs.Facts.{IsCoherent}
-use Rattle.coherence.proofs.Whole.{run_keeps}
+use Rattle.coherence.proofs.Callers.{run_keeps}
 use Rattle.tso_machine.specs.Replay.{label_of, labels}
 use Rattle.tso_machine.specs.Scheduled.{label_at, step_label, drain_label}
 use Rattle.tso_machine.specs.State.{Setup}
@@ -41,19 +41,12 @@ use Rattle.rack_core.specs.Safe.{IsSafe}
 use Rattle.rack_core.specs.Seen.{seen}
 use Rattle.rack_core.specs.Stands.{machine_thread}
 use Rattle.rack_core.specs.Waits.{IsNeeded, AreNeeded}
-use Rattle.rack_core.proofs.AtOnceEvents.{looked-up}
-use Rattle.rack_core.proofs.WaitsRuns.{blade_keeps}
-use Rattle.rack_core.proofs.BladeHanded.{did, blade_handed, handed_may_come}
-use Rattle.rack_core.proofs.BladeSteps.{OfHart, for_hart-some}
-use Rattle.rack_core.proofs.Delivering.{gave_on}
-use Rattle.rack_core.proofs.Lookups.{slice_get-set, slice_get-set_other}
-use Rattle.rack_core.proofs.StandSilent.{receives-silent}
-use Rattle.rack_core.proofs.WaitsMessages.{message_keeps}
+use Rattle.rack_core.proofs.Callers.{looked-up, blade_keeps, did, blade_handed, handed_may_come, OfHart, for_hart-some, gave_on, slice_get-set, slice_get-set_other, receives-silent, message_keeps}
 use Rattle.rack_settle.specs.Labels.{asked_blade, asked_labels, owed, owed_by, owed_for, AsksNothing}
 use Rattle.rack_settle.proofs.LabelLists.{both-changed, one-changed}
 use Rattle.rack_settle.proofs.LabelMessages.{IsLeft, Pays, gives-silent, message-pays, silent-pays}
 use Rattle.rack_settle.proofs.LabelSteps.{comes_of, drain-comes, step-comes}
-use Rattle.switch_core.proofs.Lists.{all-at}
+use Rattle.switch_core.proofs.Callers.{all-at}
 
 -- ---- one thing after another
 

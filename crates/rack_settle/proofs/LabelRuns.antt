@@ -32,11 +32,7 @@ use Rattle.rack_core.specs.StandLog.{StandsForLog, made_from}
 use Rattle.rack_core.specs.StandRuns.{GoesWith}
 use Rattle.rack_core.specs.Start.{IsStart}
 use Rattle.rack_core.specs.Waits.{AreNeeded}
-use Rattle.rack_core.proofs.StandLogs.{runs-log}
-use Rattle.rack_core.proofs.StandStarts.{start-logs}
-use Rattle.rack_core.proofs.WaitsRuns.{event_needs, run_needs, start_needs}
-use Rattle.rack_core.proofs.Whole.{event_keeps, run_keeps-all}
-use Rattle.rack_core.proofs.Lists.{append-none}
+use Rattle.rack_core.proofs.Callers.{runs-log, start-logs, event_needs, run_needs, start_needs, event_keeps, run_keeps-all, append-none}
 use Rattle.rack_settle.specs.Labels.{owed, owed_by, owed_for, OwesNothingFor, asked_labels, all_asked, AsksNothing, AskNothing, asked_blade, IsOneEach, LeadsAndSettles, SettlesEach, threads_in, asked_after, settled_labels}
 use Rattle.rack_settle.proofs.LabelLists.{only-none, only-one}
 use Rattle.rack_settle.proofs.LabelMessages.{IsLeft}

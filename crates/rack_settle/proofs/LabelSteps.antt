@@ -31,7 +31,7 @@ use Rattle.tso_machine.specs.declared.labels.Label.{Label}
 use Rattle.tso_machine.specs.declared.labels.Label.TheVariants as label
 use Rattle.rack_core.specs.BladeMoves.{hart_in, IsOut, IsSoundBlade}
 use Rattle.rack_core.specs.Stands.{machine_thread}
-use Rattle.rack_core.proofs.WaitsGoOn.{carried}
+use Rattle.rack_core.proofs.Callers.{carried}
 use Rattle.rack_settle.specs.Labels.{owed_by, owed_for, waiting_label}
 use Rattle.rack_settle.proofs.LabelMessages.{performed-left}
 

@@ -1,5 +1,6 @@
 pub mod BladeCounts
 pub mod BladeWeights
+pub mod Callers
 pub mod HandedWeights
 pub mod LabelLists
 pub mod LabelMessages

@@ -6,8 +6,8 @@ use Rattle.mind_base.specs.declared.links.LinkKind.{LinkKind}
 use Rattle.mind_base.specs.declared.links.LinkKind.TheVariants.{Up, Down, To, From}
 use Rattle.mind_base.specs.declared.links.LinkName.{LinkName}
 use Rattle.rack_net.specs.Net.{NetLink, NetView, ChangesOnly, IsNet, links_of, links_of_kind, kind_number, same_link}
-use Rattle.protect_table.proofs.Counting.{sum_below-same}
-use Rattle.rack_core.proofs.SumsBelow.{below-changed}
+use Rattle.protect_table.proofs.Callers.{sum_below-same}
+use Rattle.rack_core.proofs.Callers.{below-changed}
 use Rattle.rack_settle.specs.Turns.{link_turns, most_link_turns, net_turns, most_net_turns}
 use Rattle.mind_base.specs.Cover.{sum_below}
 use Rattle.rack_settle.specs.Weight.{over_links}

@@ -20,7 +20,7 @@ use Rattle.rack_core.specs.StandLog.{made_from}
 use Rattle.rack_core.specs.StandRuns.{AreCounted, GoesWith}
 use Rattle.rack_core.specs.Start.{IsStart}
 use Rattle.rack_core.specs.Waits.{AreNeeded}
-use Rattle.rack_core.proofs.AtOnceEvents.{executes_at_once, step_drains_at_once, drains_at_once, one_of_step, one_of_drain}
+use Rattle.rack_core.proofs.Callers.{executes_at_once, step_drains_at_once, drains_at_once, one_of_step, one_of_drain}
 use Rattle.rack_settle.specs.Prompt.{IsPrompt, HappensInLog}
 use Rattle.rack_settle.specs.Ran.{IsRunFor, LeadsOrSettles, Ran}
 use Rattle.rack_settle.proofs.Schedules.{between, goes-on}

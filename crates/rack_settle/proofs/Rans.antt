@@ -9,14 +9,12 @@ use Rattle.mind_base.specs.declared.notes.Note.{Note}
 use Rattle.mind_base.specs.declared.notes.Note.TheVariants as note
 use Rattle.tso_machine.specs.State.{start_state}
 use Rattle.tso_machine.specs.Replay.{replay}
-use Rattle.tso_machine.proofs.Runs.{labels-none, take-at}
+use Rattle.tso_machine.proofs.Callers.{labels-none, take-at}
 use Rattle.rack_core.specs.Calls.{IsKept, Notes}
 use Rattle.rack_core.specs.Noted.{AreInPlace, CarriesOn}
 use Rattle.rack_core.specs.Rack.{RackView}
 use Rattle.rack_core.specs.StandLog.{made_from, StandsForLog}
-use Rattle.rack_core.proofs.AccessLogs.{accesses-event}
-use Rattle.rack_core.proofs.RackTells.{log-event}
-use Rattle.rack_core.proofs.Released.{noted-released}
+use Rattle.rack_core.proofs.Callers.{accesses-event, log-event, noted-released}
 use Rattle.rack_settle.specs.Ran.{LeadsOrSettles, Ran, Runs, HasRun, HasStopped}
 
 pub when-ok : {T E P : Type 0} (r : Result T E) → IsOk r → OnOk r P → P

@@ -22,13 +22,7 @@ use Rattle.rack_core.specs.StandLog.{StandsForLog, made_from}
 use Rattle.rack_core.specs.StandRuns.{AreCounted}
 use Rattle.rack_core.specs.Start.{IsStart}
 use Rattle.rack_core.specs.Waits.{AreNeeded}
-use Rattle.rack_core.proofs.CodeEvents.{of-rack}
-use Rattle.rack_core.proofs.StandCounts.{BladesStay, blades-same, blades-then, counted-before}
-use Rattle.rack_core.proofs.StandLogs.{runs-log, runs-stay}
-use Rattle.rack_core.proofs.StandStarts.{start-logs}
-use Rattle.rack_core.proofs.WaitsRuns.{run_needs, start_needs}
-use Rattle.rack_core.proofs.Whole.{run_keeps-all}
-use Rattle.rack_core.proofs.Lists.{all_front}
+use Rattle.rack_core.proofs.Callers.{of-rack, BladesStay, blades-same, blades-then, counted-before, runs-log, runs-stay, start-logs, run_needs, start_needs, run_keeps-all, all_front}
 use Rattle.rack_settle.specs.Labels.{owed, all_asked, AsksNothing, AskNothing, IsOneEach, LeadsAndSettles, SettlesEach, settled_labels}
 use Rattle.rack_settle.specs.Ran.{IsRunFor, LeadsOrSettles, Ran}
 use Rattle.rack_settle.specs.Settled.{IsTurn, AreTurns, Settles}

@@ -14,12 +14,11 @@ use Rattle.rack_core.specs.Events.{Leads}
 use Rattle.rack_core.specs.Noted.{AreInPlace, StandsIn, CarriesOn}
 use Rattle.rack_core.specs.Rack.{RackView}
 use Rattle.rack_core.specs.StandLog.{StandsForLog}
-use Rattle.rack_core.proofs.NotedEvents.{in-settling}
-use Rattle.rack_core.proofs.Quiet.{quiet-rack}
+use Rattle.rack_core.proofs.Callers.{in-settling, quiet-rack}
 use Rattle.rack_settle.specs.Settled.{IsTurn, HasNoTurn, AreTurns, Settles, HasTurned}
 use Rattle.rack_settle.specs.Turns.{turns_left}
 use Rattle.rack_settle.proofs.TurnsFall.{deliver, resend}
-use Rattle.switch_core.proofs.Lists.{all-append}
+use Rattle.switch_core.proofs.Callers.{all-append}
 
 -- ---- one turn
 

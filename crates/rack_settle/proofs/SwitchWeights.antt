@@ -22,9 +22,8 @@ use Rattle.switch_core.specs.Handling.{answered, request_noted, ended, filling, 
 use Rattle.switch_core.specs.Standing.{waiting_in}
 use Rattle.switch_core.specs.Switch.{SwitchView, SwitchEffect, and_then, only, place_in, to_blade}
 use Rattle.switch_core.specs.Treating.{granted_state, holders, denied_request, reading, granted, with_transition, cleared, left_to, invalidated, lowered, invalidations, entered, dropped, without_request}
-use Rattle.switch_core.proofs.EachEnding.{answered-is}
-use Rattle.switch_core.proofs.Lists.{waiting-fetching, waiting-filter, waiting-without}
-use Rattle.rack_core.proofs.Serving.{IsIdle, IsWaiting, IsKept, IsHeard, handled-heard, receives-kept}
+use Rattle.switch_core.proofs.Callers.{answered-is, waiting-fetching, waiting-filter, waiting-without}
+use Rattle.rack_core.proofs.Callers.{IsIdle, IsWaiting, IsKept, IsHeard, handled-heard, receives-kept}
 use Rattle.rack_settle.specs.Weight.{weight_of, sent_weight, request_weight, state_weight, entry_weight, switch_weight}
 use Rattle.rack_settle.proofs.BladeCounts.{size, none-size, one-size, less-size, with-size, without-size}
 use Rattle.rack_settle.proofs.ListSums.{sum-first, sum-joined, sum-inserted, sum-removed, sum-mapped, sum-changed, sum-first_changed}

@@ -12,7 +12,7 @@ use Rattle.rack_net.specs.Net.{NetView, IsNet, IsFirstFrame, IsFirstKept, Change
 use Rattle.rack_core.specs.Calls.{IsKept, HasNoFrame}
 use Rattle.rack_core.specs.Events.{HandsAll, Leads}
 use Rattle.rack_core.specs.Rack.{RackView, with_net}
-use Rattle.rack_core.proofs.CodeEvents.{few-links}
+use Rattle.rack_core.proofs.Callers.{few-links}
 use Rattle.rack_settle.specs.Turns.{link_turns, net_turns, most_net_turns, turns_left}
 use Rattle.rack_settle.specs.Weight.{messages_weight, net_weight, rack_weight}
 use Rattle.rack_settle.proofs.HandedWeights.{delivery-lightens, delivery-as-many}

@@ -8,7 +8,7 @@ use Rattle.mind_base.specs.Range.{RangeView, in_range}
 use Rattle.range_translate.specs.Order.{IsOrdered, put_in_order}
 use Rattle.range_translate.specs.Place.{smaller_of, smallest_of}
 use Rattle.range_translate.specs.declared.outliers.Outlier.{Outlier}
-use Rattle.range_translate.proofs.BlockOrder.{before, after, not_after, parts_of}
+use Rattle.range_translate.proofs.Callers.{before, after, not_after, parts_of}
 
 abbrev pub IsNew : RangeView → List Outlier → Type 0
 IsNew range outliers = AllByRecursion (λ o. o.range ≢ range) outliers

@@ -16,10 +16,9 @@ use Rattle.range_translate.specs.Order.{IsOrdered, put_in_order}
 use Rattle.range_translate.specs.Place.{physical_place, smallest_of, place_or_home, place_in_outlier, IsSmallest}
 use Rattle.range_translate.specs.Table.{IsTable}
 use Rattle.range_translate.specs.declared.outliers.Outlier.{Outlier}
-use Rattle.range_translate.proofs.BlockOrder.{ordered-filter}
-use Rattle.range_translate.proofs.SmallestLaw.{moved, at_home, in_range-has}
+use Rattle.range_translate.proofs.Callers.{ordered-filter, moved, at_home, in_range-has}
 use Rattle.spare_pool.specs.Pool.{PoolView, all_free}
-use Rattle.spare_pool.proofs.Pages.{in_range as in_list, range_has}
+use Rattle.spare_pool.proofs.Callers.{in_range as in_list, range_has}
 use Rattle.range_migrate.specs.Run.{home_pages, spare_pages, IsFreeAt, first_spare_of, has_spare_page, users, FitsRun, AreRuns}
 use Rattle.range_migrate.specs.Plan.{each_page, is_at, way_of, outside, IsFreeRunAt, new_move, EndsBy, Plans, Uses, Takes, wanted_place}
 use Rattle.range_migrate.specs.Ending.{outlier_of, pages_given_up, Frees}

@@ -10,9 +10,7 @@ use Rattle.mind_base.specs.Range.{InRange, in_range}
 use Rattle.mind_base.specs.declared.plans.MemoryPlan.{MemoryPlan}
 use Rattle.range_translate.specs.Place.{smallest_of, place_in_outlier, place_or_home, physical_place}
 use Rattle.range_translate.specs.declared.outliers.Outlier.{Outlier}
-use Rattle.range_translate.proofs.OneHome.{one-home, same-page, at-or-after, from-on, place-below}
-use Rattle.range_translate.proofs.Smallest.{smallest-has, has_page, any_page}
-use Rattle.range_translate.proofs.SmallestLaw.{first_or_rest, in_range-has}
+use Rattle.range_translate.proofs.Callers.{one-home, same-page, at-or-after, from-on, place-below, smallest-has, has_page, any_page, first_or_rest, in_range-has}
 use Rattle.spare_pool.specs.Pool.{PoolView}
 use Rattle.range_migrate.specs.Run.{home_pages, first_spare_of, has_spare_page, FitsRun, AreRuns}
 use Rattle.range_migrate.proofs.Removing.{to_lies}

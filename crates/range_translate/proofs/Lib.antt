@@ -1,10 +1,11 @@
 pub mod Apart
 pub mod BlockOrder
+pub mod Callers
+pub mod FirstInside
 pub mod HomeSteps
-pub mod Smallest
-pub mod TableFacts
 pub mod OneHome
 pub mod PieceLemmas
 pub mod PieceSteps
+pub mod Smallest
 pub mod SmallestLaw
-pub mod FirstInside
+pub mod TableFacts

@@ -1,4 +1,5 @@
 pub mod BlockLemmas
+pub mod Callers
 pub mod ChangeLemmas
 pub mod LookUpLemmas
 pub mod OrderLemmas

@@ -9,7 +9,7 @@ use Rattle.mind_base.specs.declared.commands.Outcome.{Outcome}
 use Rattle.mind_base.specs.declared.notes.Note.{Note}
 use Rattle.tso_machine.specs.State.{Taken}
 use Rattle.tso_machine.specs.Commands.{outcome_at}
-use Rattle.tso_machine.proofs.Runs.{take-at}
+use Rattle.tso_machine.proofs.Callers.{take-at}
 use Rattle.report_text.specs.CommandLine.{moved_at, command_outcome, command_line, command_lines_from}
 
 lines-append : (ended : ℕ → Option Outcome) (n : ℕ) (xs : List Command) (y : Command)

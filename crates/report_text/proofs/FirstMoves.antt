@@ -4,7 +4,7 @@ use Rattle.std.specs.List.{slice_get}
 use Rattle.std.specs.Option.{option_or}
 use Rattle.mind_base.specs.declared.commands.Outcome.{Outcome}
 use Rattle.mind_base.specs.declared.notes.Note.{Note}
-use Rattle.tso_machine.proofs.Runs.{take-at}
+use Rattle.tso_machine.proofs.Callers.{take-at}
 use Rattle.report_text.specs.CommandLine.{moved_in, moved_at}
 
 or-none : (o : Option Outcome) → option_or o None ≡ o

@@ -6,7 +6,7 @@ use Rattle.std.proofs.lemmas.List.{length-take}
 use Rattle.std.proofs.lemmas.Option.{slice_get_within, same_Some}
 use Rattle.mind_base.specs.declared.ends.End.{End}
 use Rattle.hart_effect.specs.Thread.{Thread}
-use Rattle.tso_machine.proofs.Runs.{take-at}
+use Rattle.tso_machine.proofs.Callers.{take-at}
 use Rattle.report_text.specs.ThreadLine.{thread_line_of, thread_line, thread_lines_from, thread_lines}
 
 lines-append : (n : ℕ) (xs : List Thread) (y : Thread) → thread_lines_from n (xs ++ y ∷ []) ≡ thread_lines_from n xs ++ thread_line (n + length xs) y

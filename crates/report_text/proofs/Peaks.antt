@@ -6,7 +6,7 @@ use Rattle.std.specs.Ordering.{ord_max, nat_cmp}
 use Rattle.std.proofs.lemmas.Grind.{common_steps}
 use Rattle.mind_base.specs.Range.{RangeView}
 use Rattle.mind_base.specs.declared.notes.Note.{Note}
-use Rattle.tso_machine.proofs.Runs.{take-at}
+use Rattle.tso_machine.proofs.Callers.{take-at}
 use Rattle.report_text.specs.Force.{after_note, blocks_in_force, peak_within}
 
 fold-end : (blocks : List RangeView) (notes : List Note) (note : Note)

@@ -4,7 +4,7 @@ use Rattle.std.specs.Prelude.{count_by}
 use Rattle.std.specs.List.{slice_get}
 use Rattle.std.proofs.lemmas.List.Sums.{sum_by-append}
 use Rattle.mind_base.specs.declared.notes.Note.{Note}
-use Rattle.tso_machine.proofs.Runs.{take-at}
+use Rattle.tso_machine.proofs.Callers.{take-at}
 
 count-more : (p : Note → Bool) (notes : List Note) (i : ℕ) (note : Note) → slice_get notes i ≡ Some note
     → count_by p (take (i + 1) notes) ≡ count_by p (take i notes) + count_by p (note ∷ [])

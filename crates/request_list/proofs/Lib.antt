@@ -1,2 +1,3 @@
-pub mod RequestFacts
+pub mod Callers
 pub mod FetchedPages
+pub mod RequestFacts

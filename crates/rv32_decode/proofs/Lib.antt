@@ -1,6 +1,7 @@
-pub mod Immediates
-pub mod Words
+pub mod Callers
 pub mod Codes
+pub mod Immediates
+pub mod Meaning
 pub mod Rows
 pub mod Spelled
-pub mod Meaning
+pub mod Words

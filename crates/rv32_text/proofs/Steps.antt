@@ -8,8 +8,7 @@ use Rattle.std.proofs.lemmas.Bool.{ne_eqb}
 use Rattle.std.proofs.lemmas.List.{append_assoc, append-nil, length-append, flat_map_more, take_more}
 use Rattle.std.proofs.lemmas.Nat.{from_le_bytes-to_le_bytes_4}
 use Rattle.rv32_decode.specs.Instr.{word_of}
-use Rattle.rv32_decode.proofs.Meaning.{instr_of-word_of}
-use Rattle.rv32_decode.proofs.Spelled.{word_of-below}
+use Rattle.rv32_decode.proofs.Callers.{instr_of-word_of, word_of-below}
 use Rattle.plain_text.specs.declared.refusals.LineRefusal.{LineRefusal}
 use Rattle.plain_text.specs.declared.refusals.LineRefusal.TheVariants as refusals
 use Rattle.plain_text.specs.Reading.{FirstFault, Fails, Gives, ◌>>=◌}

@@ -9,14 +9,14 @@ use Rattle.std.proofs.lemmas.List.{append_assoc, append-nil, length-append}
 use Rattle.std.proofs.lemmas.Nat.{le_bytes_4}
 use Rattle.rv32_decode.specs.declared.instruction.Instr.{Instr}
 use Rattle.rv32_decode.specs.Instr.{Fits, instr_of, word_of}
-use Rattle.rv32_decode.proofs.Meaning.{fits_answer, again_answer}
+use Rattle.rv32_decode.proofs.Callers.{fits_answer, again_answer}
 use Rattle.rv32_text.specs.declared.items.Item.{Item}
 use Rattle.rv32_text.specs.declared.items.Item.TheVariants as item
 use Rattle.plain_text.specs.Reading.{lines_read}
 use Rattle.rv32_text.specs.Meaning.{items_after_line, items_from, labels_of, meaning}
 use Rattle.rv32_text.specs.Image.{item_word, item_bytes, image_of, assembled, image_words}
 use Rattle.rv32_text.specs.Written.{has_text, item_for, item_of_word, item_text, word_line, disassembled}
-use Rattle.plain_text.proofs.LineCuts.{first_line}
+use Rattle.plain_text.proofs.Callers.{first_line}
 use Rattle.rv32_text.proofs.LinesAgain.{line_text, Labels, IsRead, reads_line}
 use Rattle.rv32_text.proofs.ItemsAgain.{instr_read, word_read}
 use Rattle.rv32_text.proofs.Steps.{some_ok}

@@ -6,7 +6,7 @@ use Rattle.std.proofs.lemmas.List.{take_all, drop_all, drop_more, length-take-le
 use Rattle.std.proofs.lemmas.List.Splits.{slice_split-cons_yes, slice_split_first}
 use Rattle.std.proofs.lemmas.List.Sums.{passes_at_first, prefix_len-le-length, prefix_len_stops}
 use Rattle.plain_text.specs.Blank.{is_blank}
-use Rattle.plain_text.proofs.LineCuts.{whole}
+use Rattle.plain_text.proofs.Callers.{whole}
 use Rattle.schedule_text.specs.Word.{words_of}
 
 abbrev some_word : List ℕ → Bool

@@ -1,3 +1,4 @@
+pub mod Callers
 pub mod Cuts
 pub mod Fitting
 pub mod WrittenOut

@@ -1,4 +1,5 @@
 pub mod Blocks
+pub mod Callers
 pub mod Pages
 pub mod Places
 pub mod PoolLemmas

@@ -1,4 +1,5 @@
 pub mod Answering
+pub mod Callers
 pub mod Coming
 pub mod EachEnding
 pub mod Going

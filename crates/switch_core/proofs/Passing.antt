@@ -21,7 +21,7 @@ use Rattle.region_directory.specs.Room.{room_of, first_rule, is_unheld, is_dropp
 use Rattle.region_directory.specs.declared.entries.Busy.{Busy}
 use Rattle.region_directory.specs.declared.entries.Entry.{Entry}
 use Rattle.region_directory.specs.declared.rooms.Room.TheVariants.{Drop, Evict}
-use Rattle.region_directory.proofs.RoomLemmas.{all-fail}
+use Rattle.region_directory.proofs.Callers.{all-fail}
 use Rattle.request_list.specs.declared.requests.Request.{Request}
 use Rattle.wire_msg.specs.declared.msgs.Msg.{Msg}
 use Rattle.switch_core.specs.Invariant.{IsFitState, IsFitEntry, IsFitRequest, IsSwitch}
@@ -32,7 +32,7 @@ use Rattle.switch_core.specs.Treating.{Pass, waits, blocks, does, grants, holder
 use Rattle.switch_core.specs.declared.stands.Stand.{Stand}
 use Rattle.switch_core.proofs.Lists.{all-at, all-append}
 use Rattle.switch_core.proofs.Safety.{Safe, safe-invalidated, safe-lowered, less-invalidated, less-lowered}
-use Rattle.invalidate_multicast.proofs.Sets.{without-other_power}
+use Rattle.invalidate_multicast.proofs.Callers.{without-other_power}
 
 -- ---- one thing after another
 

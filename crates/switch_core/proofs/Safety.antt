@@ -8,7 +8,7 @@ use Rattle.std.proofs.lemmas.List.Edits.{length-insert, length-remove}
 use Rattle.std.proofs.lemmas.List.Sums.{count_by-le-length}
 use Rattle.std.proofs.lemmas.Nat.{pow_pos}
 use Rattle.std.proofs.lemmas.Option.{slice_get_within}
-use Rattle.region_directory.proofs.ChangeLemmas.{length-changed}
+use Rattle.region_directory.proofs.Callers.{length-changed}
 use Rattle.region_directory.specs.Block.{is_before}
 use Rattle.mind_base.specs.Page.{PageView}
 use Rattle.mind_base.specs.Range.{RangeView, InRange}
@@ -37,7 +37,7 @@ use Rattle.switch_core.specs.Switch.{SwitchView, SwitchEffect, with_entries, wit
 use Rattle.switch_core.specs.Treating.{holders, granted_state, left_to, without_request, denied_request, granted, reading, with_transition, cleared, invalidated, lowered, invalidations, entered, dropped}
 use Rattle.switch_core.proofs.Lists.{all-at, all-insert, all-remove, all-filter, all-changed, all-fetching, waiting-fetching, waiting-without, idle-state, under-state, idle-busy, under-busy, idle-remove, under-remove, idle-insert, under-insert}
 use Rattle.switch_core.proofs.Places.{place-within}
-use Rattle.invalidate_multicast.proofs.Sets.{with_blade-fits, with_blade-some, power-some, power-fits, has_blade-below, without-le}
+use Rattle.invalidate_multicast.proofs.Callers.{with_blade-fits, with_blade-some, power-some, power-fits, has_blade-below, without-le}
 
 -- what the request fetches is allowed
 abbrev pub IsAllowed : SwitchView → Request → Type 0

@@ -1,22 +1,23 @@
-pub mod Laws
 mod LawsCommands
 mod LawsDeeds
 mod LawsExecuted
-pub mod LawsFences
 mod LawsLists
-pub mod LawsOrder
-pub mod LawsOwnStores
-pub mod LawsRuns
 mod LawsSeen
-pub mod LawsSources
 mod LawsSteps
-pub mod RowLemmas
-pub mod Runs
-pub mod Starts
+pub mod Callers
 pub mod Carrying
 pub mod Commanding
 pub mod Counting
+pub mod Laws
+pub mod LawsFences
+pub mod LawsOrder
+pub mod LawsOwnStores
+pub mod LawsRuns
+pub mod LawsSources
 pub mod Marking
+pub mod RowLemmas
+pub mod Runs
+pub mod Starts
 pub mod Threads
 pub mod Waiting
 pub mod Writing

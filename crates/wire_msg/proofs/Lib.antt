@@ -1,3 +1,4 @@
+pub mod Callers
 pub mod Fields
 pub mod Images
 pub mod KindLaws

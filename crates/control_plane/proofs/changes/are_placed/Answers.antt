@@ -1,7 +1,7 @@
 use Rattle.std.proofs.Common.{◌≡◌, ◌+◌, is_some, sym, ◌∙◌, ap, arith}
 use Rattle.mind_base.specs.Span.{SpanView}
 use Rattle.mind_base.specs.Home.{home_of}
-use Rattle.protect_table.proofs.Counting.{all_below-from}
+use Rattle.protect_table.proofs.Callers.{all_below-from}
 use Rattle.control_plane.proofs.Runs.{all_below-more, all_below-fails, is_some-home_of, placed_below}
 use Rattle.control_plane.proofs.changes.are_placed.Goals as goal
 

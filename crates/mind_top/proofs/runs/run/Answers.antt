@@ -1,6 +1,6 @@
 use Rattle.std.proofs.Common.{◌∙◌, ap, refl, subst, inl, inr, Some, Err}
 use Rattle.mind_inputs.specs.Inputs.{Accepted}
-use Rattle.mind_steps.proofs.Fronts.{stands-empty}
+use Rattle.mind_steps.proofs.Callers.{stands-empty}
 use Rattle.rack_core.specs.Start.{IsStart}
 use Rattle.mind_top.specs.Headline.{setup_by}
 use Rattle.mind_top.proofs.Headlines.{all-events, is-stopped, ran-through, stands-for}

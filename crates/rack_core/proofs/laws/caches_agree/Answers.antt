@@ -1,8 +1,8 @@
 use Rattle.std.proofs.Common.{sym, ◌∙◌}
-use Rattle.coherence.proofs.BladeMoves.{single_writer}
+use Rattle.coherence.proofs.Callers.{single_writer}
 use Rattle.rack_core.specs.Seen.{seen}
-use Rattle.rack_core.proofs.Starting.{starts}
-use Rattle.rack_core.proofs.Whole.{run_keeps-all}
+use Rattle.rack_core.proofs.Events.Starting.{starts}
+use Rattle.rack_core.proofs.Events.Whole.{run_keeps-all}
 use Rattle.rack_core.proofs.laws.caches_agree.Goals as goal
 
 pub returns-clause-single_writer : goal.returns-clause-single_writer

@@ -1,4 +1,4 @@
-use Rattle.rack_core.proofs.NotedEvents.{places_of, shaped-own}
+use Rattle.rack_core.proofs.Log.Places.Events.{places_of, shaped-own}
 use Rattle.rack_core.proofs.laws.notes_stand_in_their_places.Goals as goal
 
 pub returns : goal.returns

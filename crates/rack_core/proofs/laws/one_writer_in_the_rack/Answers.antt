@@ -1,5 +1,5 @@
 use Rattle.std.proofs.Common.{sym, ◌∙◌}
-use Rattle.coherence.proofs.BladeMoves.{single_writer}
+use Rattle.coherence.proofs.Callers.{single_writer}
 use Rattle.rack_core.specs.Seen.{seen}
 use Rattle.rack_core.proofs.laws.one_writer_in_the_rack.Goals as goal
 

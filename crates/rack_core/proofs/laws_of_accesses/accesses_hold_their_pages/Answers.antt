@@ -4,10 +4,10 @@ use Rattle.coherence.specs.Held.{held_by, no_holdings}
 use Rattle.tso_machine.specs.State.{start_state}
 use Rattle.rack_core.specs.Accesses.{AreAccessesHeld, DrainHolds, ExecHolds}
 use Rattle.rack_core.specs.StandLog.{made_from}
-use Rattle.rack_core.proofs.AccessLogs.{accesses-at, states-led}
-use Rattle.rack_core.proofs.StandLogs.{runs-log, runs-stay}
-use Rattle.rack_core.proofs.StandStarts.{start-logs}
-use Rattle.rack_core.proofs.Starting.{starts}
+use Rattle.rack_core.proofs.Log.Accesses.Logs.{accesses-at, states-led}
+use Rattle.rack_core.proofs.Machine.Logs.{runs-log, runs-stay}
+use Rattle.rack_core.proofs.Machine.Starts.{start-logs}
+use Rattle.rack_core.proofs.Events.Starting.{starts}
 use Rattle.rack_core.proofs.laws_of_accesses.accesses_hold_their_pages.Goals as goal
 
 pub returns-clause-log : goal.returns-clause-log

@@ -1,5 +1,5 @@
 use Rattle.std.proofs.Common.{arith}
-use Rattle.rack_core.proofs.Released.{event-released}
+use Rattle.rack_core.proofs.Log.Hits.Rack.{event-released}
 use Rattle.rack_core.proofs.laws_of_hits.hits_are_released.Goals as goal
 
 pub returns-clause-event : goal.returns-clause-event

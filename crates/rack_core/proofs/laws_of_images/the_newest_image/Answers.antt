@@ -1,7 +1,7 @@
 use Rattle.std.proofs.Common.{ap, sym, ◌∙◌, slice_index}
 use Rattle.mind_base.specs.Page.{page_of, page_offset_at}
 use Rattle.page_image.specs.PageImage.{PageImageView}
-use Rattle.rack_core.proofs.NewestImages.{the_newest, held_newest}
+use Rattle.rack_core.proofs.Moves.NewestImages.{the_newest, held_newest}
 use Rattle.rack_core.proofs.laws_of_images.the_newest_image.Goals as goal
 
 pub returns-clause-newest : goal.returns-clause-newest

@@ -1,6 +1,6 @@
-use Rattle.coherence.proofs.Telling.{lawful_in}
+use Rattle.coherence.proofs.Callers.{lawful_in}
 use Rattle.rack_core.specs.Seen.{seen}
-use Rattle.rack_core.proofs.BladeTells.{step_tells, drain_tells, evict_tells, handed_tells, within_new}
+use Rattle.rack_core.proofs.Log.Held.Blades.{step_tells, drain_tells, evict_tells, handed_tells, within_new}
 use Rattle.rack_core.proofs.laws_of_notes.blades_tell_what_they_did.Goals as goal
 
 pub returns-clause-step : goal.returns-clause-step

@@ -1,5 +1,5 @@
-use Rattle.rack_core.proofs.WaitsGoOn.{rack_resumes, rack_fills, rack_denies}
-use Rattle.rack_core.proofs.WaitsRuns.{start_needs, event_needs, run_needs, reached_needs}
+use Rattle.rack_core.proofs.Waits.GoOn.{rack_resumes, rack_fills, rack_denies}
+use Rattle.rack_core.proofs.Waits.Runs.{start_needs, event_needs, run_needs, reached_needs}
 use Rattle.rack_core.proofs.laws_of_waits.waits_fit.Goals as goal
 
 pub returns : goal.returns

@@ -3,7 +3,7 @@ use Rattle.std.specs.List.{AllByRecursion}
 use Rattle.std.proofs.lemmas.Grind.{common_steps}
 use Rattle.wire_msg.specs.WellFormed.{FieldsAgree}
 use Rattle.rack_net.specs.Net.{IsLinkOf}
-use Rattle.rack_core.proofs.Sending.{SendsOnward, sent-one, still-links}
+use Rattle.rack_core.proofs.Events.Sending.{SendsOnward, sent-one, still-links}
 use Rattle.rack_core.proofs.sends.send_all.Goals as goal
 
 pub loop-link-preserved : goal.loop-link-preserved

@@ -3,7 +3,7 @@ use Rattle.std.specs.List.{AllByRecursion}
 use Rattle.std.proofs.lemmas.Grind.{common_steps}
 use Rattle.wire_msg.specs.WellFormed.{FieldsAgree}
 use Rattle.wire_msg.specs.declared.msgs.Msg.{Msg}
-use Rattle.rack_core.proofs.Sending.{SendsOnward, sent-one, still-link}
+use Rattle.rack_core.proofs.Events.Sending.{SendsOnward, sent-one, still-link}
 use Rattle.rack_core.proofs.sends.send_each.Goals as goal
 
 pub loop-msg-preserved : goal.loop-msg-preserved

@@ -2,7 +2,7 @@ use Rattle.std.proofs.Common.{drop, map}
 use Rattle.std.specs.List.{AllByRecursion}
 use Rattle.wire_msg.specs.WellFormed.{FieldsAgree}
 use Rattle.rack_net.specs.Net.{IsLinkOf, IsNet}
-use Rattle.rack_core.proofs.Sending.{SendsOnward}
+use Rattle.rack_core.proofs.Events.Sending.{SendsOnward}
 use Rattle.rack_core.proofs.sends.send_each.Given as goal
 
 abbrev pub invariant-loop-msg : goal.invariant-loop-msg

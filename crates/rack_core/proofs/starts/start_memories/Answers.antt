@@ -3,7 +3,7 @@ use Rattle.std.specs.List.{AllByRecursion}
 use Rattle.std.proofs.lemmas.Grind.{common_steps}
 use Rattle.std.proofs.lemmas.List.{append_assoc}
 use Rattle.mind_base.specs.Fit.{IsFitMemory, AreApart, all_homes}
-use Rattle.range_translate.proofs.Apart.{AreApart-front, AreApart-rest}
+use Rattle.range_translate.proofs.Callers.{AreApart-front, AreApart-rest}
 use Rattle.rack_core.specs.Start.{first_memory}
 use Rattle.rack_core.proofs.starts.start_memories.Goals as goal
 

@@ -2,7 +2,7 @@ use Rattle.std.proofs.Common.{◌≡◌, ◌+◌, ◌++◌, ◌∷◌, [], drop,
 use Rattle.mind_base.specs.Permission.{permission_of}
 use Rattle.mind_base.specs.Cover.{cover_of}
 use Rattle.protect_table.specs.Protect.{changed}
-use Rattle.protect_table.proofs.Tables.{cover_of-fits, permission_of-push}
+use Rattle.protect_table.proofs.Callers.{cover_of-fits, permission_of-push}
 use Rattle.control_plane.specs.Outcome.{are_placed}
 use Rattle.toml.specs.View.{items_view}
 use Rattle.rack_file.specs.Keys.{items_judged}

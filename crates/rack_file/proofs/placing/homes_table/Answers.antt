@@ -1,6 +1,6 @@
 use Rattle.std.proofs.Common.{refl, ◌∙◌, ap}
 use Rattle.mind_base.specs.Permission.{permission_of}
-use Rattle.protect_table.proofs.Tables.{cover_of-fits}
+use Rattle.protect_table.proofs.Callers.{cover_of-fits}
 use Rattle.rack_file.proofs.placing.homes_table.Goals as goal
 
 pub of-requires : goal.of-requires

@@ -1,7 +1,7 @@
 use Rattle.std.proofs.Common.{◌+◌, not, is_some, sym, ◌∙◌, ap, arith}
 use Rattle.mind_base.specs.Home.{home_of}
-use Rattle.protect_table.proofs.Counting.{all_below-from}
-use Rattle.control_plane.proofs.Runs.{all_below-more, all_below-fails}
+use Rattle.protect_table.proofs.Callers.{all_below-from}
+use Rattle.control_plane.proofs.Callers.{all_below-more, all_below-fails}
 use Rattle.rack_file.proofs.placing.is_placed.Goals as goal
 
 pub loop-n-init : goal.loop-n-init

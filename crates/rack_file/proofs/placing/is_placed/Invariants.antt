@@ -1,5 +1,5 @@
 use Rattle.std.proofs.Common.{◌≡◌, true}
-use Rattle.control_plane.proofs.Runs.{placed_below}
+use Rattle.control_plane.proofs.Callers.{placed_below}
 use Rattle.rack_file.proofs.placing.is_placed.Given as goal
 
 abbrev pub invariant-loop-n : goal.invariant-loop-n

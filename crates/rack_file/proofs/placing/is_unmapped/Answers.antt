@@ -1,6 +1,6 @@
 use Rattle.std.proofs.Common.{◌∙◌}
 use Rattle.protect_table.specs.Protect.{permission_at}
-use Rattle.control_plane.proofs.Runs.{is_none-by, unmapped-found}
+use Rattle.control_plane.proofs.Callers.{is_none-by, unmapped-found}
 use Rattle.rack_file.proofs.placing.is_unmapped.Goals as goal
 
 pub returns : goal.returns

@@ -1,4 +1,4 @@
-use Rattle.protect_table.proofs.Tables.{cover_of-fits}
+use Rattle.protect_table.proofs.Callers.{cover_of-fits}
 use Rattle.rack_file.proofs.placing.put.Goals as goal
 
 pub apply-requires-clause-room : goal.apply-requires-clause-room

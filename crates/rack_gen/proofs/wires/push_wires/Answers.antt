@@ -1,7 +1,7 @@
 use Rattle.std.proofs.Common.{◌++◌, ◌∙◌, ap, append_assoc, List, ℕ}
 use Rattle.rack_gen.specs.declared.wires.Wire.{Wire}
 use Rattle.rack_gen.specs.Wire.{wires_of_link, wires_between}
-use Rattle.schedule_text.proofs.WrittenOut.{flat_more}
+use Rattle.schedule_text.proofs.Callers.{flat_more}
 use Rattle.rack_gen.proofs.wires.push_wires.Goals as goal
 
 pub loop-number-preserved : goal.loop-number-preserved

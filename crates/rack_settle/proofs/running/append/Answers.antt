@@ -1,7 +1,7 @@
 use Rattle.std.proofs.Common.{◌∙◌, ◌<◌, [], ◌∷◌, ◌++◌, ap, sym, take, arith}
 use Rattle.std.proofs.lemmas.List.{append_assoc}
 use Rattle.std.proofs.lemmas.Option.{slice_get_within}
-use Rattle.tso_machine.proofs.Runs.{take-at}
+use Rattle.tso_machine.proofs.Callers.{take-at}
 use Rattle.rack_settle.proofs.Rans.{when-ok}
 use Rattle.rack_settle.proofs.running.append.Goals as goal
 

@@ -1,7 +1,7 @@
 use Rattle.std.proofs.Common.{refl, arith}
 use Rattle.std.proofs.lemmas.List.{length-take-le}
 use Rattle.std.proofs.lemmas.Option.{slice_get_read}
-use Rattle.tso_machine.proofs.Runs.{on_err}
+use Rattle.tso_machine.proofs.Callers.{on_err}
 use Rattle.rack_settle.proofs.Rans.{has-run-none, has-run-at, has-stopped-at}
 use Rattle.rack_settle.proofs.running.run_all.Goals as goal
 

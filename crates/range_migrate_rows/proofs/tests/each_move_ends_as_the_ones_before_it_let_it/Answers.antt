@@ -1,4 +1,4 @@
-use Rattle.range_migrate.proofs.Onward.{reached-first}
+use Rattle.range_migrate.proofs.Callers.{reached-first}
 use Rattle.range_migrate_rows.proofs.tests.each_move_ends_as_the_ones_before_it_let_it.Goals as goal
 
 pub first_other-requires : goal.first_other-requires

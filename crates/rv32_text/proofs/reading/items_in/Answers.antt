@@ -1,7 +1,7 @@
 use Rattle.std.proofs.Common.{◌+◌, ◌∙◌, length, sym, arith}
 use Rattle.std.proofs.lemmas.Result.{err_from_is_err_and}
 use Rattle.std.proofs.lemmas.Bool.{eqb-true}
-use Rattle.plain_text.proofs.Reading.{goes_on, stops, ends}
+use Rattle.plain_text.proofs.Callers.{goes_on, stops, ends}
 use Rattle.rv32_text.specs.Found.{found_in}
 use Rattle.rv32_text.specs.Meaning.{items_after_line}
 use Rattle.rv32_text.proofs.reading.items_in.Goals as goal

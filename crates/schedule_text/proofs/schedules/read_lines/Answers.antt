@@ -2,7 +2,7 @@ use Rattle.std.proofs.Common.{◌+◌, ◌∙◌, length, sym, arith}
 use Rattle.std.proofs.lemmas.Result.{err_from_is_err_and}
 use Rattle.std.proofs.lemmas.Bool.{eqb-true}
 use Rattle.schedule_text.specs.Schedule.{after_line}
-use Rattle.plain_text.proofs.Reading.{goes_on, stops, ends}
+use Rattle.plain_text.proofs.Callers.{goes_on, stops, ends}
 use Rattle.schedule_text.proofs.schedules.read_lines.Goals as goal
 
 pub returns-in_err-add_line-clause-exact : goal.returns-in_err-add_line-clause-exact

@@ -1,8 +1,8 @@
-use Rattle.rack_core.proofs.CodeBlades.{when-ok, both-ok}
-use Rattle.rack_core.proofs.CodeEvents.{kept-after, of-rack}
-use Rattle.rack_core.proofs.NotedEvents.{places_of, shaped-own}
-use Rattle.rack_core.proofs.StandLogs.{event-logs}
-use Rattle.rack_core.proofs.StandShaped.{shaped-counted}
+use Rattle.rack_core.proofs.Functions.Blades.{when-ok, both-ok}
+use Rattle.rack_core.proofs.Functions.Events.{kept-after, of-rack}
+use Rattle.rack_core.proofs.Log.Places.Events.{places_of, shaped-own}
+use Rattle.rack_core.proofs.Machine.Logs.{event-logs}
+use Rattle.rack_core.proofs.Machine.Shaped.{shaped-counted}
 use Rattle.rack_core.proofs.racks.Rack.event.Goals as goal
 
 pub returns-clause-kept : goal.returns-clause-kept

@@ -1,10 +1,10 @@
 use Rattle.std.proofs.Common.{◌≡◌, ◌∙◌, ap, map, refl, length, rules, arith}
 use Rattle.rack_core.specs.Rack.{RackView}
 use Rattle.rack_core.specs.Start.{IsStart, first_memory}
-use Rattle.rack_core.proofs.CodeStarts.{first-shape}
-use Rattle.rack_core.proofs.Served.{start-served}
-use Rattle.rack_core.proofs.StandStarts.{start-logs}
-use Rattle.rack_core.proofs.Starting.{starts}
+use Rattle.rack_core.proofs.Functions.Starts.{first-shape}
+use Rattle.rack_core.proofs.Events.Served.{start-served}
+use Rattle.rack_core.proofs.Machine.Starts.{start-logs}
+use Rattle.rack_core.proofs.Events.Starting.{starts}
 use Rattle.rack_core.proofs.racks.Rack.start.Goals as goal
 
 pub returns-clause-start : goal.returns-clause-start

@@ -1,0 +1,27 @@
+-- The rack stands for a state of the abstract machine, and goes on as it does.
+pub mod Blades
+pub mod Bytes
+pub mod Came
+pub mod Changes
+pub mod Counts
+pub mod Deeds
+pub mod Denies
+pub mod Elsewhere
+pub mod Ending
+pub mod Events
+pub mod Fills
+pub mod Handed
+pub mod Harts
+pub mod Images
+pub mod Keeps
+pub mod Logs
+pub mod Mids
+pub mod Pages
+pub mod Queues
+pub mod Replays
+pub mod Shaped
+pub mod Silent
+pub mod Starts
+pub mod Steps
+pub mod Stores
+pub mod Tags

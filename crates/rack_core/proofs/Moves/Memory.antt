@@ -1,0 +1,3 @@
+-- What a memory blade does, as moves of the coherence.
+pub mod Acts
+pub mod Handed

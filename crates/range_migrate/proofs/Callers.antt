@@ -1,0 +1,2 @@
+-- What the proofs of other crates may cite.
+pub use Rattle.range_migrate.proofs.Onward.{reached-first}
