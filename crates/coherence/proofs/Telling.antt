@@ -13,7 +13,7 @@ use Rattle.mind_base.specs.Range.{RangeView, in_range, same_range}
 use Rattle.mind_base.specs.declared.notes.Note.{Note}
 use Rattle.mind_base.specs.declared.notes.State.{State}
 use Rattle.mind_base.specs.declared.plans.RackPlan.{RackPlan}
-use Rattle.mind_base.proofs.SameRange.{same_range-refl, same_range-true}
+use Rattle.mind_base.proofs.Callers.{same_range-refl, same_range-true}
 use Rattle.page_cache.specs.declared.frames.Frame.{Frame}
 use Rattle.coherence.specs.Facts.{IsCoherent, AreBlocksOf, names, owns, stays, has_not_answered, may, may_hold_writable}
 use Rattle.coherence.specs.Held.{Holdings, Entries, held_after, entries_after}

@@ -8,7 +8,7 @@ use Rattle.mind_base.specs.declared.notes.Note.{Note}
 use Rattle.mind_base.specs.declared.notes.Note.TheVariants as note
 use Rattle.mind_base.specs.declared.notes.State.{State}
 use Rattle.mind_base.specs.declared.plans.RackPlan.{RackPlan}
-use Rattle.mind_base.proofs.SameRange.{same_range-refl, same_range-true}
+use Rattle.mind_base.proofs.Callers.{same_range-refl, same_range-true}
 use Rattle.coherence.specs.Facts.{IsCoherent}
 use Rattle.coherence.specs.Held.{Holdings, Entries, held_after, entries_after, put_entry}
 use Rattle.coherence.specs.Lawful.{IsNamed, IsLawful, AreLawful, IsWithin, Tells}

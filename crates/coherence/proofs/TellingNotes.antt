@@ -7,7 +7,7 @@ use Rattle.mind_base.specs.declared.notes.Note.{Note}
 use Rattle.mind_base.specs.declared.notes.Note.TheVariants as note
 use Rattle.mind_base.specs.declared.notes.State.{State}
 use Rattle.mind_base.specs.declared.plans.RackPlan.{RackPlan}
-use Rattle.mind_base.proofs.SameRange.{same_range-refl, same_range-true}
+use Rattle.mind_base.proofs.Callers.{same_range-refl, same_range-true}
 use Rattle.page_cache.specs.PageCache.{same_page}
 use Rattle.page_cache.specs.declared.frames.Frame.{Frame}
 use Rattle.coherence.specs.Facts.{IsCoherent}

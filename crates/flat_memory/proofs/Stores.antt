@@ -11,7 +11,7 @@ use Rattle.std.proofs.lemmas.List.{get_or-take, get_or-replicate, get_or_past, l
 use Rattle.std.proofs.lemmas.Map.Entries.{lookup-filter-keys}
 use Rattle.mind_base.specs.Page.{page_number_at, page_offset_at}
 use Rattle.mind_base.specs.Pending.{PendingView, IsPending, byte_number}
-use Rattle.mind_base.proofs.StoredBytes.{end_inside, size_le_4, get_or-to_le_bytes}
+use Rattle.mind_base.proofs.Callers.{end_inside, size_le_4, get_or-to_le_bytes}
 use Rattle.flat_memory.specs.FlatMemory.{byte_among, stored_among, zeroed_among, written}
 use Rattle.flat_memory.proofs.Pages.{between-in, between-out}
 

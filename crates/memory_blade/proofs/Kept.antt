@@ -4,7 +4,7 @@ use Rattle.std.specs.Global.{Box}
 use Rattle.std.proofs.lemmas.List.{map-set}
 use Rattle.std.proofs.lemmas.List.Elements.{All-set, All-replicate}
 use Rattle.page_image.specs.PageImage.{PageImageView, IsPageImage, zero_image}
-use Rattle.page_image.proofs.Laws.{IsPageImage-zero_image}
+use Rattle.page_image.proofs.Callers.{IsPageImage-zero_image}
 use Rattle.memory_blade.specs.Stored.{kept_or_zero, images_in}
 
 none-kept : (n : ℕ) → images_in (replicate n None) ≡ replicate n zero_image

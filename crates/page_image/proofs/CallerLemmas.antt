@@ -3,7 +3,7 @@ use Rattle.std.proofs.Common.{◌≡◌, ℕ, ◌+◌, ◌-◌, ◌*◌, ◌^◌
 use Rattle.std.specs.Int.{w32, to_le_bytes}
 use Rattle.std.proofs.lemmas.List.{get_or-take, get_or-drop, get_or_past, length-take, length-take-le, get_or_append_left, get_or-append_right}
 use Rattle.mind_base.specs.Pending.{byte_number}
-use Rattle.mind_base.proofs.StoredBytes.{size_le_4, get_or-to_le_bytes}
+use Rattle.mind_base.proofs.Callers.{size_le_4, get_or-to_le_bytes}
 use Rattle.page_image.specs.PageImage.{PageImageView, IsPageImage, IsInside, number_at, image_after}
 use Rattle.page_image.proofs.Laws.{end_inside}
 

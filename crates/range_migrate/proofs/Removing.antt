@@ -7,7 +7,7 @@ use Rattle.std.proofs.lemmas.Bool.Decides.{nat_tests}
 use Rattle.std.proofs.lemmas.Nat.{pow_pos}
 use Rattle.mind_base.specs.Range.{RangeView, same_range}
 use Rattle.mind_base.specs.declared.plans.MemoryPlan.{MemoryPlan}
-use Rattle.mind_base.proofs.SameRange.{same_range-refl, same_range-true}
+use Rattle.mind_base.proofs.Callers.{same_range-refl, same_range-true}
 use Rattle.range_translate.specs.Block.{block_lies_inside, comes_before}
 use Rattle.range_translate.specs.Order.{IsOrdered}
 use Rattle.range_translate.specs.Table.{TableView}

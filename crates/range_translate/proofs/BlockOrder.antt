@@ -4,7 +4,7 @@ use Rattle.std.specs.List.{AllByRecursion}
 use Rattle.std.proofs.lemmas.Bool.Decides.{nat_tests}
 use Rattle.std.proofs.lemmas.List.Elements.{All-filter, All-from_recursion, recursion_from_All, filter_passes}
 use Rattle.mind_base.specs.Range.{RangeView, same_range}
-use Rattle.mind_base.proofs.SameRange.{same_range-true}
+use Rattle.mind_base.proofs.Callers.{same_range-true}
 use Rattle.range_translate.specs.Block.{comes_before}
 use Rattle.range_translate.specs.Order.{IsOrdered, put_in_order}
 use Rattle.range_translate.specs.declared.outliers.Outlier.{Outlier}

@@ -8,8 +8,7 @@ use Rattle.std.proofs.lemmas.List.Elements.{recursion_from_All}
 use Rattle.mind_base.specs.Page.{PageView}
 use Rattle.mind_base.specs.Range.{RangeView, IsRange, InRange, in_range}
 use Rattle.mind_base.specs.Home.{home_of}
-use Rattle.mind_base.proofs.Blocks.{up_to_nine}
-use Rattle.mind_base.proofs.SameRange.{range_by_parts}
+use Rattle.mind_base.proofs.Callers.{up_to_nine, range_by_parts}
 use Rattle.range_translate.specs.Block.{comes_before}
 use Rattle.range_translate.specs.Order.{IsOrdered}
 use Rattle.range_translate.specs.Place.{smaller_of, smallest_of, place_or_home, place_in_outlier, physical_place, IsSmallest}

@@ -3,7 +3,7 @@ use Rattle.std.proofs.Common.{◌≡◌, ℕ, ◌+◌, ◌-◌, ◌*◌, ◌<◌
 use Rattle.std.proofs.lemmas.Nat.{pow_pos}
 use Rattle.std.proofs.lemmas.Bool.{true_from_ne_false, cases_lt}
 use Rattle.std.proofs.lemmas.Bool.Decides.{nat_tests}
-use Rattle.mind_base.proofs.Blocks.{up_to_nine}
+use Rattle.mind_base.proofs.Callers.{up_to_nine}
 use Rattle.mind_base.specs.Page.{PageView, IsPage}
 use Rattle.mind_base.specs.Range.{RangeView, IsRange, InRange, in_range}
 use Rattle.region_directory.specs.Block.{AreBlocksApart, are_apart, block_of}

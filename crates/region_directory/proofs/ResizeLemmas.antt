@@ -5,7 +5,7 @@ use Rattle.std.specs.Option.{IsSomeAnd, is_none, option_map, option_and_then}
 use Rattle.std.proofs.lemmas.Bool.Decides.{nat_tests}
 use Rattle.std.proofs.lemmas.Nat.{pow-add}
 use Rattle.std.proofs.lemmas.Option.{same_Some, slice_get-get_or, slice_get_read}
-use Rattle.mind_base.proofs.Blocks.{up_to_nine}
+use Rattle.mind_base.proofs.Callers.{up_to_nine}
 use Rattle.mind_base.specs.Range.{RangeView, IsRange, halves_of}
 use Rattle.mind_base.specs.declared.notes.State.{State}
 use Rattle.region_directory.specs.Directory.{DirectoryView, IsDirectory}

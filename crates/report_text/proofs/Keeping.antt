@@ -11,7 +11,7 @@ use Rattle.std.proofs.lemmas.List.{length-append}
 use Rattle.std.proofs.lemmas.Map.Views.{any-filter_same}
 use Rattle.std.proofs.lemmas.Map.Keys.{IsDistinct-head, IsDistinct-tail, IsDistinct-cons, IsDistinct-push}
 use Rattle.mind_base.specs.Range.{RangeView, same_range}
-use Rattle.mind_base.proofs.SameRange.{same_range-laws}
+use Rattle.mind_base.proofs.Callers.{same_range-laws}
 use Rattle.report_text.specs.declared.force.BlockKey.{BlockKey}
 use Rattle.report_text.specs.Force.{has_block, without, entered}
 use Rattle.report_text.specs.Kept.{key_of, key_cmp, HoldsKeys}

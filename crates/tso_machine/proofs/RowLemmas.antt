@@ -6,6 +6,7 @@ use Rattle.std.proofs.lemmas.Bool.{cases_Bool, false≢true}
 use Rattle.std.proofs.lemmas.Bool.Decides.{nat_tests}
 use Rattle.std.proofs.lemmas.List.{map-set}
 use Rattle.std.proofs.lemmas.Option.{same_Some, none-some, option_and_then_some}
+use Rattle.mind_base.specs.Inside.{stores_in}
 use Rattle.mind_base.specs.Pending.{PendingView}
 use Rattle.mind_base.specs.Place.{Granule, place_of, granule_at}
 use Rattle.mind_base.specs.Span.{SpanView}
@@ -14,7 +15,7 @@ use Rattle.mind_base.specs.declared.commands.Command.TheVariants.{Map, Unmap, Pr
 use Rattle.mind_base.specs.declared.plans.ThreadPlan.{ThreadPlan}
 use Rattle.hart_effect.specs.Deed.{Storing, drained_of}
 use Rattle.hart_effect.specs.Thread.{Thread}
-use Rattle.tso_machine.specs.Commands.{is_change, outcome_at, next_from, next_command, command_span, stores_in, buffers_in, is_buffered, is_held_up, taken_as, outcome_in_state, taken_unless_held_up}
+use Rattle.tso_machine.specs.Commands.{is_change, outcome_at, next_from, next_command, command_span, buffers_in, is_buffered, is_held_up, taken_as, outcome_in_state, taken_unless_held_up}
 use Rattle.tso_machine.specs.Rows.{left_in, drains, drains_from, buffers_of, own_label, row_of, BuffersIn, BuffersLowest}
 use Rattle.tso_machine.specs.State.{Setup, State, Taken}
 use Rattle.tso_machine.specs.Step.{threads_off, done_by, after}

@@ -2,9 +2,9 @@
 use Rattle.std.specs.Prelude.{ℕ, suc, ◌^◌, Bool, true, false, ◌==◌, ◌&&◌, ◌||◌, not, List, [], ◌∷◌, ◌++◌, map, slice_get, Option, Some, None, is_some, option_and_then, if◌then◌else◌}
 use Rattle.std.specs.List.{list_any}
 use Rattle.control_plane.specs.Outcome.{setting_of, outcome_of}
-use Rattle.mind_base.specs.Pending.{PendingView}
+use Rattle.mind_base.specs.Inside.{stores_in, reservation_outside}
 use Rattle.mind_base.specs.Permission.{permission_of}
-use Rattle.mind_base.specs.Span.{SpanView, in_span}
+use Rattle.mind_base.specs.Span.{SpanView}
 use Rattle.mind_base.specs.declared.commands.Command.{Command}
 use Rattle.mind_base.specs.declared.commands.Command.TheVariants.{Map, Unmap, Protect, Migrate}
 use Rattle.mind_base.specs.declared.commands.Outcome.{Outcome}
@@ -13,7 +13,6 @@ use Rattle.mind_base.specs.declared.plans.MapPlan.{MapPlan}
 use Rattle.mind_base.specs.declared.plans.ThreadPlan.{ThreadPlan}
 use Rattle.hart_effect.specs.Thread.{Thread}
 use Rattle.tso_machine.specs.State.{Setup, Write, Zeros, Taken, State}
-use Rattle.mind_base.specs.Place.{Granule, place_of, page_at, page_with}
 
 -- ---- which command is next
 
@@ -45,10 +44,6 @@ command_span (Migrate range memory) = record { domain = range.domain; base = ran
 
 -- ---- what holds it up
 
--- the store of a thread of a domain lies in a page of the span
-abbrev pub stores_in : SpanView → ℕ → PendingView → Bool
-stores_in span domain store = in_span span (page_at (place_of domain store.address))
-
 -- the thread of a domain buffers a store in the span
 abbrev pub buffers_in : SpanView → ℕ → Thread → Bool
 buffers_in span domain thread = list_any (stores_in span domain) thread.buffer
@@ -68,11 +63,6 @@ abbrev pub is_held_up : Command → List ThreadPlan → List Thread → Bool
 is_held_up command plans threads = is_held_up_with (setting_of command) plans threads
 
 -- ---- what it does
-
--- a reservation inside the span is gone; any other stays
-abbrev pub reservation_outside : SpanView → Option Granule → Option Granule
-reservation_outside span None = None
-reservation_outside span (Some granule) = if in_span span (page_with granule) then None else Some granule
 
 abbrev pub thread_outside : SpanView → Thread → Thread
 thread_outside span thread = record thread { reserved = reservation_outside span thread.reserved }

@@ -1,12 +1,13 @@
 -- The labels of a command that is carried out where nothing else happens: first the stores that hold it up.
 use Rattle.std.specs.Prelude.{◌≡◌, ℕ, zero, suc, ◌<◌, true, List, [], ◌∷◌, ◌++◌, map, slice_get, Some, if◌then◌else◌}
 use Rattle.std.specs.List.{list_any}
+use Rattle.mind_base.specs.Inside.{stores_in}
 use Rattle.mind_base.specs.Pending.{PendingView}
 use Rattle.mind_base.specs.Span.{SpanView}
 use Rattle.mind_base.specs.declared.commands.Command.{Command}
 use Rattle.mind_base.specs.declared.plans.ThreadPlan.{ThreadPlan}
 use Rattle.hart_effect.specs.Thread.{Thread}
-use Rattle.tso_machine.specs.Commands.{stores_in, is_change, command_span}
+use Rattle.tso_machine.specs.Commands.{is_change, command_span}
 use Rattle.tso_machine.specs.State.{Setup}
 use Rattle.tso_machine.specs.declared.labels.Label.{Label}
 use Rattle.tso_machine.specs.declared.labels.Label.TheVariants as label

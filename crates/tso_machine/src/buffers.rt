@@ -3,7 +3,7 @@
 ghost use Rattle.std.specs.Prelude.{◌≡◌, ◌<◌, ◌+◌, ◌∷◌, ◌++◌, [], OnOk, OnErr, length, drop, slice_get};
 ghost use Rattle.mind_base.specs.Pending.{newest_byte as newest_byte_of};
 ghost use Rattle.std.specs.List.{list_any};
-ghost use Rattle.tso_machine.specs.Commands.{stores_in};
+ghost use Rattle.mind_base.specs.Inside.{stores_in};
 ghost use Rattle.hart_effect.specs.Deed.{holds_stores};
 
 use mind_base::{NoMemory, Pending, Place, Span};

@@ -11,7 +11,7 @@ use Rattle.mind_base.specs.declared.notes.Note.TheVariants as note
 use Rattle.mind_base.specs.declared.notes.State.{State}
 use Rattle.mind_base.specs.declared.notes.State.TheVariants.{I, S, M}
 use Rattle.mind_base.specs.declared.plans.RackPlan.{RackPlan}
-use Rattle.mind_base.proofs.SameRange.{same_range-true}
+use Rattle.mind_base.proofs.Callers.{same_range-true}
 use Rattle.region_directory.specs.Block.{is_before}
 use Rattle.region_directory.specs.Entry.{changed_at, fresh_entry, entry_place}
 use Rattle.region_directory.specs.declared.entries.Entry.{Entry}

@@ -10,7 +10,7 @@ use Rattle.mind_base.specs.Page.{PageView}
 use Rattle.mind_base.specs.Range.{RangeView, in_range, same_range}
 use Rattle.mind_base.specs.declared.notes.State.{State}
 use Rattle.mind_base.specs.declared.plans.RackPlan.{RackPlan}
-use Rattle.mind_base.proofs.SameRange.{same_range-flip, same_range-laws, same_range-true}
+use Rattle.mind_base.proofs.Callers.{same_range-flip, same_range-laws, same_range-true}
 use Rattle.page_cache.specs.PageCache.{same_page}
 use Rattle.region_directory.specs.declared.entries.Entry.{Entry}
 use Rattle.switch_core.specs.Switch.{SwitchView, SwitchEffect}

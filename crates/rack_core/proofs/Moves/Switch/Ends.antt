@@ -5,7 +5,7 @@ use Rattle.std.specs.List.{AllByRecursion, flat_map}
 use Rattle.mind_base.specs.Range.{RangeView, in_range, same_range}
 use Rattle.mind_base.specs.declared.notes.Note.TheVariants as note
 use Rattle.mind_base.specs.declared.plans.RackPlan.{RackPlan}
-use Rattle.mind_base.proofs.SameRange.{same_range-true}
+use Rattle.mind_base.proofs.Callers.{same_range-true}
 use Rattle.invalidate_multicast.specs.Transition as transition
 use Rattle.invalidate_multicast.specs.Transition.{is_answered, finished, target_of}
 use Rattle.region_directory.specs.declared.entries.Busy.{Busy}

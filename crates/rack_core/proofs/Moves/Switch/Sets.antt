@@ -8,7 +8,7 @@ use Rattle.std.proofs.lemmas.Bool.Decides.{nat_tests}
 use Rattle.std.proofs.lemmas.Nat.{pow_pos, shr-shr, shr_split}
 use Rattle.std.proofs.lemmas.Grind.{pow_more}
 use Rattle.std.proofs.lemmas.Nat.Bits.{bit_at_above, bit_at_cat_low, bit_at_cat_high}
-use Rattle.mind_base.proofs.Blocks.{up_to_nine}
+use Rattle.mind_base.proofs.Callers.{up_to_nine}
 use Rattle.mind_base.specs.declared.links.LinkKind.TheVariants.{Down, To}
 use Rattle.wire_msg.specs.declared.msgs.Msg.{Msg}
 use Rattle.invalidate_multicast.specs.Blades.{has_blade, with_blade, cast_to, casts_of}

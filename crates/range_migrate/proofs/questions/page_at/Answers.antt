@@ -1,6 +1,6 @@
 use Rattle.std.proofs.Common.{◌≡◌, ℕ, ◌+◌, ◌<◌, ◌≤◌, ◌%◌, ◌^◌, sym, ap, subst, arith}
 use Rattle.mind_base.specs.Range.{RangeView}
-use Rattle.mind_base.proofs.Blocks.{up_to_nine}
+use Rattle.mind_base.proofs.Callers.{up_to_nine}
 use Rattle.range_migrate.proofs.questions.page_at.Goals as goal
 
 abbrev IsInside : ℕ → Type 0
