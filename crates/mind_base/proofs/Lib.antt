@@ -1,5 +1,9 @@
 pub mod Blocks
+pub mod Callers
 pub mod Digits
 pub mod Files
+pub mod Lists
 pub mod SameRange
 pub mod StoredBytes
+pub mod Tests
+pub mod Truth

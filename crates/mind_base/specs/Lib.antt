@@ -1,6 +1,7 @@
 pub mod Cover
 pub mod Fit
 pub mod Home
+pub mod Inside
 pub mod Log
 pub mod MemSink
 pub mod MemStore

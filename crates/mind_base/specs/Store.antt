@@ -1,5 +1,5 @@
 -- What a store of files holds, and when a read of it may fail.
-use Rattle.std.specs.Prelude.{◌≡◌, ℕ, ◌+◌, ◌-◌, ◌^◌, ◌<◌, ◌≤◌, ◌⊎◌, min, List, length, Option, Some, None, Result, Ok, Err}
+use Rattle.std.specs.Prelude.{◌≡◌, ℕ, ◌+◌, ◌-◌, ◌^◌, ◌<◌, ◌≤◌, ◌⊎◌, min, List, [], ◌∷◌, ◌++◌, length, Option, Some, None, Result, Ok, Err}
 use Rattle.std.specs.Global.{Vec}
 use Rattle.std.specs.Ordering.{nat_cmp}
 use Rattle.std.specs.Cmp.Lexicographic.{slice_cmp}
@@ -53,6 +53,25 @@ pub record ReadHasCause (h : Option (Option (List ℕ))) (faults faults' missed 
   pub missed_stay : missed ≤ missed'
   pub missed_same : MissedStays h missed missed'
   pub error : ErrorBy h faults faults' missed missed' limit result
+
+-- a read that did not fail raises neither count
+abbrev pub StaysUnlessFailed : ℕ → ℕ → ℕ → ℕ → Result (Vec ℕ) ReadError → Type 0
+StaysUnlessFailed faults faults' missed missed' (Ok bytes) = (faults' ≡ faults) × (missed' ≡ missed)
+StaysUnlessFailed faults faults' missed missed' (Err read.Failed) = Unit {0}
+StaysUnlessFailed faults faults' missed missed' (Err (read.TooLong n)) = (faults' ≡ faults) × (missed' ≡ missed)
+StaysUnlessFailed faults faults' missed missed' (Err read.NoMemory) = (faults' ≡ faults) × (missed' ≡ missed)
+
+-- the name stands behind those that were asked for, where the store tells them
+abbrev pub AsksFor : Option (List (List ℕ)) → Option (List (List ℕ)) → List ℕ → Type 0
+AsksFor None asked' name = asked' ≡ None
+AsksFor (Some names) asked' name = asked' ≡ Some (names ++ name ∷ [])
+
+-- a read asks for its name, once; one without memory may end before it asks
+abbrev pub Asks : Option (List (List ℕ)) → Option (List (List ℕ)) → List ℕ → Result (Vec ℕ) ReadError → Type 0
+Asks asked asked' name (Ok bytes) = AsksFor asked asked' name
+Asks asked asked' name (Err read.Failed) = AsksFor asked asked' name
+Asks asked asked' name (Err (read.TooLong n)) = AsksFor asked asked' name
+Asks asked asked' name (Err read.NoMemory) = (asked' ≡ asked) ⊎ AsksFor asked asked' name
 
 -- the answer of a read by what is held under the name: those bytes, or that they are longer than the limit
 abbrev pub TellsHeld : Option (List ℕ) → ℕ → Result (Vec ℕ) ReadError → Type 0

@@ -9,7 +9,8 @@ use std::fs::File;
 use std::io::Read;
 use std::rt::Files;
 
-/// The files of the folder that the program runs in. It does not tell what they hold.
+/// The files of the folder that the program runs in. It does not tell what they hold
+/// nor which were asked for.
 #[derive(Drop)]
 pub struct DirStore<'a, R: Files> {
     rt: &'a R,
@@ -30,12 +31,14 @@ impl<'a, R: Files> Store for DirStore<'a, R> {
 
     ghost missed = { λ _. 0 };
 
+    ghost asked = { λ _. None };
+
     fn read_all(&mut self, alloc: Global, name: &str, limit: u64) -> Result<Vec<u8>, ReadError> {
         let answer = match File::open(self.rt, name) {
             Ok(mut file) => read_to_limit(alloc, &mut file, limit),
             Err(_) => Err(ReadError::Failed),
         };
-        if answer.is_err() {
+        if let Err(ReadError::Failed) = answer {
             self.faults = self.faults.saturating_add(1);
         }
         answer

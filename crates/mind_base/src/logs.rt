@@ -1,6 +1,6 @@
 //! A log of notes, to which notes are added alone.
 
-ghost use Rattle.std.specs.Prelude.{◌≡◌, ◌<◌, ◌≤◌, ◌+◌, [], ◌∷◌, ◌++◌, length, slice_get, Some, IsOk, OnOk, OnErr};
+ghost use Rattle.std.specs.Prelude.{◌≡◌, ◌<◌, ◌≤◌, ◌+◌, [], ◌∷◌, ◌++◌, length, take, slice_get, Some, IsOk, OnOk, OnErr};
 
 use crate::{NoMemory, Note};
 use std::alloc::Global;
@@ -52,6 +52,15 @@ impl Log {
     {
         self.notes.reserve(more)?;
         Ok(())
+    }
+
+    /// Keeps the first `len` notes alone, and the room of the others for later ones. Takes no memory.
+    pub fn truncate(&mut self, len: usize)
+        requires { len ≤ length self.old.notes }
+        ensures notes { self.new.notes ≡ take len self.old.notes }
+        ensures room { length self.new.notes + self.new.spare ≡ length self.old.notes + self.old.spare }
+    {
+        self.notes.truncate(len);
     }
 
     pub fn len(&self) -> usize

@@ -1,8 +1,8 @@
 //! A store in memory, for tests, of which listed calls fail.
 
-ghost use Rattle.std.specs.Prelude.{◌≡◌, ◌≤◌, map, [], Some, option_map, IfOk, vec_len};
+ghost use Rattle.std.specs.Prelude.{◌≡◌, ◌≤◌, map, [], None, Some, option_map, IfOk, vec_len};
 ghost use Rattle.std.specs.FinMap.{get};
-ghost use Rattle.mind_base.specs.Store.{file_map, held, ReadHasCause, ReadTells};
+ghost use Rattle.mind_base.specs.Store.{file_map, held, ReadHasCause, ReadTells, StaysUnlessFailed, Asks};
 ghost use Rattle.mind_base.specs.MemStore.{contents, StoreReads};
 
 use crate::{Name, ReadError, Store};
@@ -10,7 +10,8 @@ use std::alloc::Global;
 use std::marker::Model;
 
 /// Files in memory, for tests: reads fail at the calls whose numbers, from 0, are listed, and at
-/// names that it lacks. Of two files of one name the first counts.
+/// names that it lacks. Of two files of one name the first counts. It does not tell which names were
+/// asked for.
 #[derive(Debug, Drop)]
 pub struct MemStore {
     files: Vec<(Name, Vec<u8>)>,
@@ -61,6 +62,8 @@ impl Store for MemStore {
 
     ghost missed = { λ s. s.missed };
 
+    ghost asked = { λ _. None };
+
     /// Fails exactly at the listed calls, where `faults` rises, and at a name that it lacks, where `missed`
     /// rises; else the file is given, but for want of memory or more bytes than the limit.
     fn read_all(&mut self, alloc: Global, name: &str, limit: u64) -> Result<Vec<u8>, ReadError>
@@ -70,6 +73,8 @@ impl Store for MemStore {
         ensures cause { ReadHasCause (held (Some (file_map self.old.files)) name.now)
             self.old.faults self.new.faults self.old.missed self.new.missed limit result }
         ensures told { ReadTells (held (Some (file_map self.old.files)) name.now) limit result }
+        ensures steady { StaysUnlessFailed self.old.faults self.new.faults self.old.missed self.new.missed result }
+        ensures asks { Asks None None name.now result }
     {
         let call = self.calls;
         self.calls = self.calls.saturating_add(1);

@@ -58,3 +58,5 @@ pub enum Note {
         range: Range,
     },
 }
+
+const _: () = prove!(size_of::<Note>() <= 16);

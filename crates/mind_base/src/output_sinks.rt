@@ -11,12 +11,17 @@ use std::io::Write;
 pub struct OutSink<'a, P: Print> {
     rt: &'a P,
     faults: u64,
+    writes: u64,
 }
 
 impl<'a, P: Print> OutSink<'a, P> {
     /// Takes no memory.
     pub fn new(rt: &'a P) -> Self {
-        OutSink { rt, faults: 0 }
+        OutSink {
+            rt,
+            faults: 0,
+            writes: 0,
+        }
     }
 }
 
@@ -25,7 +30,10 @@ impl<'a, P: Print> Sink for OutSink<'a, P> {
 
     ghost faults = { λ s. s.faults };
 
+    ghost writes = { λ s. s.writes };
+
     fn write_all(&mut self, bytes: &[u8]) -> Result<(), WriteError> {
+        self.writes = self.writes.saturating_add(1);
         match io::writer(self.rt).write_all(bytes) {
             Ok(()) => Ok(()),
             Err(_) => {

@@ -10,8 +10,8 @@ use std::marker::Model;
 #[derive(Clone, Copy, Debug, PartialEq, Eq, Hash)]
 pub struct Range {
     pub domain: u8,
-    pub base: u32,
     pub log: u8,
+    pub base: u32,
 }
 
 impl Model for Range {

@@ -1,8 +1,8 @@
 -- What the searches of a list find.
-use Rattle.std.proofs.Common.{◌≡◌, ℕ, ◌<◌, ◌≤◌, ◌-◌, Bool, true, false, cond, not, ◌⊎◌, inl, inr, Some, None, List, [], ◌∷◌, length, get_or, refl, ap, sym, subst, ◌∙◌, zero, suc, arith}
+use Rattle.std.proofs.Common.{◌≡◌, ℕ, ◌<◌, ◌≤◌, ◌-◌, Bool, true, false, cond, not, ◌⊎◌, inl, inr, Option, Some, None, List, [], ◌∷◌, length, get_or, refl, ap, sym, subst, ◌∙◌, zero, suc, arith}
 use Rattle.std.specs.List.{position, position_or_len, slice_get, list_all}
-use Rattle.std.specs.Option.{IsSomeAnd}
-use Rattle.std.proofs.lemmas.Bool.{false≢true}
+use Rattle.std.specs.Option.{IsSomeAnd, IfSome}
+use Rattle.std.proofs.lemmas.Bool.{cases_lt, false≢true}
 use Rattle.std.proofs.lemmas.Bool.Decides.{nat_tests}
 use Rattle.std.proofs.lemmas.List.Quantifiers.{position-Some}
 use Rattle.std.proofs.lemmas.List.Sums.{prefix_len_passes}
@@ -47,11 +47,15 @@ only-one d page i k h p q (inr le) (inl lt) =
     absurd (h.apart k i blank lt a.0 page c.1 a.1)
 only-one d page i k h p q (inr le) (inr ge) = omega arith
 
+pub found-only : (d : DirectoryView) (page : PageView) → IsDirectory d → (r : Option ℕ) → IfSome r (λ i. HasPage d.entries i page) → IfSome r (λ i. (k : ℕ) → HasPage d.entries k page → k ≡ i)
+found-only d page h None p = tt
+found-only d page h (Some i) p = λ k q. only-one d page i k h p q (cases_lt i k) (cases_lt k i)
+
 -- where a search finds nothing, every element fails the test
 pub position-None : (p : Entry → Bool) (es : List Entry) → position p es ≡ None → length es ≤ position_or_len p es
 position-None p es e = grind (arith, nat_tests)
 
-not-true : (b : Bool) → not b ≡ true → b ≡ true → ⊥
+pub not-true : (b : Bool) → not b ≡ true → b ≡ true → ⊥
 not-true b n t = false≢true (sym (ap not t) ∙ n)
 
 pub none-has : (es : List Entry) (page : PageView) → position (λ entry. in_range entry.range page) es ≡ None → NoneHas es page

@@ -3,4 +3,5 @@ pub mod Directory
 pub mod Entry
 pub mod Merge
 pub mod Room
+pub mod Side
 pub mod Split

@@ -1,19 +1,21 @@
 //! The directory: entries of blocks, in order and apart.
 
-ghost use Rattle.std.specs.Prelude.{◌≡◌, ◌↔◌, ◌+◌, ◌<◌, ◌≤◌, ◌⊎◌, ℕ, [], length, map, insert, remove, position, slice_get, Some, IsTrue, IsNone, IsSomeAnd, is_some, option_map, IfSome, IfOk, false};
+ghost use Rattle.std.specs.Prelude.{◌≡◌, ◌↔◌, ◌+◌, ◌-◌, ◌*◌, ◌^◌, ◌<◌, ◌≤◌, ◌⊎◌, ℕ, [], length, map, insert, remove, position, slice_get, Some, IsTrue, IsNone, IsSomeAnd, is_some, option_map, IfSome, IfOk, false};
 ghost use Rattle.mind_base.specs.Range.{RangeView, IsRange, InRange, in_range};
 ghost use Rattle.region_directory.specs.Entry.{HasPage, NoneHas, MeetsNone, largest_free, entry_place, fresh_entry, in_state, with_busy, with_change, with_hits, plus_hits};
 ghost use Rattle.region_directory.specs.Directory.{ChangesEntry, DirectoryView, IsDirectory};
 ghost use Rattle.region_directory.specs.Merge.{merge_of, with_merge};
 ghost use Rattle.region_directory.specs.Room.{room_of, MustWait};
+ghost use Rattle.region_directory.specs.Side.{where_lies};
 ghost use Rattle.region_directory.specs.Split.{split_of, with_split};
 
 use crate::changes::{Change, change_one, put_at, put_one, put_two, reset_hits};
 use crate::merges::merged_pair;
 use crate::rooms::room_among;
-use crate::searches::{entry_with, largest_free, place_for};
+use crate::searches::{largest_free, place_for};
+use crate::sides::side_of;
 use crate::splits::split_entry;
-use crate::{Busy, Entry, Room};
+use crate::{Busy, Entry, Room, Steps, Where};
 use mind_base::{NoMemory, Page, Range, State};
 use std::alloc::Global;
 use std::marker::Model;
@@ -94,10 +96,44 @@ impl Directory {
         ensures none { IsNone result ↔ NoneHas self.now.entries page }
         ensures valid { IsDirectory self.now }
     {
-        match entry_with(self.entries.as_slice(), &page) {
-            Some(index) => Some(index as u32),
-            None => None,
+        let mut steps = Steps::new();
+        self.find_counted(page, &mut steps)
+    }
+
+    /// As `find`, with the look-ups of entries counted: with n entries at most log2(2n + 1) more.
+    pub fn find_counted(&self, page: Page, steps: &mut Steps) -> Option<u32>
+        requires { steps.old < 2 ^ 63 }
+        ensures first { result ≡ position (λ entry. in_range entry.range page) self.now.entries }
+        ensures found { IfSome result (λ i. HasPage self.now.entries i page) }
+        ensures none { IsNone result ↔ NoneHas self.now.entries page }
+        ensures counted { steps.old ≤ steps.new }
+        ensures few { 2 ^ (steps.new - steps.old) ≤ 2 * length self.now.entries + 1 }
+        ensures valid { IsDirectory self.now }
+    {
+        let mut low = 0;
+        let mut high = self.len();
+        while low < high {
+            let middle = low + (high - low) / 2;
+            match self.probe(middle, page, steps) {
+                Where::Before => high = middle,
+                Where::Inside => return Some(middle),
+                Where::After => low = middle + 1,
+            }
         }
+        None
+    }
+
+    /// Where the page lies, seen from the block of the entry with this index: one step.
+    pub fn probe(&self, i: u32, page: Page, steps: &mut Steps) -> Where
+        requires within { i < length self.now.entries }
+        requires counts { steps.old < 2 ^ 63 + 64 }
+        ensures side { IsSomeAnd (slice_get self.now.entries i)
+            (λ entry. result ≡ where_lies entry.range page) }
+        ensures counted { steps.new ≡ steps.old + 1 }
+        ensures valid { IsDirectory self.now }
+    {
+        steps.tick();
+        side_of(&self.entries[i as usize].range, &page)
     }
 
     /// The entry with this index.

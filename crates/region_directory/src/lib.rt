@@ -6,11 +6,17 @@ mod blocks;
 mod changes;
 mod directories;
 mod entries;
+mod laws;
 mod merges;
 mod rooms;
 mod searches;
+mod sides;
 mod splits;
+mod step_counts;
 
 pub use directories::Directory;
 pub use entries::{Busy, Entry};
+pub use laws::pairs_merge_before_anything_waits;
 pub use rooms::{Room, has_any};
+pub use sides::Where;
+pub use step_counts::Steps;

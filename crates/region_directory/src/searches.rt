@@ -10,14 +10,6 @@ use crate::Entry;
 use crate::blocks::{block_around, comes_before, stand_apart};
 use mind_base::{Page, Range};
 
-/// The first entry that has the page.
-pub fn entry_with(entries: &[Entry], page: &Page) -> Option<usize>
-    ensures first { result ≡ position (λ entry. in_range entry.range page.now) entries.now }
-    ensures within { IfSome result (λ i. i < length entries.now) }
-{
-    entries.iter().position(|entry| entry.range.has(*page))
-}
-
 /// How many entries come before the block.
 pub fn place_for(entries: &[Entry], range: &Range) -> usize
     ensures place { result ≡ entry_place entries.now range.now }

@@ -3,7 +3,7 @@
 ghost use Rattle.std.specs.Prelude.{◌<◌, ◌≤◌, ◌^◌};
 
 use mind_base::{Page, State};
-use region_directory::{Busy, Directory, Room};
+use region_directory::{Busy, Directory, Room, Steps, Where};
 use std::test::Fail;
 
 fn page(number: u32) -> Page
@@ -72,6 +72,52 @@ fn keeps_its_entries_in_order(rt: HostRuntime) -> Result<(), Fail> {
     assert_eq!(rt; put(&mut directory, 2, 2), Some((2, 1)));
     assert!(rt; directory.is_full());
     assert_eq!(rt; directory.find(page(3)), Some(1));
+    Ok(())
+}
+
+/// The most steps that it takes to look for one of the first pages, where every other one has an entry
+/// of its own, so many of them. None if a page is not found where it is.
+fn most_steps(rt: &HostRuntime, entries: u32) -> Result<Option<u64>, Fail>
+    requires { entries ≤ 4096 }
+{
+    let mut directory = Directory::new(rt.alloc(), entries, 0)?;
+    for i in 0..entries {
+        let _ = put(&mut directory, 2 * i, 0);
+    }
+    let mut most = 0;
+    for number in 0..2 * entries {
+        let mut steps = Steps::new();
+        let there = directory.find_counted(page(number), &mut steps);
+        let known = (number % 2 == 0).then_some(number / 2);
+        if there != known {
+            return Ok(None);
+        }
+        most = most.max(steps.count());
+    }
+    Ok(Some(most))
+}
+
+#[test]
+fn halves_what_is_left_at_each_step(rt: HostRuntime) -> Result<(), Fail> {
+    for (entries, most) in &[(1, 1), (2, 2), (3, 2), (4096, 13)] {
+        assert!(rt; *entries <= 4096);
+        assert_eq!(rt; most_steps(&rt, *entries)?, Some(*most));
+    }
+    Ok(())
+}
+
+#[test]
+fn counts_on_from_the_steps_before(rt: HostRuntime) -> Result<(), Fail> {
+    let mut directory = Directory::new(rt.alloc(), 2, 2)?;
+    assert_eq!(rt; put(&mut directory, 6, 1), Some((6, 1)));
+    assert!(rt; 0 < directory.len());
+    let mut steps = Steps::new();
+    steps.tick();
+    assert_eq!(rt; directory.probe(0, page(5), &mut steps), Where::Before);
+    assert_eq!(rt; directory.probe(0, page(7), &mut steps), Where::Inside);
+    assert_eq!(rt; directory.probe(0, page(8), &mut steps), Where::After);
+    assert_eq!(rt; directory.find_counted(page(7), &mut steps), Some(0));
+    assert_eq!(rt; steps.count(), 5);
     Ok(())
 }
 
