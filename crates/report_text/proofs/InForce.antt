@@ -7,7 +7,7 @@ use Rattle.mind_base.specs.declared.notes.Note.{Note}
 use Rattle.mind_base.specs.declared.notes.Note.TheVariants as note
 use Rattle.mind_base.specs.declared.notes.State.{State}
 use Rattle.mind_base.specs.declared.plans.RackPlan.{RackPlan}
-use Rattle.mind_base.proofs.SameRange.{same_range-refl, same_range-laws}
+use Rattle.mind_base.proofs.Callers.{same_range-refl, same_range-laws}
 use Rattle.region_directory.specs.Merge.{merged_state}
 use Rattle.coherence.specs.Held.{Holdings, Entries, no_holdings, no_entries, put_entry, split_in, joint_state, merged_to, held_after, entries_after, in_force}
 use Rattle.coherence.specs.Lawful.{IsLawful, MayBeNoted, AreLawful}
