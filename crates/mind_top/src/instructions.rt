@@ -5,7 +5,7 @@ ghost use Rattle.mind_base.specs.declared.notes.Note.{Note};
 ghost use Rattle.rv32_text.specs.Image.{image_words};
 ghost use Rattle.rv32_text.specs.Written.{disassembled};
 ghost use Rattle.mind_top.specs.Words.{Asm, Dis};
-ghost use Rattle.mind_top.specs.Ending.{KeepsOutside, counts};
+ghost use Rattle.mind_top.specs.Ending.{KeepsOutside, StaysUnlessReadFault, WritesOnce, counts};
 ghost use Rattle.mind_top.specs.Left.{Left};
 ghost use Rattle.mind_top.specs.Parts.{SaysLine, Answers};
 
@@ -25,6 +25,8 @@ pub fn answer_asm<S: Store, K: Sink>(
 ) -> Status
     ensures outside { KeepsOutside (S.holds store.old) (S.holds store.new)
         (counts (S.faults store.old) (S.missed store.old) (K.faults sink.old)) (counts (S.faults store.new) (S.missed store.new) (K.faults sink.new)) }
+    ensures steady { StaysUnlessReadFault (S.faults store.old) (S.faults store.new) (S.missed store.old) (S.missed store.new) result }
+    ensures once { WritesOnce (K.writes sink.old) (K.writes sink.new) result }
     ensures answers { Answers (S.holds store.old) (Asm text.now) (record { log = []; end = None })
         (counts (S.faults store.old) (S.missed store.old) (K.faults sink.old)) (counts (S.faults store.new) (S.missed store.new) (K.faults sink.new))
         (K.written sink.old) (K.written sink.new) result }
@@ -39,6 +41,7 @@ pub fn answer_asm<S: Store, K: Sink>(
 fn say_lines<K: Sink>(alloc: Global, image: &[u8], sink: &mut K) -> Status
     requires whole { length image.now % 4 ≡ 0 }
     ensures says { SaysLine (K.written sink.old) (K.written sink.new) (K.faults sink.old) (K.faults sink.new) (disassembled (image_words image.now)) Status.Done result }
+    ensures once { WritesOnce (K.writes sink.old) (K.writes sink.new) result }
     ensures failed { K.faults sink.old ≤ K.faults sink.new }
 {
     match disassemble(alloc, image) {
@@ -56,6 +59,8 @@ pub fn answer_dis<S: Store, K: Sink>(
 ) -> Status
     ensures outside { KeepsOutside (S.holds store.old) (S.holds store.new)
         (counts (S.faults store.old) (S.missed store.old) (K.faults sink.old)) (counts (S.faults store.new) (S.missed store.new) (K.faults sink.new)) }
+    ensures steady { StaysUnlessReadFault (S.faults store.old) (S.faults store.new) (S.missed store.old) (S.missed store.new) result }
+    ensures once { WritesOnce (K.writes sink.old) (K.writes sink.new) result }
     ensures answers { Answers (S.holds store.old) (Dis image.now) (record { log = []; end = None })
         (counts (S.faults store.old) (S.missed store.old) (K.faults sink.old)) (counts (S.faults store.new) (S.missed store.new) (K.faults sink.new))
         (K.written sink.old) (K.written sink.new) result }
