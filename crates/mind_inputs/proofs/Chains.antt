@@ -14,7 +14,7 @@ use Rattle.mind_base.specs.declared.plans.RackPlan.{RackPlan}
 use Rattle.rack_gen.specs.Generator.{generated}
 use Rattle.mind_inputs.specs.Inputs.{Seen, Absent, Long, Bytes, Ending, Missing, Refused, Accepted, Judged, ImagesSeen, seen_of, SeesFile, SeesImages, JudgesOne, JudgesImages, JudgesParts, JudgesWith, Judges, JudgesMade, rack_seen_judged, image_seen_judged, schedule_judged, judged_then, images_judged, parts_judged, events_then, made_judged, judge_with, judge, judge_made, is_built, IsBuilt}
 use Rattle.mind_inputs.specs.Judged.{GivesEnding}
-use Rattle.mind_inputs.specs.Loading.{MissTold, StopsBy, Brings}
+use Rattle.mind_inputs.specs.Loading.{MissTold, Stays, StopsBy, Brings}
 use Rattle.mind_inputs.specs.Words.{Paths}
 use Rattle.mind_inputs.specs.declared.stopped.Stopped.{Stopped}
 use Rattle.mind_inputs.specs.declared.stopped.Stopped.TheVariants as stopped
@@ -44,11 +44,11 @@ reads-as holds name as_name limit seen same reads = let P : List ℕ → Type 0 
 
 -- bytes that were read are judged as the code answers
 pub brings-judged : {X : Type 0} (holds : Option Files) (name : List ℕ) (limit f f' m m' : ℕ) (judged : Seen → Result X Ending) (bytes : List ℕ) (result : Result X Stopped)
-    → SeesFile holds name limit (Bytes bytes) → GivesEnding result (judged (Bytes bytes)) → Brings holds (JudgesOne holds name limit judged) f f' m m' result
-brings-judged holds name limit f f' m m' judged bytes (Ok x) reads gives = (Bytes bytes, reads, gives)
-brings-judged holds name limit f f' m m' judged bytes (Err (stopped.Refused refusal)) reads gives = (Bytes bytes, reads, gives)
-brings-judged holds name limit f f' m m' judged bytes (Err stopped.ReadFault) reads gives = absurd gives
-brings-judged holds name limit f f' m m' judged bytes (Err stopped.NoMemory) reads gives = tt
+    → SeesFile holds name limit (Bytes bytes) → GivesEnding result (judged (Bytes bytes)) → Stays f f' m m' → Brings holds (JudgesOne holds name limit judged) f f' m m' result
+brings-judged holds name limit f f' m m' judged bytes (Ok x) reads gives stays = ((Bytes bytes, reads, gives), stays)
+brings-judged holds name limit f f' m m' judged bytes (Err (stopped.Refused refusal)) reads gives stays = ((Bytes bytes, reads, gives), stays)
+brings-judged holds name limit f f' m m' judged bytes (Err stopped.ReadFault) reads gives stays = absurd gives
+brings-judged holds name limit f f' m m' judged bytes (Err stopped.NoMemory) reads gives stays = stays
 
 -- ---- one part behind another
 
@@ -66,24 +66,30 @@ miss-on (Some files) P Q f f1 f2 f' a b on (inl rises) = inl (rises-from f f1 f2
 miss-on (Some files) P Q f f1 f2 f' a b on (inr missing) = inr (on missing)
 
 -- what stops a part stops the whole
-pub stops-on : (holds : Option Files) (P Q : Ending → Type 0) (f f1 f2 m m1 m2 : ℕ) (why : Stopped) → f ≤ f1 → m ≤ m1 → ((ending : Ending) → P ending → Q ending)
+pub stops-on : (holds : Option Files) (P Q : Ending → Type 0) (f f1 f2 m m1 m2 : ℕ) (why : Stopped) → Stays f f1 m m1 → ((ending : Ending) → P ending → Q ending)
     → StopsBy holds P f1 f2 m1 m2 why → StopsBy holds Q f f2 m m2 why
-stops-on holds P Q f f1 f2 m m1 m2 (stopped.Refused refusal) a b on stops = on (Refused refusal) stops
-stops-on holds P Q f f1 f2 m m1 m2 stopped.ReadFault a b on (rises, told) =
-    (either-on f f1 f2 f2 m m1 m2 m2 a (omega arith) b (omega arith) rises, miss-on holds (P Missing) (Q Missing) f f1 f2 f2 a (omega arith) (on Missing) told)
-stops-on holds P Q f f1 f2 m m1 m2 stopped.NoMemory a b on stops = tt
+stops-on holds P Q f f1 f2 m m1 m2 (stopped.Refused refusal) (a, b) on (stops, (c, d)) = (on (Refused refusal) stops, (c ∙ a, d ∙ b))
+stops-on holds P Q f f1 f2 m m1 m2 stopped.ReadFault (a, b) on (rises, told) =
+    let le : f ≤ f1 = omega (arith, a) in
+    let le' : m ≤ m1 = omega (arith, b) in
+    (either-on f f1 f2 f2 m m1 m2 m2 le (omega arith) le' (omega arith) rises, miss-on holds (P Missing) (Q Missing) f f1 f2 f2 le (omega arith) (on Missing) told)
+stops-on holds P Q f f1 f2 m m1 m2 stopped.NoMemory (a, b) on (c, d) = (c ∙ a, d ∙ b)
+
+-- counts that stand still twice
+pub stays-on : (f f1 f2 m m1 m2 : ℕ) → Stays f f1 m m1 → Stays f1 f2 m1 m2 → Stays f f2 m m2
+stays-on f f1 f2 m m1 m2 (a, b) (c, d) = (c ∙ a, d ∙ b)
 
 -- the same where the store of that part held the same
-pub stops-at : (holds mid : Option Files) (P : Option Files → Ending → Type 0) (Q : Ending → Type 0) (f f1 f2 m m1 m2 : ℕ) (why : Stopped) → mid ≡ holds → f ≤ f1 → m ≤ m1
+pub stops-at : (holds mid : Option Files) (P : Option Files → Ending → Type 0) (Q : Ending → Type 0) (f f1 f2 m m1 m2 : ℕ) (why : Stopped) → mid ≡ holds → Stays f f1 m m1
     → ((ending : Ending) → P holds ending → Q ending) → StopsBy mid (P mid) f1 f2 m1 m2 why → StopsBy holds Q f f2 m m2 why
-stops-at holds mid P Q f f1 f2 m m1 m2 why same a b on stops =
+stops-at holds mid P Q f f1 f2 m m1 m2 why same stays on stops =
     let R : Option Files → Type 0 = λ h. StopsBy h (P h) f1 f2 m1 m2 why in
-    stops-on holds (P holds) Q f f1 f2 m m1 m2 why a b on (subst R same stops)
+    stops-on holds (P holds) Q f f1 f2 m m1 m2 why stays on (subst R same stops)
 
 -- the same of one store and the same counts
 pub stops-so : (holds : Option Files) (P Q : Ending → Type 0) (f f' m m' : ℕ) (why : Stopped) → ((ending : Ending) → P ending → Q ending)
     → StopsBy holds P f f' m m' why → StopsBy holds Q f f' m m' why
-stops-so holds P Q f f' m m' why on stops = stops-on holds P Q f f f' m m m' why (omega arith) (omega arith) on stops
+stops-so holds P Q f f' m m' why on stops = stops-on holds P Q f f f' m m m' why (refl, refl) on stops
 
 -- ---- what may be seen of an input that is not judged
 
@@ -192,8 +198,7 @@ nothing-on (i ∷ images) = ap (λ is. i ∷ is) (nothing-on images)
 -- the images of all plans but those that are left are read
 pub record AreRead (first now : Option Files) (f f1 m m1 : ℕ) (plans left : List ImagePlan) (images : List Image) : Type 0 where
   pub keeps : now ≡ first
-  pub faults : f ≤ f1
-  pub missed : m ≤ m1
+  pub stays : Stays f f1 m m1
   pub count : length images + length left ≡ length plans
   pub goes_on : (answer : Result (List Image) Ending) → JudgesImages first images left answer → JudgesImages first [] plans answer
   pub fit : (rest : List Image) → FitImages left rest → FitImages plans (images ++ rest)
@@ -213,9 +218,9 @@ goes-next h h1 f f1 m m1 plans left rest plan images answer so_far is judges =
     let P : List ImagePlan → Type 0 = λ l. JudgesImages h images l answer in so_far.goes_on answer (subst P (sym is) judges)
 
 pub one-more : (h h1 h2 : Option Files) (f f1 f2 m m1 m2 number : ℕ) (plans left rest : List ImagePlan) (plan : ImagePlan) (images new : List Image) (image : Image)
-    → AreRead h h1 f f1 m m1 plans left images → left ≡ plan ∷ rest → number ≡ length images → h2 ≡ h1 → f1 ≤ f2 → m1 ≤ m2
-    → JudgesOne h1 plan.name 65536 (image_seen_judged number plan) (Ok image) → FitsImage plan image → new ≡ images ++ image ∷ [] → AreRead h h2 f f2 m m2 plans rest new
-one-more h h1 h2 f f1 f2 m m1 m2 number plans left rest plan images new image so_far is at keeps a b one fits more =
+    → AreRead h h1 f f1 m m1 plans left images → left ≡ plan ∷ rest → number ≡ length images → h2 ≡ h1
+    → JudgesOne h1 plan.name 65536 (image_seen_judged number plan) (Ok image) × Stays f1 f2 m1 m2 → FitsImage plan image → new ≡ images ++ image ∷ [] → AreRead h h2 f f2 m m2 plans rest new
+one-more h h1 h2 f f1 f2 m m1 m2 number plans left rest plan images new image so_far is at keeps (one, stays) fits more =
     let O : Option Files → Type 0 = λ o. JudgesOne o plan.name 65536 (image_seen_judged number plan) (Ok image) in
     let here : JudgesOne h plan.name 65536 (image_seen_judged (length images) plan) (Ok image) = as-next h plan number images (Ok image) at (subst O so_far.keeps one) in
     let L : List ImagePlan → Type 0 = λ l. (behind : List Image) → FitImages l behind → FitImages plans (images ++ behind) in
@@ -223,8 +228,7 @@ one-more h h1 h2 f f1 f2 m m1 m2 number plans left rest plan images new image so
     let N : List Image → Type 0 = λ all. AreRead h h2 f f2 m m2 plans rest all in
     subst N (sym more) (record {
       keeps = keeps ∙ so_far.keeps;
-      faults = omega (arith, so_far.faults);
-      missed = omega (arith, so_far.missed);
+      stays = stays-on f f1 f2 m m1 m2 so_far.stays stays;
       count = omega (arith, so_far.count, ap length is, length-append images (image ∷ []));
       goes_on = λ answer judges. goes-next h h1 f f1 m m1 plans left rest plan images answer so_far is (next-image h images plan rest image here answer judges);
       fit = λ behind all. let F : List Image → Type 0 = λ xs. FitImages plans xs in subst F (sym (append_assoc images (image ∷ []) behind)) (fit (image ∷ behind) (fits, all));
@@ -235,16 +239,16 @@ pub image-stops : (h h1 : Option Files) (f f1 f2 m m1 m2 number : ℕ) (plans le
     → StopsBy h1 (λ ending. JudgesOne h1 plan.name 65536 (image_seen_judged number plan) (Err ending)) f1 f2 m1 m2 why → StopsBy h (λ ending. JudgesImages h [] plans (Err ending)) f f2 m m2 why
 image-stops h h1 f f1 f2 m m1 m2 number plans left rest plan images why so_far is at stops =
     stops-at h h1 (λ o ending. JudgesOne o plan.name 65536 (image_seen_judged number plan) (Err ending)) (λ ending. JudgesImages h [] plans (Err ending)) f f1 f2 m m1 m2 why
-    so_far.keeps so_far.faults so_far.missed
+    so_far.keeps so_far.stays
     (λ ending one. goes-next h h1 f f1 m m1 plans left rest plan images (Err ending) so_far is (last-image h images plan rest ending (as-next h plan number images (Err ending) at one))) stops
 
 pub read-all : (h h1 : Option Files) (f f1 m m1 : ℕ) (plans left : List ImagePlan) (images : List Image) → AreRead h h1 f f1 m m1 plans left images → left ≡ []
-    → JudgesImages h [] plans (Ok images) × FitImages plans images
+    → (JudgesImages h [] plans (Ok images) × Stays f f1 m m1) × FitImages plans images
 read-all h h1 f f1 m m1 plans left images so_far none =
     let Q : List ImagePlan → Type 0 = λ l. AreRead h h1 f f1 m m1 plans l images in
     let all : AreRead h h1 f f1 m m1 plans [] images = subst Q none so_far in
     let F : List Image → Type 0 = λ is. FitImages plans is in
-    (all.goes_on (Ok images) (any-images h, (λ n name. sees-any h name 65536), refl), subst F (nothing-on images) (all.fit [] tt))
+    ((all.goes_on (Ok images) (any-images h, (λ n name. sees-any h name 65536), refl), all.stays), subst F (nothing-on images) (all.fit [] tt))
 
 -- ---- the whole
 
@@ -280,15 +284,16 @@ rack-stops h rack f f1 m m1 why stops =
     stops-so h (λ ending. JudgesOne h rack 65536 rack_seen_judged (Err ending)) (λ ending. JudgesParts h rack (Err ending)) f f1 m m1 why (λ ending one. rack-ends h rack ending one) stops
 
 pub images-stop : (h h1 : Option Files) (rack : List ℕ) (plan : RackPlan) (plans : List ImagePlan) (f f1 f2 m m1 m2 : ℕ) (why : Stopped)
-    → plans ≡ plan.images → h1 ≡ h → f ≤ f1 → m ≤ m1 → JudgesOne h rack 65536 rack_seen_judged (Ok plan)
+    → plans ≡ plan.images → h1 ≡ h → JudgesOne h rack 65536 rack_seen_judged (Ok plan) × Stays f f1 m m1
     → StopsBy h1 (λ ending. JudgesImages h1 [] plans (Err ending)) f1 f2 m1 m2 why → StopsBy h (λ ending. JudgesParts h rack (Err ending)) f f2 m m2 why
-images-stop h h1 rack plan plans f f1 f2 m m1 m2 why is same a b read stops =
-    stops-at h h1 (λ o ending. JudgesImages o [] plans (Err ending)) (λ ending. JudgesParts h rack (Err ending)) f f1 f2 m m1 m2 why same a b
+images-stop h h1 rack plan plans f f1 f2 m m1 m2 why is same (read, stays) stops =
+    stops-at h h1 (λ o ending. JudgesImages o [] plans (Err ending)) (λ ending. JudgesParts h rack (Err ending)) f f1 f2 m m1 m2 why same stays
     (λ ending part. images-end h rack plan (Err ending) read (images-told h h plans plan.images (Err ending) refl is part)) stops
 
-pub parts-read : (h h1 : Option Files) (rack : List ℕ) (plan : RackPlan) (plans : List ImagePlan) (images : List Image) → plans ≡ plan.images → h1 ≡ h
-    → JudgesOne h rack 65536 rack_seen_judged (Ok plan) → JudgesImages h1 [] plans (Ok images) → JudgesParts h rack (Ok (plan, images))
-parts-read h h1 rack plan plans images is same read all = images-end h rack plan (Ok images) read (images-told h h1 plans plan.images (Ok images) same is all)
+pub parts-read : (h h1 : Option Files) (rack : List ℕ) (plan : RackPlan) (plans : List ImagePlan) (f f1 f2 m m1 m2 : ℕ) (images : List Image) → plans ≡ plan.images → h1 ≡ h
+    → JudgesOne h rack 65536 rack_seen_judged (Ok plan) × Stays f f1 m m1 → JudgesImages h1 [] plans (Ok images) × Stays f1 f2 m1 m2 → JudgesParts h rack (Ok (plan, images)) × Stays f f2 m m2
+parts-read h h1 rack plan plans f f1 f2 m m1 m2 images is same (read, one) (all, two) =
+    (images-end h rack plan (Ok images) read (images-told h h1 plans plan.images (Ok images) same is all), stays-on f f1 f2 m m1 m2 one two)
 
 -- the events of a rack that is read, with its images
 events-end : (h : Option Files) (rack : List ℕ) (events : RackPlan → Result (List Event) Ending) (parts : RackPlan × List Image) (answer : Result (List Event) Ending)
@@ -314,22 +319,23 @@ parts-stop h p f f1 m m1 why stops =
     stops-so h (λ ending. JudgesParts h p.rack (Err ending)) (λ ending. Judges h p (Err ending)) f f1 m m1 why
     (λ ending read. (any-seen h p.schedule 4194304, sees-any h p.schedule 4194304, (Err ending, read, refl))) stops
 
-pub schedule-stops : (h h1 : Option Files) (p : Paths) (parts : RackPlan × List Image) (f f1 f2 m m1 m2 : ℕ) (why : Stopped) → h1 ≡ h → f ≤ f1 → m ≤ m1 → JudgesParts h p.rack (Ok parts)
+pub schedule-stops : (h h1 : Option Files) (p : Paths) (parts : RackPlan × List Image) (f f1 f2 m m1 m2 : ℕ) (why : Stopped) → h1 ≡ h → JudgesParts h p.rack (Ok parts) × Stays f f1 m m1
     → StopsBy h1 (λ ending. JudgesOne h1 p.schedule 4194304 (schedule_judged parts.0) (Err ending)) f1 f2 m1 m2 why → StopsBy h (λ ending. Judges h p (Err ending)) f f2 m m2 why
-schedule-stops h h1 p parts f f1 f2 m m1 m2 why same a b read stops =
-    stops-at h h1 (λ o ending. JudgesOne o p.schedule 4194304 (schedule_judged parts.0) (Err ending)) (λ ending. Judges h p (Err ending)) f f1 f2 m m1 m2 why same a b
+schedule-stops h h1 p parts f f1 f2 m m1 m2 why same (read, stays) stops =
+    stops-at h h1 (λ o ending. JudgesOne o p.schedule 4194304 (schedule_judged parts.0) (Err ending)) (λ ending. Judges h p (Err ending)) f f1 f2 m m1 m2 why same stays
     (λ ending one. schedule-ends h h p parts (Err ending) refl read one) stops
 
-pub all-loaded : (h h1 : Option Files) (p : Paths) (parts : RackPlan × List Image) (events : List Event) (loaded : Accepted) → h1 ≡ h → JudgesParts h p.rack (Ok parts)
-    → JudgesOne h1 p.schedule 4194304 (schedule_judged parts.0) (Ok events) → loaded ≡ record { plan = parts.0; images = parts.1; events = events } → Judges h p (Ok loaded)
-all-loaded h h1 p parts events loaded same read one is =
-    let P : Accepted → Type 0 = λ x. Judges h p (Ok x) in subst P (sym is) (schedule-ends h h1 p parts (Ok events) same read one)
+pub all-loaded : (h h1 : Option Files) (p : Paths) (parts : RackPlan × List Image) (events : List Event) (f f1 f2 m m1 m2 : ℕ) (loaded : Accepted) → h1 ≡ h → JudgesParts h p.rack (Ok parts) × Stays f f1 m m1
+    → JudgesOne h1 p.schedule 4194304 (schedule_judged parts.0) (Ok events) × Stays f1 f2 m1 m2 → loaded ≡ record { plan = parts.0; images = parts.1; events = events }
+    → Judges h p (Ok loaded) × Stays f f2 m m2
+all-loaded h h1 p parts events f f1 f2 m m1 m2 loaded same (read, first) (one, second) is =
+    let P : Accepted → Type 0 = λ x. Judges h p (Ok x) in (subst P (sym is) (schedule-ends h h1 p parts (Ok events) same read one), stays-on f f1 f2 m m1 m2 first second)
 
-pub all-made : (h : Option Files) (rack : List ℕ) (count seed : ℕ) (parts : RackPlan × List Image) (events : List Event) (loaded : Accepted) → JudgesParts h rack (Ok parts)
-    → events ≡ generated parts.0 count seed → loaded ≡ record { plan = parts.0; images = parts.1; events = events } → JudgesMade h rack count seed (Ok loaded)
-all-made h rack count seed parts events loaded read made is =
+pub all-made : (h : Option Files) (rack : List ℕ) (count seed : ℕ) (parts : RackPlan × List Image) (events : List Event) (f f' m m' : ℕ) (loaded : Accepted) → JudgesParts h rack (Ok parts) × Stays f f' m m'
+    → events ≡ generated parts.0 count seed → loaded ≡ record { plan = parts.0; images = parts.1; events = events } → JudgesMade h rack count seed (Ok loaded) × Stays f f' m m'
+all-made h rack count seed parts events f f' m m' loaded (read, stays) made is =
     let P : Accepted → Type 0 = λ x. JudgesMade h rack count seed (Ok x) in
-    subst P (sym is) (events-end h rack (made_judged count seed) parts (Ok events) read (ap (λ es. Ok es) (sym made)))
+    (subst P (sym is) (events-end h rack (made_judged count seed) parts (Ok events) read (ap (λ es. Ok es) (sym made))), stays)
 
 pub none-left : (plans : List ImagePlan) → length plans < 1 → plans ≡ []
 none-left [] few = refl

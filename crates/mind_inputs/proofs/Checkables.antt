@@ -7,20 +7,20 @@ use Rattle.journal_text.specs.declared.refusals.JournalFault.{JournalFault}
 use Rattle.journal_text.proofs.Callers.{one}
 use Rattle.mind_inputs.specs.Inputs.{Seen, Absent, Long, Bytes, Ending, Refused, Judged, Accepted, SeesFile, Judges}
 use Rattle.mind_inputs.specs.Journals.{IsJournal, JudgedJournal, GivesJournal, JudgesJournal, Checkable, AfterJournal, AfterRun, JudgesCheck, IsOnlyJudgement, notes_of}
-use Rattle.mind_inputs.specs.Loading.{StopsBy, Brings}
+use Rattle.mind_inputs.specs.Loading.{Stays, StopsBy, Brings}
 use Rattle.mind_inputs.specs.Words.{Paths}
 use Rattle.mind_inputs.specs.declared.refusals.Refusal.TheVariants.{JournalRefused}
 use Rattle.mind_inputs.specs.declared.stopped.Stopped.{Stopped}
 use Rattle.mind_inputs.specs.declared.stopped.Stopped.TheVariants as stopped
-use Rattle.mind_inputs.proofs.Chains.{stops-at, stops-so, judges-judge}
+use Rattle.mind_inputs.proofs.Chains.{stays-on, stops-at, stops-so, judges-judge}
 
 -- the bytes of a journal that was read are judged as the code answers
 pub brings-journal : (holds : Option Files) (name : List ℕ) (f f' m m' : ℕ) (bytes : List ℕ) (result : Result LogView Stopped)
-    → SeesFile holds name 268435456 (Bytes bytes) → GivesJournal bytes result → Brings holds (JudgesJournal holds name) f f' m m' (notes_of result)
-brings-journal holds name f f' m m' bytes (Ok log) reads gives = (Bytes bytes, reads, gives)
-brings-journal holds name f f' m m' bytes (Err (stopped.Refused refusal)) reads gives = (Bytes bytes, reads, gives)
-brings-journal holds name f f' m m' bytes (Err stopped.ReadFault) reads gives = absurd gives
-brings-journal holds name f f' m m' bytes (Err stopped.NoMemory) reads gives = tt
+    → SeesFile holds name 268435456 (Bytes bytes) → GivesJournal bytes result → Stays f f' m m' → Brings holds (JudgesJournal holds name) f f' m m' (notes_of result)
+brings-journal holds name f f' m m' bytes (Ok log) reads gives stays = ((Bytes bytes, reads, gives), stays)
+brings-journal holds name f f' m m' bytes (Err (stopped.Refused refusal)) reads gives stays = ((Bytes bytes, reads, gives), stays)
+brings-journal holds name f f' m m' bytes (Err stopped.ReadFault) reads gives stays = absurd gives
+brings-journal holds name f f' m m' bytes (Err stopped.NoMemory) reads gives stays = stays
 
 -- what stops the inputs of a run stops a check
 pub run-stops : (h : Option Files) (p : Paths) (journal : List ℕ) (f f' m m' : ℕ) (why : Stopped) → StopsBy h (λ ending. Judges h p (Err ending)) f f' m m' why
@@ -29,18 +29,19 @@ run-stops h p journal f f' m m' why stops =
     stops-so h (λ ending. Judges h p (Err ending)) (λ ending. JudgesCheck h p journal (Err ending)) f f' m m' why (λ ending judges. (Err ending, judges, refl)) stops
 
 -- what stops the journal stops the check
-pub journal-stops : (h h1 : Option Files) (p : Paths) (journal : List ℕ) (accepted : Accepted) (f f1 f2 m m1 m2 : ℕ) (why : Stopped) → h1 ≡ h → f ≤ f1 → m ≤ m1
-    → Judges h p (Ok accepted) → StopsBy h1 (λ ending. JudgesJournal h1 journal (Err ending)) f1 f2 m1 m2 why
+pub journal-stops : (h h1 : Option Files) (p : Paths) (journal : List ℕ) (accepted : Accepted) (f f1 f2 m m1 m2 : ℕ) (why : Stopped) → h1 ≡ h
+    → Judges h p (Ok accepted) × Stays f f1 m m1 → StopsBy h1 (λ ending. JudgesJournal h1 journal (Err ending)) f1 f2 m1 m2 why
     → StopsBy h (λ ending. JudgesCheck h p journal (Err ending)) f f2 m m2 why
-journal-stops h h1 p journal accepted f f1 f2 m m1 m2 why same a b judges stops =
-    stops-at h h1 (λ o ending. JudgesJournal o journal (Err ending)) (λ ending. JudgesCheck h p journal (Err ending)) f f1 f2 m m1 m2 why same a b
+journal-stops h h1 p journal accepted f f1 f2 m m1 m2 why same (judges, stays) stops =
+    stops-at h h1 (λ o ending. JudgesJournal o journal (Err ending)) (λ ending. JudgesCheck h p journal (Err ending)) f f1 f2 m m1 m2 why same stays
     (λ ending part. (Ok accepted, judges, (Err ending, part, refl))) stops
 
-pub all-read : (h h1 : Option Files) (p : Paths) (journal : List ℕ) (accepted : Accepted) (notes : List Note) → h1 ≡ h
-    → Judges h p (Ok accepted) → JudgesJournal h1 journal (Ok notes) → JudgesCheck h p journal (Ok (record { accepted = accepted; notes = notes }))
-all-read h h1 p journal accepted notes same judges last =
+pub all-read : (h h1 : Option Files) (p : Paths) (journal : List ℕ) (accepted : Accepted) (notes : List Note) (f f1 f2 m m1 m2 : ℕ) → h1 ≡ h
+    → Judges h p (Ok accepted) × Stays f f1 m m1 → JudgesJournal h1 journal (Ok notes) × Stays f1 f2 m1 m2
+    → JudgesCheck h p journal (Ok (record { accepted = accepted; notes = notes })) × Stays f f2 m m2
+all-read h h1 p journal accepted notes f f1 f2 m m1 m2 same (judges, first) (last, second) =
     let P : Option Files → Type 0 = λ o. JudgesJournal o journal (Ok notes) in
-    (Ok accepted, judges, (Ok notes, subst P same last, refl))
+    ((Ok accepted, judges, (Ok notes, subst P same last, refl)), stays-on f f1 f2 m m1 m2 first second)
 
 -- ---- where the store tells what it holds, a check has one judgement
 

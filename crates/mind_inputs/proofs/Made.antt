@@ -48,7 +48,7 @@ all-built (event ∷ events) all = rw (all.0) (all-built events all.1)
 sized : (plan : RackPlan) → IsFit plan → IsSized plan
 sized plan fit = record { threads = fit.threads; blades = fit.blades; memories = fit.memories }
 
-seen-whole : (bytes : List ℕ) (limit : ℕ) → length bytes ≤ limit → seen_of (Some bytes) limit ≡ Bytes bytes
+pub seen-whole : (bytes : List ℕ) (limit : ℕ) → length bytes ≤ limit → seen_of (Some bytes) limit ≡ Bytes bytes
 seen-whole bytes limit le = ap (λ b. cond b Long (Bytes bytes)) (le-ltb limit (length bytes) le)
 
 schedule-made : (plan : RackPlan) (count seed : ℕ) → IsFit plan → count ≤ 200000

@@ -3,4 +3,5 @@ pub mod Journals
 pub mod Judged
 pub mod Loading
 pub mod Refusal
+pub mod Texts
 pub mod Words

@@ -5,10 +5,12 @@ use Rattle.rack_file.specs.declared.refusals.RackFault.{RackFault}
 use Rattle.rack_file.specs.declared.refusals.RackFault.TheVariants as rack
 use Rattle.schedule_text.specs.declared.faults.LineFault.{LineFault}
 use Rattle.schedule_text.specs.declared.faults.LineFault.TheVariants as schedule
+use Rattle.rv32_text.specs.declared.faults.TextFault.{TextFault}
+use Rattle.rv32_text.specs.declared.faults.TextFault.TheVariants as text
 use Rattle.journal_text.specs.declared.refusals.JournalFault.{JournalFault}
 use Rattle.journal_text.specs.declared.refusals.JournalFault.TheVariants.{Head, Line}
 use Rattle.mind_inputs.specs.declared.refusals.Refusal.{Refusal}
-use Rattle.mind_inputs.specs.declared.refusals.Refusal.TheVariants.{RackRefused, RackLong, ImageLength, ImageEnd, ImageLong, ScheduleRefused, ScheduleLong, ScheduleEarly, JournalRefused, JournalLong}
+use Rattle.mind_inputs.specs.declared.refusals.Refusal.TheVariants.{RackRefused, RackLong, ImageLength, ImageEnd, ImageLong, ScheduleRefused, ScheduleLong, ScheduleEarly, JournalRefused, JournalLong, TextRefused, TextLong}
 
 abbrev pub rack_word : RackFault → List ℕ
 rack_word rack.Toml = codes "toml"
@@ -51,6 +53,23 @@ abbrev pub journal_text : ℕ → JournalFault → List ℕ
 journal_text line Head = codes "refused journal head"
 journal_text line Line = codes "refused journal line " ++ decimal line
 
+abbrev pub text_word : TextFault → List ℕ
+text_word text.Text = codes "text"
+text_word text.Label = codes "label"
+text_word text.Word = codes "word"
+text_word text.Operand = codes "operand"
+text_word text.Target = codes "target"
+text_word text.Range = codes "range"
+text_word text.Words = codes "words"
+text_word text.Empty = codes "empty"
+
+-- the number of a line, but none where it is wrong with the whole text
+abbrev pub line_text : ℕ → List ℕ
+line_text line = if line == 0 then [] else codes " " ++ decimal line
+
+abbrev pub instructions_text : ℕ → TextFault → List ℕ
+instructions_text line what = codes "refused text " ++ text_word what ++ line_text line
+
 abbrev pub reason_of : Refusal → List ℕ
 reason_of (RackRefused what path) = rack_text what path
 reason_of RackLong = codes "refused rack long"
@@ -62,6 +81,8 @@ reason_of ScheduleLong = codes "refused schedule long"
 reason_of ScheduleEarly = codes "refused schedule early"
 reason_of (JournalRefused line what) = journal_text line what
 reason_of JournalLong = codes "refused journal long"
+reason_of (TextRefused line what) = instructions_text line what
+reason_of TextLong = codes "refused text long"
 
 abbrev pub line_of : Refusal → List ℕ
 line_of refusal = reason_of refusal ++ 10 ∷ []

@@ -21,7 +21,7 @@ use std::alloc::Global;
 const RACK_BYTES: u64 = 65536;
 
 /// The greatest length of an image, in bytes.
-const IMAGE_BYTES: u64 = 65536;
+pub(crate) const IMAGE_BYTES: u64 = 65536;
 
 /// The greatest length of a schedule, in bytes.
 const SCHEDULE_BYTES: u64 = 4194304;

@@ -1,17 +1,18 @@
 //! Why an input is refused, and the line that says it.
 
 ghost use Rattle.std.specs.Prelude.{◌≡◌, ◌++◌, ◌∷◌, [], IfOk, OnOk};
-ghost use Rattle.mind_inputs.specs.Refusal.{rack_word, schedule_word, path_text, rack_text, numbered_text, image_text, schedule_text, journal_text, line_of};
+ghost use Rattle.mind_inputs.specs.Refusal.{rack_word, schedule_word, path_text, rack_text, numbered_text, image_text, schedule_text, journal_text, text_word, line_text, instructions_text, line_of};
 
 use journal_text::JournalFault;
 use mind_base::NoMemory;
 use plain_text::put_decimal;
 use rack_file::{Path, RackFault};
+use rv32_text::TextFault;
 use schedule_text::LineFault;
 use std::alloc::Global;
 
-/// Why an input is refused. Images are numbered from 0, lines from 1. `Long` stands for more bytes
-/// than are read, `Early` for what is accepted and cannot be run yet.
+/// Why an input is refused. Images are numbered from 0, lines from 1; line 0 is a whole text. `Long` stands for
+/// more bytes than are read, `Early` for what is accepted and cannot be run yet.
 #[derive(Debug, Drop)]
 pub enum Refusal {
     RackRefused { what: RackFault, path: Path },
@@ -24,6 +25,8 @@ pub enum Refusal {
     ScheduleEarly,
     JournalRefused { line: u32, what: JournalFault },
     JournalLong,
+    TextRefused { line: u32, what: TextFault },
+    TextLong,
 }
 
 fn word_of_rack(what: RackFault) -> &'static [u8]
@@ -53,6 +56,21 @@ fn word_of_line(what: LineFault) -> &'static [u8]
         LineFault::Wire => b"wire",
         LineFault::Perm => b"perm",
         LineFault::Events => b"events",
+    }
+}
+
+fn word_of_text(what: TextFault) -> &'static [u8]
+    ensures { result.now ≡ text_word what }
+{
+    match what {
+        TextFault::Text => b"text",
+        TextFault::Label => b"label",
+        TextFault::Word => b"word",
+        TextFault::Operand => b"operand",
+        TextFault::Target => b"target",
+        TextFault::Range => b"range",
+        TextFault::Words => b"words",
+        TextFault::Empty => b"empty",
     }
 }
 
@@ -117,6 +135,27 @@ fn journal_line(alloc: Global, line: u32, what: JournalFault) -> Result<Vec<u8>,
     Ok(out)
 }
 
+fn put_line_number(alloc: Global, out: &mut Vec<u8>, line: u32) -> Result<(), NoMemory>
+    ensures { OnOk result (out.new.items ≡ out.old.items ++ line_text line) }
+{
+    if line == 0 {
+        return Ok(());
+    }
+    out.extend_from_slice(b" ")?;
+    put_decimal(alloc, out, u64::from(line))
+}
+
+fn instructions_line(alloc: Global, line: u32, what: TextFault) -> Result<Vec<u8>, NoMemory>
+    ensures { IfOk result (λ text. text.items ≡ instructions_text line what ++ 10 ∷ []) }
+{
+    let mut out = Vec::new(alloc);
+    out.extend_from_slice(b"refused text ")?;
+    out.extend_from_slice(word_of_text(what))?;
+    put_line_number(alloc, &mut out, line)?;
+    out.extend_from_slice(b"\n")?;
+    Ok(out)
+}
+
 impl Refusal {
     /// The line that is written of it, with its line end.
     pub fn line(&self, alloc: Global) -> Result<Vec<u8>, NoMemory>
@@ -133,6 +172,8 @@ impl Refusal {
             Refusal::ScheduleEarly => Ok(Vec::from_slice(alloc, b"refused schedule early\n")?),
             Refusal::JournalRefused { line, what } => journal_line(alloc, *line, *what),
             Refusal::JournalLong => Ok(Vec::from_slice(alloc, b"refused journal long\n")?),
+            Refusal::TextRefused { line, what } => instructions_line(alloc, *line, *what),
+            Refusal::TextLong => Ok(Vec::from_slice(alloc, b"refused text long\n")?),
         }
     }
 }

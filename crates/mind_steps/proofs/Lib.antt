@@ -1,3 +1,1 @@
-pub mod Callers
-pub mod Fronts
 pub mod Headlines

@@ -1,6 +1,6 @@
 -- What is said of the log of a run: its events, and the run of the machine that its labels are.
-use Rattle.std.specs.Prelude.{◌≡◌, ℕ, zero, suc, Bool, List, [], ◌∷◌, ◌++◌, Option, Some, None, is_some, if◌then◌else◌}
-use Rattle.std.specs.List.{list_any, filter_map}
+use Rattle.std.specs.Prelude.{◌≡◌, ℕ, zero, suc, List, [], ◌∷◌, ◌++◌, Option, Some, None}
+use Rattle.std.specs.List.{filter_map}
 use Rattle.mind_base.specs.declared.images.Image.{Image}
 use Rattle.mind_base.specs.declared.notes.Note.{Note}
 use Rattle.mind_base.specs.declared.notes.Note.TheVariants as note
@@ -31,14 +31,6 @@ abbrev pub below : ℕ → List ℕ
 below zero = []
 below (suc n) = below n ++ n ∷ []
 
-abbrev pub is_event : Note → Bool
-is_event note = is_some (event_number note)
-
--- the notes before the last event note
-abbrev pub before_last : List Note → List Note
-before_last [] = []
-before_last (n ∷ ns) = if list_any is_event ns then n ∷ before_last ns else []
-
 -- ---- its labels
 
 -- the labels of the notes replay whole from the start
@@ -58,7 +50,3 @@ IsStuckAt setup notes n = (state : State) × (replay setup (start_state setup) (
 abbrev pub Checks : Setup → List Note → Checked → Type 0
 Checks setup notes (Report text) = IsReportOf setup notes text.items
 Checks setup notes (NotARun n) = IsStuckAt setup notes n
-
--- the labels before the last event note replay whole
-abbrev pub Stands : Setup → List Note → Type 0
-Stands setup notes = IsWholeRun setup (before_last notes)

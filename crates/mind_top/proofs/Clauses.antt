@@ -7,8 +7,11 @@ use Rattle.rack_gen.specs.Generator.{generated_text}
 use Rattle.mind_inputs.specs.Words.{Paths}
 use Rattle.mind_inputs.specs.Inputs.{Ending, Missing, Refused, Accepted, JudgesOne, Judges, JudgesMade, rack_seen_judged}
 use Rattle.mind_inputs.specs.Journals.{Checkable, JudgesCheck}
+use Rattle.mind_inputs.specs.Texts.{text_seen_judged, words_seen_judged}
+use Rattle.rv32_text.specs.Image.{image_words}
+use Rattle.rv32_text.specs.Written.{disassembled}
 use Rattle.mind_inputs.proofs.Callers.{one-is, judges-judge, judges-made, only}
-use Rattle.mind_top.specs.Words.{Form, Run, Check, Make, Load, IsForm, IsCheckForm, IsMakeForm, IsLoadForm, IsNoForm}
+use Rattle.mind_top.specs.Words.{Form, Run, Check, Make, Load, Asm, Dis, IsForm, IsCheckForm, IsMakeForm, IsLoadForm, IsAsmForm, IsDisForm, RunsNothing, IsNoForm}
 use Rattle.mind_top.specs.Due.{IsWhole, DoneBy, IsEndedBy, IsRunBy, Due, StopsRun, status_of_ending, status_of, status_of_replay, CallFor, IsSaid, IsAnswered, MayStop, Decides}
 use Rattle.mind_top.specs.Ending.{Counts, EndsWith}
 use Rattle.mind_top.specs.Headline.{RunWrites, Headline}
@@ -57,26 +60,38 @@ load-done holds words left before now old new result ends rack count seed is don
     let (text, (accepted, judges, writes), appends) = done-by holds words left before now old new result (Load rack count seed) ends is done in
     (accepted, judges, text, writes, appends)
 
--- ---- what a check and the making of a schedule leave
+pub asm-done : (holds : Option Files) (words : List (List ℕ)) (left : Left) (before now : Counts) (old new : Option (List ℕ)) (result : Status)
+    → EndsWith holds words left before now old new result → (name : List ℕ) → IsAsmForm words name → result ≡ status.Done
+    → (image : List ℕ) × JudgesOne holds name 4194304 text_seen_judged (Ok image) × Appends old new image
+asm-done holds words left before now old new result ends name is done =
+    let (text, (judges, empty), appends) = done-by holds words left before now old new result (Asm name) ends is done in
+    (text, judges, appends)
 
--- forms whose inputs are not run
-abbrev pub RunsNothing : Form → Type 0
-RunsNothing (Run output paths) = ⊥
-RunsNothing (Check paths journal) = Unit {0}
-RunsNothing (Make rack count seed) = Unit {0}
-RunsNothing (Load rack count seed) = ⊥
+pub dis-done : (holds : Option Files) (words : List (List ℕ)) (left : Left) (before now : Counts) (old new : Option (List ℕ)) (result : Status)
+    → EndsWith holds words left before now old new result → (name : List ℕ) → IsDisForm words name → result ≡ status.Done
+    → (image : List ℕ) × JudgesOne holds name 65536 words_seen_judged (Ok image) × Appends old new (disassembled (image_words image))
+dis-done holds words left before now old new result ends name is done =
+    let (text, (image, judges, lines, empty), appends) = done-by holds words left before now old new result (Dis name) ends is done in
+    let P : List ℕ → Type 0 = λ t. Appends old new t in
+    (image, judges, subst P lines appends)
+
+-- ---- what forms leave that run no schedule
 
 run-nothing : (holds : Option Files) (form : Form) (accepted : Accepted) → IsRunBy holds form accepted → RunsNothing form → ⊥
 run-nothing holds (Run output paths) accepted by none = none
 run-nothing holds (Check paths journal) accepted by none = by
 run-nothing holds (Make rack count seed) accepted by none = by
 run-nothing holds (Load rack count seed) accepted by none = none
+run-nothing holds (Asm text) accepted by none = by
+run-nothing holds (Dis image) accepted by none = by
 
 done-leaves : (holds : Option Files) (form : Form) (left : Left) (text : List ℕ) → DoneBy holds form left text → RunsNothing form → LeavesNothing left
 done-leaves holds (Run output paths) left text done none = absurd none
 done-leaves holds (Check paths journal) left text (inputs, judges, whole, nothing) none = nothing
 done-leaves holds (Make rack count seed) left text (plan, judges, made, nothing) none = nothing
 done-leaves holds (Load rack count seed) left text done none = absurd none
+done-leaves holds (Asm name) left text (judges, nothing) none = nothing
+done-leaves holds (Dis name) left text (image, judges, lines, nothing) none = nothing
 
 not-run : (holds : Option Files) (words : List (List ℕ)) (found form : Form) (accepted : Accepted) → IsForm words found → IsRunBy holds found accepted → IsForm words form → RunsNothing form → ⊥
 not-run holds words found form accepted also by is none =
@@ -94,7 +109,7 @@ due-leaves holds words left status.WriteFault text form due is none = absurd due
 due-leaves holds words left status.NoMemory text form due is none = absurd due
 due-leaves holds words left status.Spent text form due is none = absurd due
 
-form-leaves : (holds : Option Files) (words : List (List ℕ)) (left : Left) (before now : Counts) (old new : Option (List ℕ)) (result : Status)
+pub form-leaves : (holds : Option Files) (words : List (List ℕ)) (left : Left) (before now : Counts) (old new : Option (List ℕ)) (result : Status)
     → EndsWith holds words left before now old new result → (form : Form) → IsForm words form → RunsNothing form → LeavesNothing left
 form-leaves holds words left before now old new status.Done (text, due, appends) form is none = due-leaves holds words left status.Done text form due is none
 form-leaves holds words left before now old new status.Usage (text, due, appends) form is none = due-leaves holds words left status.Usage text form due is none
@@ -106,14 +121,6 @@ form-leaves holds words left before now old new status.NoMemory (some, (no_rack,
 form-leaves holds words left before now old new status.NoMemory (some, (no_rack, inr (found, also, accepted, by, stands)), kept) form is none =
     absurd (not-run holds words found form accepted also by is none)
 form-leaves holds words left before now old new status.Spent ((found, also, accepted, by, stopped), kept) form is none = absurd (not-run holds words found form accepted also by is none)
-
-pub check-leaves : (holds : Option Files) (words : List (List ℕ)) (left : Left) (before now : Counts) (old new : Option (List ℕ)) (result : Status)
-    → EndsWith holds words left before now old new result → (paths : Paths) (journal : List ℕ) → IsCheckForm words paths journal → LeavesNothing left
-check-leaves holds words left before now old new result ends paths journal is = form-leaves holds words left before now old new result ends (Check paths journal) is tt
-
-pub make-leaves : (holds : Option Files) (words : List (List ℕ)) (left : Left) (before now : Counts) (old new : Option (List ℕ)) (result : Status)
-    → EndsWith holds words left before now old new result → (rack : List ℕ) (count seed : ℕ) → IsMakeForm words rack count seed → LeavesNothing left
-make-leaves holds words left before now old new result ends rack count seed is = form-leaves holds words left before now old new result ends (Make rack count seed) is tt
 
 -- ---- a run that stopped
 
@@ -137,23 +144,29 @@ usage-answered holds words left before now old new status.Spent ((found, also, a
 
 -- ---- where the store tells what it holds, the files decide the status
 
-done-called : (files : Files) (form : Form) (left : Left) (text : List ℕ) → DoneBy (Some files) form left text → CallFor files form status.Done
+pub done-called : (files : Files) (form : Form) (left : Left) (text : List ℕ) → DoneBy (Some files) form left text → CallFor files form status.Done
 done-called files (Run output paths) left text (accepted, judges, writes) = ap status_of (judges-judge files paths (Ok accepted) judges)
 done-called files (Check paths journal) left text (inputs, judges, (state, whole, report), empty) = (Ok inputs, only files paths journal (Ok inputs) judges, ap status_of_replay (sym whole))
 done-called files (Make rack count seed) left text (plan, judges, made, empty) = ap status_of (one-is files rack 65536 rack_seen_judged (Ok plan) judges)
 done-called files (Load rack count seed) left text (accepted, judges, writes) = ap status_of (judges-made files rack count seed (Ok accepted) judges)
+done-called files (Asm name) left text (judges, empty) = ap status_of (one-is files name 4194304 text_seen_judged (Ok text) judges)
+done-called files (Dis name) left text (image, judges, lines, empty) = ap status_of (one-is files name 65536 words_seen_judged (Ok image) judges)
 
 ends-called : (files : Files) (form : Form) (ending : Ending) → IsEndedBy (Some files) form ending → CallFor files form (status_of_ending ending)
 ends-called files (Run output paths) ending judges = ap status_of (judges-judge files paths (Err ending) judges)
 ends-called files (Check paths journal) ending judges = (Err ending, only files paths journal (Err ending) judges, refl)
 ends-called files (Make rack count seed) ending judges = ap status_of (one-is files rack 65536 rack_seen_judged (Err ending) judges)
 ends-called files (Load rack count seed) ending judges = ap status_of (judges-made files rack count seed (Err ending) judges)
+ends-called files (Asm name) ending judges = ap status_of (one-is files name 4194304 text_seen_judged (Err ending) judges)
+ends-called files (Dis name) ending judges = ap status_of (one-is files name 65536 words_seen_judged (Err ending) judges)
 
 -- inputs that are run call for the end of a run, which may stop
 run-called : (files : Files) (form : Form) (accepted : Accepted) → IsRunBy (Some files) form accepted → CallFor files form status.Done × MayStop form status.Done
 run-called files (Run output paths) accepted judges = (ap status_of (judges-judge files paths (Ok accepted) judges), refl)
 run-called files (Check paths journal) accepted by = absurd by
 run-called files (Make rack count seed) accepted by = absurd by
+run-called files (Asm text) accepted by = absurd by
+run-called files (Dis image) accepted by = absurd by
 run-called files (Load rack count seed) accepted judges = (ap status_of (judges-made files rack count seed (Ok accepted) judges), refl)
 
 called-as : (files : Files) (words : List (List ℕ)) (found form : Form) (s : Status) → IsForm words found → IsForm words form → CallFor files found s → CallFor files form s

@@ -9,7 +9,7 @@ use Rattle.rack_gen.specs.Generator.{generated_text}
 use Rattle.mind_inputs.specs.Inputs.{Ending, Refused, Judged, Judges, JudgesMade, rack_seen_judged, seen_of}
 use Rattle.mind_inputs.specs.Journals.{Checkable, JudgesCheck}
 use Rattle.mind_inputs.proofs.Callers.{one-check, judged-made}
-use Rattle.mind_top.specs.Words.{Form, Run, Check, Make, Load, IsCheckForm}
+use Rattle.mind_top.specs.Words.{Form, Run, Check, Make, Load, Asm, Dis, IsCheckForm}
 use Rattle.mind_top.specs.Due.{DoneBy, IsEndedBy, Due, status_of_check, CallFor, said_of_replay, said_of_check}
 use Rattle.mind_top.specs.Left.{Left}
 use Rattle.mind_top.specs.declared.words.Output.TheVariants.{Report}
@@ -22,6 +22,8 @@ one-status files (Run output paths) a b p q = p ∙ sym q
 one-status files (Check paths journal) a b (x, only, p) (y, also, q) = p ∙ ap status_of_check (sym (only.1 y also.0)) ∙ sym q
 one-status files (Make rack count seed) a b p q = p ∙ sym q
 one-status files (Load rack count seed) a b p q = p ∙ sym q
+one-status files (Asm text) a b p q = p ∙ sym q
+one-status files (Dis image) a b p q = p ∙ sym q
 
 -- the form is a check, and its files are judged so
 abbrev JudgedBy : Files → Result Checkable Ending → Form → Type 0
@@ -29,6 +31,8 @@ JudgedBy files answer (Run output paths) = ⊥
 JudgedBy files answer (Check paths journal) = JudgesCheck (Some files) paths journal answer
 JudgedBy files answer (Make rack count seed) = ⊥
 JudgedBy files answer (Load rack count seed) = ⊥
+JudgedBy files answer (Asm text) = ⊥
+JudgedBy files answer (Dis image) = ⊥
 
 says-as : (files : Files) (paths : Paths) (journal : List ℕ) (answer found : Result Checkable Ending) (pair : Status × List ℕ) → JudgesCheck (Some files) paths journal answer
     → JudgesCheck (Some files) paths journal found → pair ≡ said_of_check found → pair ≡ said_of_check answer

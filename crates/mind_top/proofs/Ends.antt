@@ -9,10 +9,13 @@ use Rattle.mind_inputs.specs.Words.{Paths}
 use Rattle.mind_inputs.specs.Refusal.{line_of}
 use Rattle.mind_inputs.specs.Inputs.{Accepted, Judged, JudgesOne, Judges, JudgesMade, rack_seen_judged}
 use Rattle.mind_inputs.specs.Journals.{Checkable, JudgesCheck}
+use Rattle.mind_inputs.specs.Texts.{text_seen_judged, words_seen_judged}
 use Rattle.mind_inputs.specs.Loading.{StopsBy, Brings}
 use Rattle.mind_inputs.specs.declared.stopped.Stopped.{Stopped}
 use Rattle.mind_inputs.specs.declared.stopped.Stopped.TheVariants as stopped
-use Rattle.mind_top.specs.Words.{Form, Run, Check, Make, Load, IsForm}
+use Rattle.rv32_text.specs.Image.{image_words}
+use Rattle.rv32_text.specs.Written.{disassembled}
+use Rattle.mind_top.specs.Words.{Form, Run, Check, Make, Load, Asm, Dis, IsForm}
 use Rattle.mind_top.specs.Due.{DoneBy, IsEndedBy, IsRunBy, Due, not_a_run_line}
 use Rattle.mind_top.specs.Ending.{Counts, EndsWith}
 use Rattle.mind_top.specs.Headline.{RunWrites}
@@ -58,7 +61,7 @@ pub stopped-call : (holds : Option Files) (words : List (List ℕ)) (form : Form
     → LeavesNothing left → IsForm words form → StopsBy holds (λ ending. IsEndedBy holds form ending) before.faults now.faults before.missed now.missed why
     → Stops old new before.failed now.failed why result → EndsWith holds words left before now old new result
 stopped-call holds words form left before now old new (stopped.Refused refusal) result empty is stops says =
-    said-line holds words form left before now old new (line_of refusal) status.Malformed result empty is (form, is, refusal, stops, empty, refl) says
+    said-line holds words form left before now old new (line_of refusal) status.Malformed result empty is (form, is, refusal, stops.0, empty, refl) says
 stopped-call holds words form left before now old new stopped.ReadFault result empty is (rises, told) (same, kept) =
     let P : Status → Type 0 = λ s. EndsWith holds words left before now old new s in subst P (sym same) (form, is, rises, told, empty, kept)
 stopped-call holds words form left before now old new stopped.NoMemory result empty is stops (same, kept) =
@@ -88,7 +91,7 @@ answered : (holds : Option Files) (words : List (List ℕ)) (form : Form) (outpu
     → Brings holds judges before.faults now.faults before.missed now.missed loaded → LoadedEnds output left old new before.failed now.failed result loaded
     → EndsWith holds words left before now old new result
 answered holds words form output judges (Ok accepted) left before now old new result is runs stops loads ends =
-    let its = runs accepted loads in
+    let its = runs accepted loads.0 in
     ran-ended holds words form output accepted left before now old new result is its.0 its.1 ends
 answered holds words form output judges (Err why) left before now old new result is runs stops loads ends =
     stopped-call holds words form left before now old new why result ends.0 is (stops why loads) ends.1
@@ -137,6 +140,23 @@ pub make-ended : (holds : Option Files) (words : List (List ℕ)) (rack : List �
 make-ended holds words rack count seed plan before now old new result is judges says =
     said-line holds words (Make rack count seed) nothing before now old new (generated_text plan count seed) status.Done result (refl, refl) is
     (Make rack count seed, is, (plan, judges, refl, (refl, refl))) says
+
+-- ---- a text of instructions and an image
+
+pub asm-ended : (holds : Option Files) (words : List (List ℕ)) (name image said_image : List ℕ) (before now : Counts) (old new : Option (List ℕ)) (result : Status)
+    → IsForm words (Asm name) → JudgesOne holds name 4194304 text_seen_judged (Ok image) → said_image ≡ image
+    → SaysText old new before.failed now.failed said_image status.Done result → EndsWith holds words nothing before now old new result
+asm-ended holds words name image said_image before now old new result is judges same says =
+    let P : List ℕ → Type 0 = λ t. SaysText old new before.failed now.failed t status.Done result in
+    said holds words nothing before now old new image status.Done result (Asm name, is, (judges, (refl, refl))) (subst P same says)
+
+pub dis-ended : (holds : Option Files) (words : List (List ℕ)) (name image slice : List ℕ) (before now : Counts) (old new : Option (List ℕ)) (result : Status)
+    → IsForm words (Dis name) → JudgesOne holds name 65536 words_seen_judged (Ok image) → slice ≡ image
+    → SaysLine old new before.failed now.failed (disassembled (image_words slice)) status.Done result → EndsWith holds words nothing before now old new result
+dis-ended holds words name image slice before now old new result is judges same says =
+    let P : List ℕ → Type 0 = λ t. SaysLine old new before.failed now.failed (disassembled (image_words t)) status.Done result in
+    said-line holds words (Dis name) nothing before now old new (disassembled (image_words image)) status.Done result (refl, refl) is
+    (Dis name, is, (image, judges, refl, (refl, refl))) (subst P same says)
 
 -- a log that stayed empty, and no rack
 pub with-nothing : (holds : Option Files) (words : List (List ℕ)) (log : List Note) (before now : Counts) (old new : Option (List ℕ)) (result : Status)

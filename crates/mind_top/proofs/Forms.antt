@@ -5,7 +5,7 @@ use Rattle.mind_inputs.specs.Words.{Paths}
 use Rattle.mind_top.specs.Asked.{form_asked, IsAskedIn}
 use Rattle.mind_base.specs.Number.{number_of}
 use Rattle.mind_base.specs.declared.numbers.NumberFault.{NumberFault}
-use Rattle.mind_top.specs.Words.{Form, Run, Check, Make, Load, run_word, IsNumber, IsDrawn, IsForm, IsNoForm}
+use Rattle.mind_top.specs.Words.{Form, Run, Check, Make, Load, Asm, Dis, run_word, IsNumber, IsDrawn, IsForm, IsNoForm}
 use Rattle.mind_top.specs.declared.words.Asked.{Asked}
 use Rattle.mind_top.specs.declared.words.Output.{Output}
 use Rattle.mind_top.specs.declared.words.Output.TheVariants.{Report, Journal}
@@ -67,13 +67,35 @@ same-form words (Load rack count seed) (Run u q) a b = absurd (omega (arith, ap 
 same-form words (Load rack count seed) (Check q journal) a b = absurd (omega (arith, ap first-letter (sym a.words_are ∙ b)))
 same-form words (Load rack count seed) (Make other counted seeded) a b = absurd (omega (arith, ap first-letter (sym a.words_are ∙ b.words_are)))
 same-form words (Load rack count seed) (Load other counted seeded) a b = same-drawn (codes "load") words Load rack other count counted seed seeded a b
+same-form words (Run o p) (Asm other) a b = absurd (omega (arith, ap length (sym a ∙ b)))
+same-form words (Run o p) (Dis other) a b = absurd (omega (arith, ap length (sym a ∙ b)))
+same-form words (Check p journal) (Asm other) a b = absurd (omega (arith, ap length (sym a ∙ b)))
+same-form words (Check p journal) (Dis other) a b = absurd (omega (arith, ap length (sym a ∙ b)))
+same-form words (Make rack count seed) (Asm other) a b = absurd (omega (arith, ap length (sym a.words_are ∙ b)))
+same-form words (Make rack count seed) (Dis other) a b = absurd (omega (arith, ap length (sym a.words_are ∙ b)))
+same-form words (Load rack count seed) (Asm other) a b = absurd (omega (arith, ap length (sym a.words_are ∙ b)))
+same-form words (Load rack count seed) (Dis other) a b = absurd (omega (arith, ap length (sym a.words_are ∙ b)))
+same-form words (Asm text) (Run u q) a b = absurd (omega (arith, ap length (sym a ∙ b)))
+same-form words (Asm text) (Check q other) a b = absurd (omega (arith, ap length (sym a ∙ b)))
+same-form words (Asm text) (Make other counted seeded) a b = absurd (omega (arith, ap length (sym a ∙ b.words_are)))
+same-form words (Asm text) (Load other counted seeded) a b = absurd (omega (arith, ap length (sym a ∙ b.words_are)))
+same-form words (Asm text) (Asm other) a b = ap Asm (ap (word-at 1) (sym a ∙ b))
+same-form words (Asm text) (Dis other) a b = absurd (omega (arith, ap first-letter (sym a ∙ b)))
+same-form words (Dis image) (Run u q) a b = absurd (omega (arith, ap length (sym a ∙ b)))
+same-form words (Dis image) (Check q other) a b = absurd (omega (arith, ap length (sym a ∙ b)))
+same-form words (Dis image) (Make other counted seeded) a b = absurd (omega (arith, ap length (sym a ∙ b.words_are)))
+same-form words (Dis image) (Load other counted seeded) a b = absurd (omega (arith, ap length (sym a ∙ b.words_are)))
+same-form words (Dis image) (Asm other) a b = absurd (omega (arith, ap first-letter (sym a ∙ b)))
+same-form words (Dis image) (Dis other) a b = ap Dis (ap (word-at 1) (sym a ∙ b))
 
 pub no-form : (words : List (List ℕ)) (f : Form) → IsNoForm words → IsForm words f → ⊥
-no-form words (Run Report p) (run, journal, check, make, load) is = run p is
-no-form words (Run Journal p) (run, journal, check, make, load) is = journal p is
-no-form words (Check p j) (run, journal, check, make, load) is = check p j is
-no-form words (Make rack count seed) (run, journal, check, make, load) is = make rack count seed is
-no-form words (Load rack count seed) (run, journal, check, make, load) is = load rack count seed is
+no-form words (Run Report p) (run, journal, check, make, load, asm, dis) is = run p is
+no-form words (Run Journal p) (run, journal, check, make, load, asm, dis) is = journal p is
+no-form words (Check p j) (run, journal, check, make, load, asm, dis) is = check p j is
+no-form words (Make rack count seed) (run, journal, check, make, load, asm, dis) is = make rack count seed is
+no-form words (Load rack count seed) (run, journal, check, make, load, asm, dis) is = load rack count seed is
+no-form words (Asm text) (run, journal, check, make, load, asm, dis) is = asm text is
+no-form words (Dis image) (run, journal, check, make, load, asm, dis) is = dis image is
 
 -- what the code found, under its name
 pub asked-as : (words : List (List ℕ)) (a b : Asked) → a ≡ b → IsForm words (form_asked a) → IsForm words (form_asked b)
@@ -100,18 +122,48 @@ asked-of-four words w r t f a b c d asked least most ew er et ef ea eb ec ed is 
     let all : a ∷ b ∷ c ∷ d ∷ [] ≡ map string_bytes words = (λ i. ea i ∷ eb i ∷ ec i ∷ ed i ∷ []) ∙ sym (four-are words w r t f least most ew er et ef) in
     subst P all is
 
+-- ---- two words
+
+two-are : (words : List (String Global)) (w r : String Global) → 2 ≤ length words → length words < 3 → w ≡ get_or words 0 w → r ≡ get_or words 1 r
+    → map string_bytes words ≡ string_bytes w ∷ string_bytes r ∷ []
+two-are [] w r least most ew er = absurd (omega arith)
+two-are (a ∷ []) w r least most ew er = absurd (omega arith)
+two-are (a ∷ b ∷ []) w r least most ew er = λ i. string_bytes (sym ew i) ∷ string_bytes (sym er i) ∷ []
+two-are (a ∷ b ∷ c ∷ more) w r least most ew er = absurd (omega arith)
+
+pub asked-of-two : (words : List (String Global)) (w r : String Global) (a b : List ℕ) (asked : Option Asked) → 2 ≤ length words → length words < 3 → w ≡ get_or words 0 w → r ≡ get_or words 1 r
+    → a ≡ string_bytes w → b ≡ string_bytes r → IsAskedIn (a ∷ b ∷ []) asked → IsAskedIn (map string_bytes words) asked
+asked-of-two words w r a b asked least most ew er ea eb is =
+    let P : List (List ℕ) → Type 0 = λ all. IsAskedIn all asked in
+    let all : a ∷ b ∷ [] ≡ map string_bytes words = (λ i. ea i ∷ eb i ∷ []) ∙ sym (two-are words w r least most ew er) in
+    subst P all is
+
 -- ---- words of no form
 
 -- as many as no form has
-pub wrong-length : (words : List (String Global)) → (length words ≡ 3 → ⊥) → (length words ≡ 4 → ⊥) → IsNoForm (map string_bytes words)
-wrong-length words three four =
+pub wrong-length : (words : List (String Global)) → (length words ≡ 2 → ⊥) → (length words ≡ 3 → ⊥) → (length words ≡ 4 → ⊥) → IsNoForm (map string_bytes words)
+wrong-length words two three four =
     let long = length-map words string_bytes in (
       (λ paths e. three (omega (arith, long, ap length e))),
       (λ paths e. three (omega (arith, long, ap length e))),
       (λ paths journal e. four (omega (arith, long, ap length e))),
       (λ rack count seed d. four (omega (arith, long, ap length d.words_are))),
       (λ rack count seed d. four (omega (arith, long, ap length d.words_are))),
+      (λ text e. two (omega (arith, long, ap length e))),
+      (λ image e. two (omega (arith, long, ap length e))),
     )
+
+-- two words that are neither of the two forms
+pub none-of-two : (name file : List ℕ) → (name ≡ codes "asm" → ⊥) → (name ≡ codes "dis" → ⊥) → IsNoForm (name ∷ file ∷ [])
+none-of-two name file no_asm no_dis = (
+  (λ paths e. omega (arith, ap length e)),
+  (λ paths e. omega (arith, ap length e)),
+  (λ paths journal e. omega (arith, ap length e)),
+  (λ rack count seed d. omega (arith, ap length d.words_are)),
+  (λ rack count seed d. omega (arith, ap length d.words_are)),
+  (λ text e. no_asm (ap (word-at 0) e)),
+  (λ image e. no_dis (ap (word-at 0) e)),
+)
 
 -- no numbers that a schedule could be made by
 abbrev AreNoNumbers : List ℕ → List ℕ → Type 0
@@ -132,6 +184,8 @@ none-of-four name rack count seed no_check no_make no_load = (
   (λ paths journal e. no_check (ap (word-at 0) e)),
   no_make,
   no_load,
+  (λ text e. omega (arith, ap length e)),
+  (λ image e. omega (arith, ap length e)),
 )
 
 abbrev letter : List ℕ → ℕ

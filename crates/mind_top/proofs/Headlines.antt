@@ -1,5 +1,5 @@
 -- What stands at the end of a run.
-use Rattle.std.proofs.Common.{◌≡◌, ◌∙◌, ℕ, List, length, subst, Option, Some}
+use Rattle.std.proofs.Common.{◌≡◌, ◌≤◌, ◌∙◌, ℕ, List, length, subst, Option, Some}
 use Rattle.std.specs.List.{AllByRecursion}
 use Rattle.mind_base.specs.Fit.{IsFit}
 use Rattle.mind_base.specs.declared.images.Image.{Image}
@@ -7,14 +7,14 @@ use Rattle.mind_base.specs.declared.events.Event.{Event}
 use Rattle.mind_base.specs.declared.notes.Note.{Note}
 use Rattle.mind_base.specs.declared.plans.RackPlan.{RackPlan}
 use Rattle.mind_inputs.specs.Inputs.{Accepted}
-use Rattle.mind_steps.specs.Run.{setup_of, events, below, IsWholeRun, Stands}
-use Rattle.mind_steps.proofs.Callers.{stands-whole}
-use Rattle.rack_core.specs.Calls.{HasSpentNumber}
+use Rattle.mind_steps.specs.Run.{events, below, IsWholeRun}
 use Rattle.rack_core.specs.Rack.{RackView}
 use Rattle.rack_core.specs.Start.{IsStart}
-use Rattle.mind_top.specs.Headline.{setup_by, RunWrites, IsTextOf, IsStopped}
+use Rattle.mind_top.specs.Headline.{setup_by, RunWrites, IsTextOf, StopsIn}
 use Rattle.rack_core.proofs.Callers.{shaped-counted}
-use Rattle.rack_settle.specs.Ran.{IsRunFor, HasRun}
+use Rattle.report_text.specs.Force.{peak}
+use Rattle.report_text.proofs.Callers.{peak-within}
+use Rattle.rack_settle.specs.Ran.{IsRunFor, HasRun, HasStopped}
 use Rattle.rack_settle.proofs.Callers.{happens_in_log, settled_labels_of}
 use Rattle.mind_top.specs.Ran.{RanThrough}
 use Rattle.mind_top.specs.declared.words.Output.{Output}
@@ -35,6 +35,7 @@ ran-through accepted images es first last log same all fit fits start has =
       start = start;
       ran = run.ran;
       stands = run.stands;
+      kept = run.kept;
       settled = settled_labels_of accepted.images accepted.plan accepted.events first last log fit start fits run.ran counted;
       at_once = happens_in_log accepted.images accepted.plan accepted.events first last log fit start fits run.ran counted;
     }
@@ -47,30 +48,26 @@ all-events accepted images es first last log all has =
 pub through-whole : (accepted : Accepted) (log : List Note) (rack : RackView) → RanThrough accepted log rack → IsWholeRun (setup_by accepted) log
 through-whole accepted log rack ran = whole-run accepted.images accepted.plan rack log ran.plan ran.stands
 
-pub through-stands : (accepted : Accepted) (log : List Note) (rack : RackView) → RanThrough accepted log rack → Stands (setup_by accepted) log
-through-stands accepted log rack ran = stands-whole (setup_by accepted) log (through-whole accepted log rack ran)
+-- no more entries are in force at any point than the directory has slots
+through-slots : (accepted : Accepted) (log : List Note) (rack : RackView) → RanThrough accepted log rack → peak log ≤ accepted.plan.slots
+through-slots accepted log rack ran = let P : RackPlan → Type 0 = λ p. peak log ≤ p.slots in subst P ran.plan (peak-within rack.plan log ran.stands.told.lawful)
 
 -- its log and the rack are left, and the text is what is asked for
 pub run-writes : (output : Output) (accepted : Accepted) (log : List Note) (end : Option RackView) (rack : RackView) (text : List ℕ) → end ≡ Some rack → RanThrough accepted log rack
     → events log ≡ below (length accepted.events) → IsTextOf output accepted log text → RunWrites output accepted (record { log = log; end = end }) text
 run-writes Report accepted log end rack text left ran all (state, whole, report) = record {
   state = state;
-  run = record { run = whole; events = all; rack = rack; end = left; ran = ran };
+  run = record { run = whole; events = all; slots = through-slots accepted log rack ran; rack = rack; end = left; ran = ran };
   report = report;
 }
 run-writes Journal accepted log end rack text left ran all is =
     let (state, whole) = through-whole accepted log rack ran in
-    record { state = state; run = record { run = whole; events = all; rack = rack; end = left; ran = ran }; journal = is }
+    record { state = state; run = record { run = whole; events = all; slots = through-slots accepted log rack ran; rack = rack; end = left; ran = ran }; journal = is }
 
--- the labels of a run that stopped, by the plan and the images that were accepted
-pub stands-for : (accepted : Accepted) (plan : RackPlan) (images : List Image) (log : List Note) → plan ≡ accepted.plan → images ≡ accepted.images → Stands (setup_of plan images) log
-    → Stands (setup_by accepted) log
-stands-for accepted plan images log planned same stands =
-    let P : RackPlan → Type 0 = λ p. Stands (setup_of p accepted.images) log in
-    let Q : List Image → Type 0 = λ xs. Stands (setup_of plan xs) log in
-    subst P planned (subst Q same stands)
-
-pub is-stopped : (accepted : Accepted) (plan : RackPlan) (images : List Image) (log : List Note) (end : Option RackView) (rack : RackView) → plan ≡ accepted.plan → images ≡ accepted.images
-    → Stands (setup_of plan images) log → end ≡ Some rack → HasSpentNumber rack → IsStopped accepted (record { log = log; end = end })
-is-stopped accepted plan images log end rack planned same stands left spent =
-    record { stands = stands-for accepted plan images log planned same stands; rack = rack; end = left; spent = spent }
+-- where an event stopped, by the images and the events that were accepted
+pub stops-in : (accepted : Accepted) (images : List Image) (es : List Event) (first : RackView) (log : List Note) → images ≡ accepted.images → es ≡ accepted.events
+    → IsStart accepted.plan first → HasStopped images es first log → StopsIn accepted log
+stops-in accepted images es first log same all start stopped =
+    let P : List Image → Type 0 = λ xs. HasStopped xs accepted.events first log in
+    let Q : List Event → Type 0 = λ xs. HasStopped images xs first log in
+    record { first = first; start = start; stopped = subst P same (subst Q all stopped) }

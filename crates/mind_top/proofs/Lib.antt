@@ -3,5 +3,7 @@ pub mod Decided
 pub mod Ends
 pub mod Forms
 pub mod Headlines
+pub mod Journalled
 pub mod Outcomes
+pub mod Outside
 pub mod Rans

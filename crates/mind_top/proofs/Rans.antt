@@ -15,13 +15,12 @@ use Rattle.schedule_text.specs.Event.{IsEventOf}
 use Rattle.schedule_text.specs.Link.{ends_of}
 use Rattle.schedule_text.specs.Size.{sizes_of}
 use Rattle.mind_inputs.specs.Inputs.{IsBuilt, IsRunnable, Accepted}
-use Rattle.mind_steps.specs.Run.{setup_of, event_number, events, below, IsWholeRun, Stands}
-use Rattle.mind_steps.proofs.Callers.{stands-whole, stands-event}
+use Rattle.mind_steps.specs.Run.{setup_of, event_number, events, below, IsWholeRun}
 use Rattle.rack_core.specs.Noted.{StandsIn, AreInPlace}
 use Rattle.rack_core.specs.Calls.{HasLink}
 use Rattle.rack_core.specs.Rack.{RackView}
 use Rattle.rack_core.specs.StandLog.{StandsForLog}
-use Rattle.rack_settle.specs.Ran.{IsRunFor, Ran, HasStopped}
+use Rattle.rack_settle.specs.Ran.{IsRunFor, Ran}
 
 -- ---- the events of the log
 
@@ -52,19 +51,6 @@ ran-events images es first last log ran = sym (ap below (let is : length es ≡ 
 
 pub whole-run : (images : List Image) (plan : RackPlan) (rack : RackView) (log : List Note) → rack.plan ≡ plan → StandsForLog images rack log → IsWholeRun (setup_of plan images) log
 whole-run images plan rack log same stands = let P : RackPlan → Type 0 = λ p. IsWholeRun (setup_of p images) log in subst P same (stands.state, stands.run)
-
--- where an event stopped
-pub stopped-stands : (images : List Image) (es : List Event) (first : RackView) (log : List Note) → HasStopped images es first log → Stands (setup_of first.plan images) log
-stopped-stands images es first log stopped = by stopped.behind where
-  whole : IsWholeRun (setup_of first.plan images) stopped.before
-  whole = whole-run images first.plan stopped.last stopped.before stopped.ran.plan stopped.ran.stands
-
-  P : List Note → Type 0
-  P ns = Stands (setup_of first.plan images) ns
-
-  by : (log ≡ stopped.before) ⊎ (log ≡ stopped.before ++ note.Event (length stopped.done) ∷ []) → P log
-  by (inl same) = subst P (sym same) (stands-whole (setup_of first.plan images) stopped.before whole)
-  by (inr more) = subst P (sym more) (stands-event (setup_of first.plan images) stopped.before (length stopped.done) whole)
 
 -- ---- events that run on a rack
 

@@ -9,14 +9,17 @@ use Rattle.mind_inputs.specs.Words.{Paths}
 use Rattle.mind_inputs.specs.Refusal.{line_of}
 use Rattle.mind_inputs.specs.Inputs.{Ending, Missing, Refused, Accepted, JudgesOne, Judges, JudgesMade, rack_seen_judged, seen_of, judge, judge_made}
 use Rattle.mind_inputs.specs.Journals.{Checkable, JudgesCheck, IsOnlyJudgement}
+use Rattle.mind_inputs.specs.Texts.{text_seen_judged, words_seen_judged}
 use Rattle.mind_inputs.specs.declared.refusals.Refusal.{Refusal}
+use Rattle.rv32_text.specs.Image.{image_words}
+use Rattle.rv32_text.specs.Written.{disassembled}
 use Rattle.tso_machine.specs.State.{start_state}
 use Rattle.tso_machine.specs.Replay.{labels, Replayed, Whole, Stuck, replay}
 use Rattle.report_text.specs.Report.{report_text}
-use Rattle.mind_steps.specs.Run.{IsReportOf, IsStuckAt, Stands}
-use Rattle.mind_top.specs.Headline.{setup_by, RunWrites, IsStopped}
+use Rattle.mind_steps.specs.Run.{IsReportOf, IsStuckAt}
+use Rattle.mind_top.specs.Headline.{setup_by, RunWrites, HasFinished, IsStopped}
 use Rattle.mind_top.specs.Left.{Left, LeavesNothing}
-use Rattle.mind_top.specs.Words.{Form, Run, Check, Make, Load, IsForm, IsCheckForm, IsNoForm, usage_line}
+use Rattle.mind_top.specs.Words.{Form, Run, Check, Make, Load, Asm, Dis, IsForm, IsCheckForm, IsNoForm, usage_line}
 use Rattle.mind_top.specs.declared.words.Output.TheVariants.{Report}
 use Rattle.mind_top.specs.declared.statuses.Status.{Status}
 use Rattle.mind_top.specs.declared.statuses.Status.TheVariants as status
@@ -43,6 +46,9 @@ DoneBy holds (Check paths journal) left text = (inputs : Checkable) × JudgesChe
 DoneBy holds (Make rack count seed) left text =
     (plan : RackPlan) × JudgesOne holds rack 65536 rack_seen_judged (Ok plan) × (text ≡ generated_text plan count seed) × LeavesNothing left
 DoneBy holds (Load rack count seed) left text = (accepted : Accepted) × JudgesMade holds rack count seed (Ok accepted) × RunWrites Report accepted left text
+DoneBy holds (Asm name) left text = JudgesOne holds name 4194304 text_seen_judged (Ok text) × LeavesNothing left
+DoneBy holds (Dis name) left text =
+    (image : List ℕ) × JudgesOne holds name 65536 words_seen_judged (Ok image) × (text ≡ disassembled (image_words image)) × LeavesNothing left
 
 -- an input of a form ends the call
 abbrev pub IsEndedBy : Option Files → Form → Ending → Type 0
@@ -50,6 +56,8 @@ IsEndedBy holds (Run output paths) ending = Judges holds paths (Err ending)
 IsEndedBy holds (Check paths journal) ending = JudgesCheck holds paths journal (Err ending)
 IsEndedBy holds (Make rack count seed) ending = JudgesOne holds rack 65536 rack_seen_judged (Err ending)
 IsEndedBy holds (Load rack count seed) ending = JudgesMade holds rack count seed (Err ending)
+IsEndedBy holds (Asm name) ending = JudgesOne holds name 4194304 text_seen_judged (Err ending)
+IsEndedBy holds (Dis name) ending = JudgesOne holds name 65536 words_seen_judged (Err ending)
 
 -- these accepted inputs of a form are run
 abbrev pub IsRunBy : Option Files → Form → Accepted → Type 0
@@ -57,6 +65,8 @@ IsRunBy holds (Run output paths) accepted = Judges holds paths (Ok accepted)
 IsRunBy holds (Check paths journal) accepted = ⊥
 IsRunBy holds (Make rack count seed) accepted = ⊥
 IsRunBy holds (Load rack count seed) accepted = JudgesMade holds rack count seed (Ok accepted)
+IsRunBy holds (Asm name) accepted = ⊥
+IsRunBy holds (Dis name) accepted = ⊥
 
 -- The status and the text that are due where the one write does not fail, and what is left then.
 abbrev pub Due : Option Files → List (List ℕ) → Left → Status → List ℕ → Type 0
@@ -72,11 +82,10 @@ Due holds words left status.WriteFault text = ⊥
 Due holds words left status.NoMemory text = ⊥
 Due holds words left status.Spent text = ⊥
 
--- Where memory ran out, no rack is left, and the labels before the last event of the log replay, if a run took place
--- at all.
+-- Where memory ran out, no rack is left, and the log is empty, or that of the events that finished of a run.
 abbrev pub LogStands : Option Files → List (List ℕ) → Left → Type 0
 LogStands holds words left = (left.end ≡ None) × ((left.log ≡ [])
-    ⊎ ((form : Form) × IsForm words form × (accepted : Accepted) × IsRunBy holds form accepted × Stands (setup_by accepted) left.log))
+    ⊎ ((form : Form) × IsForm words form × (accepted : Accepted) × IsRunBy holds form accepted × HasFinished accepted left.log))
 
 -- the inputs of a run are accepted, and it stopped
 abbrev pub StopsRun : Option Files → List (List ℕ) → Left → Type 0
@@ -107,6 +116,8 @@ CallFor files (Run output paths) due = due ≡ status_of (judge files paths)
 CallFor files (Check paths journal) due = (answer : Result Checkable Ending) × IsOnlyJudgement files paths journal answer × (due ≡ status_of_check answer)
 CallFor files (Make rack count seed) due = due ≡ status_of (rack_seen_judged (seen_of (finite.get files rack) 65536))
 CallFor files (Load rack count seed) due = due ≡ status_of (judge_made files rack count seed)
+CallFor files (Asm name) due = due ≡ status_of (text_seen_judged (seen_of (finite.get files name) 4194304))
+CallFor files (Dis name) due = due ≡ status_of (words_seen_judged (seen_of (finite.get files name) 65536))
 
 -- something is written with this status
 abbrev pub IsSaid : Status → Type 0
@@ -129,6 +140,8 @@ MayStop (Run output paths) due = due ≡ status.Done
 MayStop (Check paths journal) due = ⊥
 MayStop (Make rack count seed) due = ⊥
 MayStop (Load rack count seed) due = due ≡ status.Done
+MayStop (Asm name) due = ⊥
+MayStop (Dis name) due = ⊥
 
 -- The files decide the status. It gives way to want of memory, in a run to a number at its last value, and to a
 -- failed write where the files call for one.

@@ -1,9 +1,9 @@
 -- How a call of the program ends: its status, what it wrote, and what it leaves.
 use Rattle.std.specs.Prelude.{◌≡◌, ◌⊎◌, ◌≤◌, ℕ, List, Option}
-use Rattle.mind_base.specs.Store.{Files, Rises}
+use Rattle.mind_base.specs.Store.{Files, Rises, risen}
 use Rattle.mind_base.specs.Sink.{Appends, AppendsFront}
 use Rattle.mind_inputs.specs.Inputs.{Missing}
-use Rattle.mind_inputs.specs.Loading.{MissTold}
+use Rattle.mind_inputs.specs.Loading.{MissTold, Stays}
 use Rattle.mind_top.specs.Words.{Form, IsForm}
 use Rattle.mind_top.specs.Due.{IsEndedBy, Due, LogStands, StopsRun}
 use Rattle.mind_top.specs.Left.{Left, LeavesNothing}
@@ -23,6 +23,28 @@ counts faults missed failed = record { faults = faults; missed = missed; failed 
 -- what the store holds stays as it was, and no count falls
 abbrev pub KeepsOutside : Option Files → Option Files → Counts → Counts → Type 0
 KeepsOutside held held' before now = (held' ≡ held) × (before.faults ≤ now.faults) × (before.missed ≤ now.missed) × (before.failed ≤ now.failed)
+
+-- the counts of the store stand as they were, but where a read failed and ended the call
+abbrev pub StaysUnlessReadFault : ℕ → ℕ → ℕ → ℕ → Status → Type 0
+StaysUnlessReadFault faults faults' missed missed' status.Done = Stays faults faults' missed missed'
+StaysUnlessReadFault faults faults' missed missed' status.Usage = Stays faults faults' missed missed'
+StaysUnlessReadFault faults faults' missed missed' status.Malformed = Stays faults faults' missed missed'
+StaysUnlessReadFault faults faults' missed missed' status.ReadFault = Unit {0}
+StaysUnlessReadFault faults faults' missed missed' status.WriteFault = Stays faults faults' missed missed'
+StaysUnlessReadFault faults faults' missed missed' status.NoMemory = Stays faults faults' missed missed'
+StaysUnlessReadFault faults faults' missed missed' status.NotARun = Stays faults faults' missed missed'
+StaysUnlessReadFault faults faults' missed missed' status.Spent = Stays faults faults' missed missed'
+
+-- where something is due to be written it was written to the sink once, else not at all
+abbrev pub WritesOnce : ℕ → ℕ → Status → Type 0
+WritesOnce writes writes' status.Done = writes' ≡ risen writes
+WritesOnce writes writes' status.Usage = writes' ≡ risen writes
+WritesOnce writes writes' status.Malformed = writes' ≡ risen writes
+WritesOnce writes writes' status.ReadFault = writes' ≡ writes
+WritesOnce writes writes' status.WriteFault = writes' ≡ risen writes
+WritesOnce writes writes' status.NoMemory = writes' ≡ writes
+WritesOnce writes writes' status.NotARun = writes' ≡ risen writes
+WritesOnce writes writes' status.Spent = writes' ≡ writes
 
 -- A call ends with its status: what is due was written; or the write failed, and a front of it stands
 -- there; or a read failed, memory ran out, or a run stopped, and nothing was written. The last three come only with

@@ -7,11 +7,10 @@ use Rattle.mind_inputs.specs.Inputs.{Accepted}
 use Rattle.mind_inputs.specs.Journals.{Checkable}
 use Rattle.mind_inputs.specs.declared.stopped.Stopped.{Stopped}
 use Rattle.mind_inputs.specs.declared.stopped.Stopped.TheVariants as stopped
-use Rattle.mind_steps.specs.Run.{Stands}
 use Rattle.mind_top.specs.Words.{Form, IsForm}
 use Rattle.mind_top.specs.Due.{IsWhole, IsStuck, not_a_run_line}
 use Rattle.mind_top.specs.Ending.{Counts, EndsWith}
-use Rattle.mind_top.specs.Headline.{setup_by, RunWrites, IsStopped}
+use Rattle.mind_top.specs.Headline.{RunWrites, HasFinished, IsStopped}
 use Rattle.mind_top.specs.Left.{Left, LeavesNothing}
 use Rattle.mind_top.specs.declared.words.Output.{Output}
 use Rattle.mind_top.specs.declared.statuses.Status.{Status}
@@ -35,7 +34,7 @@ Stops old new failed failed' stopped.NoMemory result = (result ≡ status.NoMemo
 -- how a run of accepted inputs ends
 abbrev pub RunEnds : Output → Accepted → Left → Option (List ℕ) → Option (List ℕ) → ℕ → ℕ → Status → Type 0
 RunEnds output accepted left old new failed failed' result =
-    ((result ≡ status.NoMemory) × (new ≡ old) × (left.end ≡ None) × Stands (setup_by accepted) left.log)
+    ((result ≡ status.NoMemory) × (new ≡ old) × (left.end ≡ None) × HasFinished accepted left.log)
     ⊎ (((result ≡ status.Spent) × (new ≡ old) × IsStopped accepted left)
     ⊎ ((text : List ℕ) × RunWrites output accepted left text × SaysText old new failed failed' text status.Done result))
 

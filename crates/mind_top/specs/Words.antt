@@ -6,12 +6,14 @@ use Rattle.mind_top.specs.declared.words.Output.{Output}
 use Rattle.mind_top.specs.declared.words.Output.TheVariants.{Report, Journal}
 
 -- what is asked for: a run and its report or journal; the check of a journal; a schedule that the generator makes of so
--- many lines from a seed; or the run of that schedule
+-- many lines from a seed; the run of that schedule; the image of a text of instructions; or the text of an image
 pub data Form : Type 0 where
   Run : (output : Output) → (paths : Paths) → Form
   Check : (paths : Paths) → (journal : List ℕ) → Form
   Make : (rack : List ℕ) → (count seed : ℕ) → Form
   Load : (rack : List ℕ) → (count seed : ℕ) → Form
+  Asm : (text : List ℕ) → Form
+  Dis : (image : List ℕ) → Form
 
 -- the word for a run and what it writes
 abbrev pub run_word : Output → List ℕ
@@ -36,6 +38,8 @@ IsForm words (Run output paths) = words ≡ run_word output ∷ paths.rack ∷ p
 IsForm words (Check paths journal) = words ≡ codes "check" ∷ paths.rack ∷ paths.schedule ∷ journal ∷ []
 IsForm words (Make rack count seed) = IsDrawn (codes "make") words rack count seed
 IsForm words (Load rack count seed) = IsDrawn (codes "load") words rack count seed
+IsForm words (Asm text) = words ≡ codes "asm" ∷ text ∷ []
+IsForm words (Dis image) = words ≡ codes "dis" ∷ image ∷ []
 
 -- the words are `run RACK SCHEDULE`
 abbrev pub IsRunForm : List (List ℕ) → Paths → Type 0
@@ -57,14 +61,32 @@ IsMakeForm words rack count seed = IsForm words (Make rack count seed)
 abbrev pub IsLoadForm : List (List ℕ) → List ℕ → ℕ → ℕ → Type 0
 IsLoadForm words rack count seed = IsForm words (Load rack count seed)
 
+-- the words are `asm TEXT`
+abbrev pub IsAsmForm : List (List ℕ) → List ℕ → Type 0
+IsAsmForm words text = IsForm words (Asm text)
+
+-- the words are `dis IMAGE`
+abbrev pub IsDisForm : List (List ℕ) → List ℕ → Type 0
+IsDisForm words image = IsForm words (Dis image)
+
+-- forms that run no schedule
+abbrev pub RunsNothing : Form → Type 0
+RunsNothing (Run output paths) = ⊥
+RunsNothing (Check paths journal) = Unit {0}
+RunsNothing (Make rack count seed) = Unit {0}
+RunsNothing (Load rack count seed) = ⊥
+RunsNothing (Asm text) = Unit {0}
+RunsNothing (Dis image) = Unit {0}
+
 -- the words are of no form
 abbrev pub IsNoForm : List (List ℕ) → Type 0
 IsNoForm words = ((paths : Paths) → ¬ (IsRunForm words paths)) × ((paths : Paths) → ¬ (IsJournalForm words paths))
     × ((paths : Paths) (journal : List ℕ) → ¬ (IsCheckForm words paths journal))
     × ((rack : List ℕ) (count seed : ℕ) → ¬ (IsMakeForm words rack count seed))
     × ((rack : List ℕ) (count seed : ℕ) → ¬ (IsLoadForm words rack count seed))
+    × ((text : List ℕ) → ¬ (IsAsmForm words text)) × ((image : List ℕ) → ¬ (IsDisForm words image))
 
 abbrev pub usage_line : List ℕ
 usage_line =
-    codes "usage: mind run RACK SCHEDULE | journal RACK SCHEDULE | check RACK SCHEDULE JOURNAL | make RACK COUNT SEED | load RACK COUNT SEED"
+    codes "usage: mind run RACK SCHEDULE | journal RACK SCHEDULE | check RACK SCHEDULE JOURNAL | make RACK COUNT SEED | load RACK COUNT SEED | asm TEXT | dis IMAGE"
     ++ 10 ∷ []

@@ -6,7 +6,7 @@ ghost use Rattle.mind_base.specs.declared.notes.Note.{Note};
 ghost use Rattle.mind_inputs.specs.Words.{Paths};
 ghost use Rattle.mind_inputs.specs.Journals.{Checkable};
 ghost use Rattle.mind_top.specs.Words.{Check};
-ghost use Rattle.mind_top.specs.Ending.{KeepsOutside, counts};
+ghost use Rattle.mind_top.specs.Ending.{KeepsOutside, StaysUnlessReadFault, WritesOnce, counts};
 ghost use Rattle.mind_top.specs.Left.{Left};
 ghost use Rattle.mind_top.specs.Parts.{CheckEnds, Answers};
 
@@ -22,6 +22,7 @@ fn finish_check<K: Sink>(alloc: Global, loaded: &Loaded, journal: &Log, sink: &m
     requires fit { IsFit loaded.now.plan }
     requires images { FitImages loaded.now.plan.images loaded.now.images }
     ensures ends { CheckEnds (record { accepted = loaded.now; notes = journal.now.notes }) (K.written sink.old) (K.written sink.new) (K.faults sink.old) (K.faults sink.new) result }
+    ensures once { WritesOnce (K.writes sink.old) (K.writes sink.new) result }
     ensures failed { K.faults sink.old ≤ K.faults sink.new }
 {
     match check(alloc, &loaded.plan, loaded.images.as_slice(), journal) {
@@ -42,6 +43,8 @@ pub fn answer_check<S: Store, K: Sink>(
 ) -> Status
     ensures outside { KeepsOutside (S.holds store.old) (S.holds store.new)
         (counts (S.faults store.old) (S.missed store.old) (K.faults sink.old)) (counts (S.faults store.new) (S.missed store.new) (K.faults sink.new)) }
+    ensures steady { StaysUnlessReadFault (S.faults store.old) (S.faults store.new) (S.missed store.old) (S.missed store.new) result }
+    ensures once { WritesOnce (K.writes sink.old) (K.writes sink.new) result }
     ensures answers { Answers (S.holds store.old) (Check (record { rack = rack.now; schedule = schedule.now }) journal.now) (record { log = []; end = None })
         (counts (S.faults store.old) (S.missed store.old) (K.faults sink.old)) (counts (S.faults store.new) (S.missed store.new) (K.faults sink.new))
         (K.written sink.old) (K.written sink.new) result }

@@ -1,23 +1,25 @@
 //! Laws of the program: functions that do nothing, with the laws as clauses.
 
-ghost use Rattle.std.specs.Prelude.{◌≡◌, ◌↔◌, ◌≤◌, ◌++◌, ℕ, List, Some, Result, Ok};
+ghost use Rattle.std.specs.Prelude.{◌≡◌, ◌↔◌, ◌≤◌, ◌++◌, ℕ, List, [], length, Some, None, Result, Ok};
 ghost use Rattle.std.specs.FinMap.{get};
 ghost use Rattle.mind_base.specs.Fit.{IsFit};
 ghost use Rattle.mind_base.specs.Store.{Files};
 ghost use Rattle.mind_base.specs.declared.plans.RackPlan.{RackPlan as rack_plan};
 ghost use Rattle.rack_gen.specs.Generator.{generated_text};
 ghost use Rattle.mind_base.specs.declared.events.Event.{Event as event};
+ghost use Rattle.journal_text.specs.Journal.{AreJournalNotes};
 ghost use Rattle.report_text.specs.Counts.{counts_line};
 ghost use Rattle.rack_settle.specs.Stretches.{AreSettledEach};
 ghost use Rattle.mind_inputs.specs.Inputs.{Accepted, Ending, rack_seen_judged, seen_of};
 ghost use Rattle.mind_inputs.specs.Journals.{Checkable, JudgesCheck};
 ghost use Rattle.mind_inputs.specs.Words.{Paths};
-ghost use Rattle.mind_top.specs.Words.{Form, Run, Load, IsCheckForm};
-ghost use Rattle.mind_top.specs.declared.words.Output.TheVariants.{Report as report};
+ghost use Rattle.mind_top.specs.Words.{Form, Run, Check, Load, IsCheckForm};
+ghost use Rattle.mind_top.specs.declared.words.Output.TheVariants.{Report as report, Journal as journal_of};
 ghost use Rattle.mind_top.specs.Due.{DoneBy, Due, CallFor, said_of_check};
 ghost use Rattle.mind_top.specs.Headline.{Headline};
 ghost use Rattle.mind_top.specs.Left.{Left};
 ghost use Rattle.mind_top.specs.declared.statuses.Status.{Status as status};
+ghost use Rattle.mind_top.specs.declared.statuses.Status.TheVariants.{Done as done};
 
 /// What the files of a form call for is a function of them: one status, and of a check one text too.
 pub fn the_files_decide()
@@ -33,6 +35,16 @@ pub fn what_is_made_runs_as_it_is_loaded()
         → rack_seen_judged (seen_of (get files rack) 65536) ≡ Ok plan → get files schedule ≡ Some (generated_text plan count seed)
         → (left : Left) (text : List ℕ) → DoneBy (Some files) (Load rack count seed) left text
         ↔ DoneBy (Some files) (Run report (record { rack = rack; schedule = schedule })) left text }
+{}
+
+/// The journal of a run is found to be that of a run: where what `journal` writes is held, and is no longer than is read,
+/// and the numbers in its log are within a journal's bounds, its `check` is called done, leaves nothing, and writes the
+/// report that `run` writes of that run.
+pub fn what_is_journalled_is_checked()
+    ensures { (files : Files) (paths : Paths) (journal : List ℕ) (left : Left) (text : List ℕ)
+        → DoneBy (Some files) (Run journal_of paths) left text → get files journal ≡ Some text → length text ≤ 268435456 → AreJournalNotes left.log
+        → (said : List ℕ) × DoneBy (Some files) (Run report paths) left said
+        × DoneBy (Some files) (Check paths journal) (record { log = []; end = None }) said × CallFor files (Check paths journal) done }
 {}
 
 /// Where each event of a schedule is followed by a settling, the accepted files decide the report but for its line of

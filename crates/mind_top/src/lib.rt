@@ -2,6 +2,7 @@
 #![tactic(auto)]
 
 mod checks;
+mod instructions;
 mod laws;
 mod makes;
 mod runs;
@@ -11,7 +12,8 @@ mod top;
 mod words;
 
 pub use laws::{
-    settled_schedules_have_one_outcome, the_files_decide, what_is_made_runs_as_it_is_loaded,
+    settled_schedules_have_one_outcome, the_files_decide, what_is_journalled_is_checked,
+    what_is_made_runs_as_it_is_loaded,
 };
 pub use statuses::Status;
 pub use top::mind;

@@ -5,7 +5,7 @@ ghost use Rattle.mind_base.specs.Fit.{IsFit};
 ghost use Rattle.mind_base.specs.declared.notes.Note.{Note};
 ghost use Rattle.rack_gen.specs.Generator.{generated_text};
 ghost use Rattle.mind_top.specs.Words.{Make};
-ghost use Rattle.mind_top.specs.Ending.{KeepsOutside, counts};
+ghost use Rattle.mind_top.specs.Ending.{KeepsOutside, StaysUnlessReadFault, WritesOnce, counts};
 ghost use Rattle.mind_top.specs.Left.{Left};
 ghost use Rattle.mind_top.specs.Parts.{SaysLine, Answers};
 
@@ -27,6 +27,7 @@ fn say_schedule<K: Sink>(
     requires fit { IsFit plan.now }
     requires few { count ≤ 200000 }
     ensures says { SaysLine (K.written sink.old) (K.written sink.new) (K.faults sink.old) (K.faults sink.new) (generated_text plan.now count seed) Status.Done result }
+    ensures once { WritesOnce (K.writes sink.old) (K.writes sink.new) result }
     ensures failed { K.faults sink.old ≤ K.faults sink.new }
 {
     match make(alloc, plan, count, seed) {
@@ -47,6 +48,8 @@ pub fn answer_make<S: Store, K: Sink>(
     requires few { count ≤ 200000 }
     ensures outside { KeepsOutside (S.holds store.old) (S.holds store.new)
         (counts (S.faults store.old) (S.missed store.old) (K.faults sink.old)) (counts (S.faults store.new) (S.missed store.new) (K.faults sink.new)) }
+    ensures steady { StaysUnlessReadFault (S.faults store.old) (S.faults store.new) (S.missed store.old) (S.missed store.new) result }
+    ensures once { WritesOnce (K.writes sink.old) (K.writes sink.new) result }
     ensures answers { Answers (S.holds store.old) (Make rack.now count seed) (record { log = []; end = None })
         (counts (S.faults store.old) (S.missed store.old) (K.faults sink.old)) (counts (S.faults store.new) (S.missed store.new) (K.faults sink.new))
         (K.written sink.old) (K.written sink.new) result }

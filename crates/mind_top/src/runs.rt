@@ -4,6 +4,7 @@ ghost use Rattle.std.specs.Prelude.{◌≡◌, ◌≤◌, [], length, IfOk};
 ghost use Rattle.mind_base.specs.Fit.{IsFit, FitImages};
 ghost use Rattle.mind_inputs.specs.Inputs.{IsRunnable};
 ghost use Rattle.mind_steps.specs.Run.{events, below, IsWholeRun};
+ghost use Rattle.mind_top.specs.Ending.{WritesOnce};
 ghost use Rattle.mind_top.specs.Headline.{setup_by, IsTextOf};
 ghost use Rattle.mind_top.specs.Left.{Left};
 ghost use Rattle.mind_top.specs.Parts.{RunEnds, LoadedEnds};
@@ -47,6 +48,7 @@ fn finish<K: Sink>(
     requires ran { RanThrough loaded.now log.now.notes rack }
     requires events { events log.now.notes ≡ below (length loaded.now.events) }
     ensures ends { RunEnds output loaded.now (record { log = log.now.notes; end = result.1 }) (K.written sink.old) (K.written sink.new) (K.faults sink.old) (K.faults sink.new) result.0 }
+    ensures once { WritesOnce (K.writes sink.old) (K.writes sink.new) result.0 }
     ensures failed { K.faults sink.old ≤ K.faults sink.new }
 {
     match text_of(alloc, output, loaded, log) {
@@ -66,6 +68,7 @@ pub fn run<K: Sink>(
     requires runnable { IsRunnable loaded.now }
     requires empty { log.old.notes ≡ [] }
     ensures ends { RunEnds output loaded.now (record { log = log.new.notes; end = result.1 }) (K.written sink.old) (K.written sink.new) (K.faults sink.old) (K.faults sink.new) result.0 }
+    ensures once { WritesOnce (K.writes sink.old) (K.writes sink.new) result.0 }
     ensures failed { K.faults sink.old ≤ K.faults sink.new }
 {
     let mut rack = match Rack::start(alloc, &loaded.plan) {
@@ -91,6 +94,7 @@ pub fn run_loaded<K: Sink>(
     requires runnable { IfOk loaded (λ inputs. IsRunnable inputs) }
     requires empty { log.old.notes ≡ [] }
     ensures ends { LoadedEnds output (record { log = log.new.notes; end = result.1 }) (K.written sink.old) (K.written sink.new) (K.faults sink.old) (K.faults sink.new) result.0 loaded }
+    ensures once { WritesOnce (K.writes sink.old) (K.writes sink.new) result.0 }
     ensures failed { K.faults sink.old ≤ K.faults sink.new }
 {
     match &loaded {

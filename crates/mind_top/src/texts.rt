@@ -2,7 +2,8 @@
 
 ghost use Rattle.std.specs.Prelude.{◌≡◌, ◌≤◌, IfOk};
 ghost use Rattle.mind_inputs.specs.Refusal.{line_of};
-ghost use Rattle.mind_top.specs.Due.{not_a_run_line};
+ghost use Rattle.mind_top.specs.Due.{not_a_run_line, IsSaid};
+ghost use Rattle.mind_top.specs.Ending.{WritesOnce};
 ghost use Rattle.mind_top.specs.Parts.{SaysText, SaysLine, Stops};
 
 use crate::Status;
@@ -13,6 +14,7 @@ use std::alloc::Global;
 /// Writes a text, and answers the status that is due, or that the write failed.
 pub fn say<K: Sink>(sink: &mut K, text: &[u8], due: Status) -> Status
     ensures says { SaysText (K.written sink.old) (K.written sink.new) (K.faults sink.old) (K.faults sink.new) text.now due result }
+    ensures once { IsSaid due → WritesOnce (K.writes sink.old) (K.writes sink.new) result }
     ensures failed { K.faults sink.old ≤ K.faults sink.new }
 {
     match sink.write_all(text) {
@@ -24,6 +26,7 @@ pub fn say<K: Sink>(sink: &mut K, text: &[u8], due: Status) -> Status
 /// Writes why an input is refused.
 fn refuse<K: Sink>(alloc: Global, refusal: &Refusal, sink: &mut K) -> Status
     ensures says { SaysLine (K.written sink.old) (K.written sink.new) (K.faults sink.old) (K.faults sink.new) (line_of refusal.now) Status.Malformed result }
+    ensures once { WritesOnce (K.writes sink.old) (K.writes sink.new) result }
     ensures failed { K.faults sink.old ≤ K.faults sink.new }
 {
     match refusal.line(alloc) {
@@ -35,6 +38,7 @@ fn refuse<K: Sink>(alloc: Global, refusal: &Refusal, sink: &mut K) -> Status
 /// Ends a call whose inputs were not brought.
 pub fn stop<K: Sink>(alloc: Global, stopped: &Stopped, sink: &mut K) -> Status
     ensures stops { Stops (K.written sink.old) (K.written sink.new) (K.faults sink.old) (K.faults sink.new) stopped.now result }
+    ensures once { WritesOnce (K.writes sink.old) (K.writes sink.new) result }
     ensures failed { K.faults sink.old ≤ K.faults sink.new }
 {
     match stopped {
@@ -58,6 +62,7 @@ fn stuck_line(alloc: Global, label: usize) -> Result<Vec<u8>, NoMemory>
 /// Writes at which label, counted from 0, a journal is no run.
 pub fn say_stuck<K: Sink>(alloc: Global, label: usize, sink: &mut K) -> Status
     ensures says { SaysLine (K.written sink.old) (K.written sink.new) (K.faults sink.old) (K.faults sink.new) (not_a_run_line label) Status.NotARun result }
+    ensures once { WritesOnce (K.writes sink.old) (K.writes sink.new) result }
     ensures failed { K.faults sink.old ≤ K.faults sink.new }
 {
     match stuck_line(alloc, label) {

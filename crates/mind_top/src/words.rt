@@ -40,6 +40,12 @@ pub enum Asked<'a> {
         rack: &'a str,
         drawn: Drawn,
     },
+    Asm {
+        text: &'a str,
+    },
+    Dis {
+        image: &'a str,
+    },
 }
 
 fn is_word(word: &str, name: &str) -> bool
@@ -76,6 +82,20 @@ fn drawn_in(count: &str, seed: &str) -> Option<Drawn>
         None => return None,
     };
     Some(Drawn { count, seed })
+}
+
+/// What two words ask for, where they are of a form.
+fn asked_by_two<'a>(word: &str, name: &'a str) -> Option<Asked<'a>>
+    ensures asked { IsAskedIn (word.now ∷ name.now ∷ []) result }
+    ensures few { IfSome result (λ asked. IsFew asked) }
+{
+    if is_word(word, "asm") {
+        Some(Asked::Asm { text: name })
+    } else if is_word(word, "dis") {
+        Some(Asked::Dis { image: name })
+    } else {
+        None
+    }
 }
 
 /// What four words ask for, where they are of a form.
@@ -115,6 +135,7 @@ pub fn asked_of(words: &[String]) -> Option<Asked>
     ensures few { IfSome result (λ asked. IsFew asked) }
 {
     match words {
+        [word, name] => asked_by_two(word.as_str(), name.as_str()),
         [word, rack, schedule] => if is_word(word.as_str(), "run") {
             Some(Asked::Run {
                 output: Output::Report,
@@ -140,7 +161,6 @@ pub fn asked_of(words: &[String]) -> Option<Asked>
         }
         [] => None,
         [_] => None,
-        [_, _] => None,
         [_, _, _, _, _, ..] => None,
     }
 }

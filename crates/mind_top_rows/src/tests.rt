@@ -5,6 +5,7 @@ mod checks;
 mod ends;
 mod faults;
 mod forms;
+mod instructions;
 mod journals;
 mod made;
 mod orders;

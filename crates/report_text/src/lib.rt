@@ -5,9 +5,11 @@ mod commands;
 mod counts;
 mod force;
 mod kinds;
+mod laws;
 mod moves;
 mod reports;
 mod texts;
 mod threads;
 
+pub use laws::what_is_counted_is_in_force;
 pub use reports::report;

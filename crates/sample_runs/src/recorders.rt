@@ -1,5 +1,5 @@
 //! A store and a sink in memory that record what they are asked for.
-ghost use Rattle.std.specs.Prelude.{Some};
+ghost use Rattle.std.specs.Prelude.{Some, None};
 ghost use Rattle.mind_base.specs.Store.{file_map};
 
 use crate::Files;
@@ -28,6 +28,8 @@ impl Store for AskedStore {
     ghost faults = { λ s. s.files.faults };
 
     ghost missed = { λ s. s.files.missed };
+
+    ghost asked = { λ _. None };
 
     fn read_all(&mut self, alloc: Global, name: &str, limit: u64) -> Result<Vec<u8>, ReadError> {
         let line = match format!(in alloc; "{name} {limit}\n") {
@@ -65,6 +67,8 @@ impl Sink for PieceSink {
     ghost written = { λ s. Some s.bytes.bytes };
 
     ghost faults = { λ s. s.bytes.faults };
+
+    ghost writes = { λ s. s.bytes.writes };
 
     fn write_all(&mut self, bytes: &[u8]) -> Result<(), WriteError> {
         self.pieces = self.pieces.saturating_add(1);

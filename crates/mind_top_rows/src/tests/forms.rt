@@ -8,7 +8,7 @@ struct NoForm {
     words: &'static [&'static str],
 }
 
-static NO_FORMS: [NoForm; 15] = [
+static NO_FORMS: [NoForm; 19] = [
     NoForm { words: &[] },
     NoForm { words: &["run"] },
     NoForm {
@@ -50,10 +50,20 @@ static NO_FORMS: [NoForm; 15] = [
     NoForm {
         words: &["load", "r.toml", "3", "0", "0"],
     },
+    NoForm { words: &["asm"] },
+    NoForm {
+        words: &["asm", "s.txt", "a.bin"],
+    },
+    NoForm {
+        words: &["assemble", "s.txt"],
+    },
+    NoForm {
+        words: &["dis", "a.bin", "s.txt"],
+    },
 ];
 
 const USAGE: &str =
-    "usage: mind run RACK SCHEDULE | journal RACK SCHEDULE | check RACK SCHEDULE JOURNAL | make RACK COUNT SEED | load RACK COUNT SEED\n";
+    "usage: mind run RACK SCHEDULE | journal RACK SCHEDULE | check RACK SCHEDULE JOURNAL | make RACK COUNT SEED | load RACK COUNT SEED | asm TEXT | dis IMAGE\n";
 
 #[test]
 fn words_of_no_form(rt: HostRuntime) -> Result<(), Fail> {

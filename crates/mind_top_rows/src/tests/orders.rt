@@ -174,7 +174,7 @@ static ROWS: [Row; 13] = [
         schedule: "",
         journal: "",
         asked: "",
-        text: "usage: mind run RACK SCHEDULE | journal RACK SCHEDULE | check RACK SCHEDULE JOURNAL | make RACK COUNT SEED | load RACK COUNT SEED\n",
+        text: "usage: mind run RACK SCHEDULE | journal RACK SCHEDULE | check RACK SCHEDULE JOURNAL | make RACK COUNT SEED | load RACK COUNT SEED | asm TEXT | dis IMAGE\n",
         pieces: 1,
     },
 ];

@@ -1,5 +1,6 @@
 //! Eight threads at a spin lock, each of which adds 25 to a counter, as under `examples/spin`.
 use sample_runs::{RUN, row_files, written};
+use std::alloc::Global;
 use std::test::Fail;
 
 /// Eight threads on four blades.
@@ -20,5 +21,23 @@ fn eight_threads_count_to_two_hundred(rt: HostRuntime) -> Result<(), Fail> {
     let files = row_files(alloc, SPIN, &[PROGRAM], schedule, b"")?;
     let report = written(alloc, &RUN, files)?;
     assert!(rt; report.as_slice() == REPORT.as_bytes());
+    Ok(())
+}
+
+/// What 200,000 drawn lines and a settling write on the rack.
+fn long_load(alloc: Global) -> Result<Vec<u8>, Fail> {
+    let files = row_files(alloc, SPIN, &[PROGRAM], b"", b"")?;
+    written(alloc, &["load", "r.toml", "200000", "1"], files)
+}
+
+#[test]
+fn a_long_load_is_done_and_writes_the_same_again(rt: HostRuntime) -> Result<(), Fail> {
+    let alloc = rt.alloc();
+    let report = long_load(alloc)?;
+    let text = String::from_utf8_lossy(alloc, report.as_slice())?;
+    let counts = text.as_str().lines().last().ok_or("no line")?;
+    assert!(rt; counts.starts_with("counts events 200001 "), "{counts}");
+    let again = long_load(alloc)?;
+    assert!(rt; again.as_slice() == report.as_slice());
     Ok(())
 }

@@ -11,10 +11,10 @@ pub returns-in-Err-load_journal-clause-brings : goal.returns-in-Err-load_journal
 returns-in-Err-load_journal-clause-brings g c =
     let p : Paths = record { rack = c.args.rack.now; schedule = c.args.schedule.now } in
     journal-stops (g.S.Store.holds c.args.store.now) (g.S.Store.holds c.load.new.store) p c.args.journal.now c.in-Ok.loaded _ _ _ _ _ _ c.in-Err-load_journal.stopped
-    c.in-Ok.ensures.keeps c.in-Ok.ensures.faults c.in-Ok.ensures.missed c.in-Ok.ensures.loads c.in-Err-load_journal.ensures.brings
+    c.in-Ok.ensures.keeps c.in-Ok.ensures.loads c.in-Err-load_journal.ensures.brings
 
 pub returns-clause-brings : goal.returns-clause-brings
 returns-clause-brings g c =
     let p : Paths = record { rack = c.args.rack.now; schedule = c.args.schedule.now } in
-    all-read (g.S.Store.holds c.args.store.now) (g.S.Store.holds c.load.new.store) p c.args.journal.now c.in-Ok.loaded c.in-Ok-load_journal.log.notes
+    all-read (g.S.Store.holds c.args.store.now) (g.S.Store.holds c.load.new.store) p c.args.journal.now c.in-Ok.loaded c.in-Ok-load_journal.log.notes _ _ _ _ _ _
     c.in-Ok.ensures.keeps c.in-Ok.ensures.loads c.in-Ok-load_journal.ensures.brings

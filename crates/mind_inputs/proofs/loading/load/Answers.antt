@@ -14,10 +14,10 @@ returns-in_err-events-clause-loads g c =
     let p : Paths = record { rack = c.args.rack.now; schedule = c.args.schedule.now } in
     let from = err_from_is_err_and c.from_residual-in_err-events.result c.from_residual-in_err-events.ensures.1 in
     rw (from.1, from.2) (schedule-stops (g.S.Store.holds c.args.store.now) (g.S.Store.holds c.load_parts.new.store) p c.in_ok-parts.parts _ _ _ _ _ _ c.in_err-events.field-0.0
-    c.in_ok-parts.ensures.keeps c.in_ok-parts.ensures.faults c.in_ok-parts.ensures.missed c.in_ok-parts.ensures.brings c.in_err-events.ensures.brings)
+    c.in_ok-parts.ensures.keeps c.in_ok-parts.ensures.brings c.in_err-events.ensures.brings)
 
 pub returns-clause-loads : goal.returns-clause-loads
 returns-clause-loads g c =
     let p : Paths = record { rack = c.args.rack.now; schedule = c.args.schedule.now } in
-    all-loaded (g.S.Store.holds c.args.store.now) (g.S.Store.holds c.load_parts.new.store) p c.in_ok-parts.parts c.in_ok-events.events c.loaded_of.result
+    all-loaded (g.S.Store.holds c.args.store.now) (g.S.Store.holds c.load_parts.new.store) p c.in_ok-parts.parts c.in_ok-events.events _ _ _ _ _ _ c.loaded_of.result
     c.in_ok-parts.ensures.keeps c.in_ok-parts.ensures.brings c.in_ok-events.ensures.brings c.loaded_of.ensures

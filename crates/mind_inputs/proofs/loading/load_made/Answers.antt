@@ -9,5 +9,5 @@ returns-in_err-parts-clause-loads g c =
 
 pub returns-clause-loads : goal.returns-clause-loads
 returns-clause-loads g c =
-    all-made (g.S.Store.holds c.args.store.now) c.args.rack.now c.args.count c.args.seed c.in_ok-parts.parts c.in_ok-events.events c.loaded_of.result
+    all-made (g.S.Store.holds c.args.store.now) c.args.rack.now c.args.count c.args.seed c.in_ok-parts.parts c.in_ok-events.events _ _ _ _ c.loaded_of.result
     c.in_ok-parts.ensures.brings c.in_ok-events.ensures.made c.loaded_of.ensures

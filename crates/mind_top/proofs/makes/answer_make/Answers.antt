@@ -1,14 +1,21 @@
 use Rattle.std.proofs.Common.{refl}
 use Rattle.mind_top.specs.Words.{Make}
+use Rattle.mind_top.proofs.Outside.{stays-any, stopped-stays}
 use Rattle.mind_top.proofs.Ends.{nothing, stopped-call, make-ended}
 use Rattle.mind_top.proofs.makes.answer_make.Goals as goal
 
 pub returns-in-Ok-clause-answers : goal.returns-in-Ok-clause-answers
 returns-in-Ok-clause-answers g c words is =
     make-ended (g.S.Store.holds c.args.store.now) words c.args.rack.now c.args.count c.args.seed c.in-Ok.plan _ _ _ _ c.say_schedule.result is
-    c.in-Ok.ensures.brings c.say_schedule.ensures.says
+    c.in-Ok.ensures.brings.0 c.say_schedule.ensures.says
 
 pub returns-in-Err-clause-answers : goal.returns-in-Err-clause-answers
 returns-in-Err-clause-answers g c words is =
     stopped-call (g.S.Store.holds c.args.store.now) words (Make c.args.rack.now c.args.count c.args.seed) nothing _ _ _ _ c.in-Err.stopped c.stop.result (refl, refl) is
     c.in-Err.ensures.brings c.stop.ensures.stops
+
+pub returns-in-Ok-clause-steady : goal.returns-in-Ok-clause-steady
+returns-in-Ok-clause-steady g c = stays-any _ _ _ _ c.in-Ok.ensures.brings.1 c.say_schedule.result
+
+pub returns-in-Err-clause-steady : goal.returns-in-Err-clause-steady
+returns-in-Err-clause-steady g c = stopped-stays (g.S.Store.holds c.args.store.now) (Make c.args.rack.now c.args.count c.args.seed) _ _ _ _ _ _ _ _ c.in-Err.stopped c.stop.result c.in-Err.ensures.brings c.stop.ensures.stops

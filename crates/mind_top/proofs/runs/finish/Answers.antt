@@ -1,6 +1,6 @@
-use Rattle.std.proofs.Common.{refl, inl, Some}
+use Rattle.std.proofs.Common.{refl, inl, inr, Some}
 use Rattle.mind_top.proofs.Ends.{run-said}
-use Rattle.mind_top.proofs.Headlines.{run-writes, through-stands}
+use Rattle.mind_top.proofs.Headlines.{run-writes}
 use Rattle.mind_top.proofs.runs.finish.Goals as goal
 
 pub returns-in-Ok-clause-ends : goal.returns-in-Ok-clause-ends
@@ -10,4 +10,4 @@ returns-in-Ok-clause-ends g c =
     c.as_slice.ensures.value c.say.ensures.says
 
 pub returns-in-Err-clause-ends : goal.returns-in-Err-clause-ends
-returns-in-Err-clause-ends g c = inl (refl, refl, refl, through-stands c.args.loaded.now c.args.log.now.notes c.args.rack c.requires.ran)
+returns-in-Err-clause-ends g c = inl (refl, refl, refl, inr (inl (c.args.rack, c.requires.ran)))

@@ -1,14 +1,12 @@
 use Rattle.std.proofs.Common.{◌∙◌, ap, refl, subst, inl, inr, Some, Err}
 use Rattle.mind_inputs.specs.Inputs.{Accepted}
-use Rattle.mind_steps.proofs.Callers.{stands-empty}
 use Rattle.rack_core.specs.Start.{IsStart}
-use Rattle.mind_top.specs.Headline.{setup_by}
-use Rattle.mind_top.proofs.Headlines.{all-events, is-stopped, ran-through, stands-for}
-use Rattle.mind_top.proofs.Rans.{events-fit, fit-by, stopped-stands}
+use Rattle.mind_top.proofs.Headlines.{all-events, ran-through, stops-in}
+use Rattle.mind_top.proofs.Rans.{events-fit, fit-by}
 use Rattle.mind_top.proofs.runs.run.Goals as goal
 
 pub returns-in-Err-clause-ends : goal.returns-in-Err-clause-ends
-returns-in-Err-clause-ends g c = inl (refl, refl, refl, stands-empty (setup_by c.args.loaded.now) c.args.log.now.notes c.requires.empty)
+returns-in-Err-clause-ends g c = inl (refl, refl, refl, inl c.requires.empty)
 
 pub run_all-requires-clause-fit : goal.run_all-requires-clause-fit
 run_all-requires-clause-fit g c = fit-by c.args.loaded.now.plan c.in-Ok.rack.plan c.args.loaded.now.events c.as_slice.result.now
@@ -30,19 +28,22 @@ returns-in-Err-NoMemory-clause-ends g c = inl (
   refl,
   refl,
   refl,
-  stands-for c.args.loaded.now c.in-Ok.rack.plan c.as_slice-images.result.now c.run_all.new.log.notes
-      (c.in-Ok.ensures.start.of_plan ∙ ap (λ (a : Accepted). a.plan) c.loaded.view_is)
-      (c.as_slice-images.ensures ∙ ap (λ (a : Accepted). a.images) c.loaded.view_is)
-      (stopped-stands c.as_slice-images.result.now c.as_slice.result.now c.in-Ok.rack c.run_all.new.log.notes c.in-Err-NoMemory.ensures.err),
+  inr (inr (
+      stops-in c.args.loaded.now c.as_slice-images.result.now c.as_slice.result.now c.in-Ok.rack c.run_all.new.log.notes
+      (c.as_slice-images.ensures ∙ ap (λ (a : Accepted). a.images) c.loaded.view_is) (c.as_slice.ensures ∙ ap (λ (a : Accepted). a.events) c.loaded.view_is)
+      (subst (λ p. IsStart p c.in-Ok.rack) (ap (λ (a : Accepted). a.plan) c.loaded.view_is) c.in-Ok.ensures.start) c.in-Err-NoMemory.ensures.err)),
 )
 
 pub returns-in-Err-Spent-clause-ends : goal.returns-in-Err-Spent-clause-ends
 returns-in-Err-Spent-clause-ends g c = inr (inl (
   refl,
   refl,
-  is-stopped c.args.loaded.now c.in-Ok.rack.plan c.as_slice-images.result.now c.run_all.new.log.notes (Some c.run_all.new.rack) c.run_all.new.rack
-      (c.in-Ok.ensures.start.of_plan ∙ ap (λ (a : Accepted). a.plan) c.loaded.view_is)
-      (c.as_slice-images.ensures ∙ ap (λ (a : Accepted). a.images) c.loaded.view_is)
-      (stopped-stands c.as_slice-images.result.now c.as_slice.result.now c.in-Ok.rack c.run_all.new.log.notes c.in-Err-Spent.ensures.err) refl
-      (c.in-Err-Spent.ensures.spent (ap (λ s. Err s) c.in-Err-Spent.field-0-is)),
+  record {
+    stops = stops-in c.args.loaded.now c.as_slice-images.result.now c.as_slice.result.now c.in-Ok.rack c.run_all.new.log.notes
+        (c.as_slice-images.ensures ∙ ap (λ (a : Accepted). a.images) c.loaded.view_is) (c.as_slice.ensures ∙ ap (λ (a : Accepted). a.events) c.loaded.view_is)
+        (subst (λ p. IsStart p c.in-Ok.rack) (ap (λ (a : Accepted). a.plan) c.loaded.view_is) c.in-Ok.ensures.start) c.in-Err-Spent.ensures.err;
+    rack = c.run_all.new.rack;
+    end = refl;
+    spent = c.in-Err-Spent.ensures.spent (ap (λ s. Err s) c.in-Err-Spent.field-0-is);
+  },
 ))

@@ -1,5 +1,5 @@
 use Rattle.mind_top.specs.declared.words.Output.TheVariants.{Report, Journal}
-use Rattle.mind_top.proofs.Clauses.{run-done, check-done, make-done, load-done, check-leaves, make-leaves, run-stops, usage-answered, told-where-held}
+use Rattle.mind_top.proofs.Clauses.{run-done, check-done, make-done, load-done, asm-done, dis-done, form-leaves, run-stops, usage-answered, told-where-held}
 use Rattle.mind_top.proofs.top.mind.Goals as goal
 
 pub returns-clause-headline : goal.returns-clause-headline
@@ -17,8 +17,8 @@ returns-clause-usage_due g c = usage-answered (g.S.Store.holds c.args.store.now)
 pub returns-clause-told : goal.returns-clause-told
 returns-clause-told g c = told-where-held (g.S.Store.holds c.args.store.now) _ (record { log = c.top-status.new.log.notes; end = c.top-status.result.1 }) _ _ _ _ c.top-status.result.0 c.top-status.ensures.ends
 
-pub returns-clause-check_leaves : goal.returns-clause-check_leaves
-returns-clause-check_leaves g c = check-leaves (g.S.Store.holds c.args.store.now) _ (record { log = c.top-status.new.log.notes; end = c.top-status.result.1 }) _ _ _ _ c.top-status.result.0 c.top-status.ensures.ends
+pub returns-clause-leaves : goal.returns-clause-leaves
+returns-clause-leaves g c = form-leaves (g.S.Store.holds c.args.store.now) _ (record { log = c.top-status.new.log.notes; end = c.top-status.result.1 }) _ _ _ _ c.top-status.result.0 c.top-status.ensures.ends
 
 pub returns-clause-spent : goal.returns-clause-spent
 returns-clause-spent g c = run-stops (g.S.Store.holds c.args.store.now) _ (record { log = c.top-status.new.log.notes; end = c.top-status.result.1 }) _ _ _ _ c.top-status.result.0 c.top-status.ensures.ends
@@ -29,5 +29,8 @@ returns-clause-make g c = make-done (g.S.Store.holds c.args.store.now) _ (record
 pub returns-clause-load : goal.returns-clause-load
 returns-clause-load g c = load-done (g.S.Store.holds c.args.store.now) _ (record { log = c.top-status.new.log.notes; end = c.top-status.result.1 }) _ _ _ _ c.top-status.result.0 c.top-status.ensures.ends
 
-pub returns-clause-make_leaves : goal.returns-clause-make_leaves
-returns-clause-make_leaves g c = make-leaves (g.S.Store.holds c.args.store.now) _ (record { log = c.top-status.new.log.notes; end = c.top-status.result.1 }) _ _ _ _ c.top-status.result.0 c.top-status.ensures.ends
+pub returns-clause-asm : goal.returns-clause-asm
+returns-clause-asm g c = asm-done (g.S.Store.holds c.args.store.now) _ (record { log = c.top-status.new.log.notes; end = c.top-status.result.1 }) _ _ _ _ c.top-status.result.0 c.top-status.ensures.ends
+
+pub returns-clause-dis : goal.returns-clause-dis
+returns-clause-dis g c = dis-done (g.S.Store.holds c.args.store.now) _ (record { log = c.top-status.new.log.notes; end = c.top-status.result.1 }) _ _ _ _ c.top-status.result.0 c.top-status.ensures.ends

@@ -1,15 +1,18 @@
 use Rattle.std.proofs.Common.{arith}
-use Rattle.mind_top.proofs.Forms.{wrong-length, asked-of-four}
+use Rattle.mind_top.proofs.Forms.{wrong-length, asked-of-two, asked-of-four}
 use Rattle.mind_top.proofs.words.asked_of.Goals as goal
 
 pub returns-in-len1-clause-asked : goal.returns-in-len1-clause-asked
-returns-in-len1-clause-asked c = wrong-length c.args.words.now (λ e. omega (arith, e, c.in-len1.len_below)) (λ e. omega (arith, e, c.in-len1.len_below))
+returns-in-len1-clause-asked c = wrong-length c.args.words.now (λ e. omega (arith, e, c.in-len1.len_below)) (λ e. omega (arith, e, c.in-len1.len_below)) (λ e. omega (arith, e, c.in-len1.len_below))
 
 pub returns-in-len2-clause-asked : goal.returns-in-len2-clause-asked
-returns-in-len2-clause-asked c = wrong-length c.args.words.now (λ e. omega (arith, e, c.in-len2.len_below)) (λ e. omega (arith, e, c.in-len2.len_below))
+returns-in-len2-clause-asked c =
+    asked-of-two c.args.words.now c.word-item.result c.name-item.result c.as_str.result.now c.as_str-in-len2.result.now c.asked_by_two.result
+    c.in-len2.len_at_least c.in-len2.len_below c.word-item.is c.name-item.is
+    c.as_str.ensures.value c.as_str-in-len2.ensures.value c.asked_by_two.ensures.asked
 
 pub returns-in-len5-up-clause-asked : goal.returns-in-len5-up-clause-asked
-returns-in-len5-up-clause-asked c = wrong-length c.args.words.now (λ e. omega (arith, e, c.in-len5-up.len_at_least)) (λ e. omega (arith, e, c.in-len5-up.len_at_least))
+returns-in-len5-up-clause-asked c = wrong-length c.args.words.now (λ e. omega (arith, e, c.in-len5-up.len_at_least)) (λ e. omega (arith, e, c.in-len5-up.len_at_least)) (λ e. omega (arith, e, c.in-len5-up.len_at_least))
 
 pub returns-in-len4-clause-asked : goal.returns-in-len4-clause-asked
 returns-in-len4-clause-asked c =
