@@ -8,7 +8,7 @@ use Rattle.std.proofs.Math.ListN.{length-set}
 use Rattle.std.proofs.Math.Seq.{take-add, take-append_seam, drop-append_seam}
 use Rattle.std.proofs.lemmas.Nat.{from_be_bytes-to_be_bytes_8}
 use Rattle.std.proofs.lemmas.Grind.{get_or_default_zero}
-use Rattle.mind_base.proofs.StoredBytes as stored
+use Rattle.mind_base.proofs.Callers as stored
 use Rattle.page_image.specs.PageImage.{PageImageView, IsPageImage, IsInside, number_at, image_after, zero_image, spelling_of}
 
 -- an access ends inside the page
