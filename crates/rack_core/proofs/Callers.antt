@@ -25,7 +25,6 @@ pub use Rattle.rack_core.proofs.Moves.Blade.Handed.{blade_handed, did, handed_ma
 pub use Rattle.rack_core.proofs.Moves.Blade.Resuming.{resumes-as}
 pub use Rattle.rack_core.proofs.Moves.Blade.Sound.{of_found}
 pub use Rattle.rack_core.proofs.Moves.Blade.Steps.{OfHart, for_hart-some}
-pub use Rattle.rack_core.proofs.Moves.Switch.Serving.{IsHeard, IsIdle, IsKept, IsWaiting, handled-heard, receives-kept}
 pub use Rattle.rack_core.proofs.Moves.Switch.Sets.{one-here, one-other, with-here}
 pub use Rattle.rack_core.proofs.Waits.GoOn.{carried, resumes}
 pub use Rattle.rack_core.proofs.Waits.Messages.{message_keeps, out_for}

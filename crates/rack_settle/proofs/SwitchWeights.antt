@@ -17,13 +17,13 @@ use Rattle.region_directory.specs.declared.entries.Entry.{Entry}
 use Rattle.request_list.specs.Requests.{is_of, fetching_at}
 use Rattle.request_list.specs.declared.requests.Request.{Request}
 use Rattle.wire_msg.specs.declared.msgs.Msg.{Msg}
-use Rattle.wire_msg.specs.declared.msgs.Msg.TheVariants.{Get, Back, Inv, Lower, Ack, Image}
+use Rattle.wire_msg.specs.declared.msgs.Msg.TheVariants.{Get, Back, Inv, Ack, Image}
+use Rattle.switch_core.specs.Deeds.{Purpose, MakesRoom, LetsWrite, LetsRead, SwitchDeed, DeniesRequest, GrantsRequest, BeginsTransition, EntersBlock, DropsEntry, HasPurpose, IsIdle, IsWaiting, MayDo, after_deed, calls_for, target_for, transition_for}
 use Rattle.switch_core.specs.Handling.{answered, request_noted, ended, filling, handled_from, went_back, writing, Receives}
 use Rattle.switch_core.specs.Standing.{waiting_in}
 use Rattle.switch_core.specs.Switch.{SwitchView, SwitchEffect, and_then, only, place_in, to_blade}
-use Rattle.switch_core.specs.Treating.{granted_state, holders, denied_request, reading, granted, with_transition, cleared, left_to, invalidated, lowered, invalidations, entered, dropped, without_request}
-use Rattle.switch_core.proofs.Callers.{answered-is, waiting-fetching, waiting-filter, waiting-without}
-use Rattle.rack_core.proofs.Callers.{IsIdle, IsWaiting, IsKept, IsHeard, handled-heard, receives-kept}
+use Rattle.switch_core.specs.Treating.{granted_state, holders, denied_request, reading, granted, with_transition, left_to, invalidations, new_range, entered, dropped, without_request}
+use Rattle.switch_core.proofs.Callers.{IsHeard, IsKeptByDeeds, answered-is, handled-heard, receives-kept, waiting-fetching, waiting-filter, waiting-without}
 use Rattle.rack_settle.specs.Weight.{weight_of, sent_weight, request_weight, state_weight, entry_weight, switch_weight}
 use Rattle.rack_settle.proofs.BladeCounts.{size, none-size, one-size, less-size, with-size, without-size}
 use Rattle.rack_settle.proofs.ListSums.{sum-first, sum-joined, sum-inserted, sum-removed, sum-mapped, sum-changed, sum-first_changed}
@@ -189,24 +189,14 @@ begins switch i busy messages entry free le =
 asked-weight : (target number : ℕ) (range : RangeView) (page : Option PageView) (blades most : ℕ) → target + 2 * size blades ≤ most → target + sent_weight (invalidations number range page blades) ≤ most
 asked-weight target number range page blades most le = subst (λ n. target + n ≤ most) (sym (invalidations-weight number range page blades)) le
 
-clears : (i : ℕ) (entry : Entry) (switch : SwitchView) → IsIdle i entry switch → AddsNothing switch (cleared i entry switch)
-clears i entry switch free =
-    begins switch i (record { number = switch.last + 1; waiting = holders entry.state; target = I; for_room = true })
-    (invalidations (switch.last + 1) entry.range None (holders entry.state)) entry free
-    (asked-weight 0 (switch.last + 1) entry.range None (holders entry.state) (state_weight entry.state) (held-weight entry.state))
-
-invalidates : (r : Request) (i : ℕ) (entry : Entry) (switch : SwitchView) → IsIdle i entry switch → AddsNothing switch (invalidated r i entry switch)
-invalidates r i entry switch free =
-    let number : ℕ = switch.last + 1 in
-    let blades : ℕ = without_blade (holders entry.state) r.blade in
-    begins switch i (record { number = number; waiting = blades; target = left_to r.blade entry.state; for_room = false }) (invalidations number entry.range (Some r.page) blades) entry free
-    (asked-weight (state_weight (left_to r.blade entry.state)) number entry.range (Some r.page) blades (state_weight entry.state) (left-weight r.blade entry.state))
-
-lowers : (r : Request) (owner i : ℕ) (entry : Entry) (switch : SwitchView) → IsIdle i entry switch → entry.state ≡ M owner → AddsNothing switch (lowered r owner i entry switch)
-lowers r owner i entry switch free is =
-    let number : ℕ = switch.last + 1 in
-    begins switch i (record { number = number; waiting = 2 ^ owner; target = S (2 ^ owner); for_room = false }) (to_blade owner (Lower number entry.range r.page) ∷ []) entry free
-    (subst (λ state. 3 * size (2 ^ owner) + 2 ≤ state_weight state) (sym is) (one _ (one-size owner))) where
+-- those that a transition is for give up at least what it calls them for
+calls-weigh : (purpose : Purpose) (number : ℕ) (entry : Entry) (switch : SwitchView) → HasPurpose purpose entry switch
+    → state_weight (target_for purpose entry.state) + sent_weight (calls_for purpose number entry) ≤ state_weight entry.state
+calls-weigh MakesRoom number entry switch is = asked-weight 0 number entry.range None (holders entry.state) (state_weight entry.state) (held-weight entry.state)
+calls-weigh (LetsWrite r) number entry switch is =
+    asked-weight (state_weight (left_to r.blade entry.state)) number entry.range (Some r.page) (without_blade (holders entry.state) r.blade) (state_weight entry.state) (left-weight r.blade entry.state)
+calls-weigh (LetsRead r owner) number entry switch (at, waiting, within, owned, other) =
+    subst (λ state. 3 * size (2 ^ owner) + 2 ≤ state_weight state) (sym owned) (one _ (one-size owner)) where
       one : (n : ℕ) → n ≤ 1 → 3 * n + 2 ≤ 6
       one n le = omega arith
 
@@ -222,9 +212,16 @@ drops i entry switch = plain (sum (map request_weight switch.requests)) _ _ (sum
   plain : (rs new old : ℕ) → new ≤ old → rs + new + 0 ≤ rs + old
   plain rs new old le = omega arith
 
-serving-adds : IsKept switch_weight (λ most effect. effect_weight effect ≤ most)
-serving-adds =
-    record { nothing = nothing; follows = follows; denies = denies; grants = grants; invalidates = invalidates; lowers = lowers; enters = enters; drops = drops; clears = clears }
+each : (deed : SwitchDeed) (switch : SwitchView) → MayDo deed switch → AddsNothing switch (after_deed deed switch)
+each (DeniesRequest r at) switch may = denies r at switch may.request
+each (GrantsRequest r at i entry) switch may = grants r at i entry switch may.request may.idle
+each (BeginsTransition purpose i entry) switch may =
+    begins switch i (transition_for purpose (switch.last + 1) entry.state) (calls_for purpose (switch.last + 1) entry) entry may.idle (calls-weigh purpose (switch.last + 1) entry switch may.serves)
+each (EntersBlock page) switch may = enters (new_range page switch) switch
+each (DropsEntry i entry) switch may = drops i entry switch
+
+serving-adds : IsKeptByDeeds switch_weight (λ most effect. effect_weight effect ≤ most)
+serving-adds = record { nothing = nothing; follows = follows; each = each }
 
 -- ---- a message is handled
 

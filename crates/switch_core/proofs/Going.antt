@@ -37,7 +37,7 @@ grants-I false blade = refl
 grants-I true blade = refl
 
 -- a new entry is granted at once
-enters-is : (r : Request) (pass : Pass) → enters r pass ≡ waits (does (granted r pass.at (entry_place pass.done.switch.directory.entries (new_range r.page pass.done.switch)) (fresh_entry (new_range r.page pass.done.switch))) (does (entered (new_range r.page pass.done.switch)) pass))
+pub enters-is : (r : Request) (pass : Pass) → enters r pass ≡ waits (does (granted r pass.at (entry_place pass.done.switch.directory.entries (new_range r.page pass.done.switch)) (fresh_entry (new_range r.page pass.done.switch))) (does (entered (new_range r.page pass.done.switch)) pass))
 enters-is r pass =
     let es : List Entry = pass.done.switch.directory.entries in
     let range : RangeView = new_range r.page pass.done.switch in

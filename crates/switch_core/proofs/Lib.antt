@@ -1,8 +1,10 @@
 pub mod Answering
 pub mod Callers
 pub mod Coming
+pub mod Deeds
 pub mod EachEnding
 pub mod Going
+pub mod Kept
 pub mod Lists
 pub mod Passing
 pub mod Places

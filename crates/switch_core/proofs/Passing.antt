@@ -1,13 +1,13 @@
 -- What a pass does to a request, in the words of the definitions.
 use Rattle.std.proofs.Common.{◌≡◌, ◌≢◌, ℕ, ◌+◌, ◌<◌, ◌≤◌, Bool, true, false, cond, ◌&&◌, ◌==◌, Option, Some, None, List, [], ◌∷◌, ◌++◌, length, get_or, refl, ap, sym, subst, ◌∙◌, inl, inr, zero, suc, arith, append_assoc}
-use Rattle.std.specs.List.{All, AllByRecursion, remove, slice_get, position}
+use Rattle.std.specs.List.{All, AllByRecursion, list_any, remove, slice_get, position}
 use Rattle.std.specs.Option.{is_none}
-use Rattle.std.proofs.lemmas.Bool.{cases_Bool, false≢true}
+use Rattle.std.proofs.lemmas.Bool.{cases_Bool, false≢true, not-true}
 use Rattle.std.proofs.lemmas.List.{append-nil}
 use Rattle.std.proofs.lemmas.List.Quantifiers.{position-Some}
 use Rattle.std.proofs.lemmas.Option.{get_or_from_slice_get, slice_get_within}
 use Rattle.mind_base.specs.Page.{PageView}
-use Rattle.mind_base.specs.Range.{InRange}
+use Rattle.mind_base.specs.Range.{InRange, in_range}
 use Rattle.mind_base.specs.declared.links.LinkName.{LinkName}
 use Rattle.mind_base.specs.declared.notes.Note.{Note}
 use Rattle.mind_base.specs.declared.notes.State.{State}
@@ -149,7 +149,7 @@ less-changed s r i entry (M owner) found idle f =
 
 -- ---- room
 
-none-of : (b : Option Busy) → is_none b ≡ true → b ≡ None
+pub none-of : (b : Option Busy) → is_none b ≡ true → b ≡ None
 none-of None e = refl
 none-of (Some x) e = absurd (false≢true e)
 
@@ -174,7 +174,7 @@ first-evict None true v i e = absurd (cc)
 first-evict None false (Some k) i e = (refl, cc)
 first-evict None false None i e = absurd (cc)
 
-passed : (p : Entry → Bool) (es : List Entry) (i : ℕ) (e : Entry) → position p es ≡ Some i → slice_get es i ≡ Some e → p e ≡ true
+pub passed : (p : Entry → Bool) (es : List Entry) (i : ℕ) (e : Entry) → position p es ≡ Some i → slice_get es i ≡ Some e → p e ≡ true
 passed p es i e found at = ap p (sym (get_or_from_slice_get es i e e at)) ∙ (position-Some p es i e found).1
 
 -- the entry that is dropped has no transition
@@ -185,13 +185,24 @@ dropped-idle d pages i e h at =
     let test : is_droppable e ≡ true = passed is_droppable es i e first at in
     none-of e.busy (both _ (is_none e.busy) test).1
 
--- the entry that is taken from its holders has no transition, and is not in I
+-- and is in I
+pub dropped-unheld : (d : DirectoryView) (pages : List PageView) (i : ℕ) (e : Entry) → room_of d pages ≡ Drop i → slice_get d.entries i ≡ Some e → e.state ≡ I
+dropped-unheld d pages i e h at = unheld-so e.state (both (is_unheld e.state) _ (passed is_droppable d.entries i e (first-drop _ _ _ i h) at)).0 where
+  unheld-so : (state : State) → is_unheld state ≡ true → state ≡ I
+  unheld-so I t = refl
+  unheld-so (S sharers) t = absurd (false≢true t)
+  unheld-so (M owner) t = absurd (false≢true t)
+
+-- the entry that is taken from its holders has no transition, no page of it is fetched, and it is not in I
 pub evicted-idle : (d : DirectoryView) (pages : List PageView) (i : ℕ) (e : Entry) → room_of d pages ≡ Evict i → slice_get d.entries i ≡ Some e → e.busy ≡ None
 evicted-idle d pages i e h at =
     let es : List Entry = d.entries in
     let first : position (is_evictable pages) es ≡ Some i = (first-evict _ _ _ i h).1 in
     let test : is_evictable pages e ≡ true = passed (is_evictable pages) es i e first at in
     none-of e.busy (both (is_none e.busy) _ test).0
+
+pub evicted-free : (d : DirectoryView) (pages : List PageView) (i : ℕ) (e : Entry) → room_of d pages ≡ Evict i → slice_get d.entries i ≡ Some e → list_any (in_range e.range) pages ≡ false
+evicted-free d pages i e h at = not-true (list_any (in_range e.range) pages) (both (is_none e.busy) _ (passed (is_evictable pages) d.entries i e (first-evict _ _ _ i h).1 at)).1
 
 droppable-I : (e : Entry) → e.state ≡ I → e.busy ≡ None → is_droppable e ≡ true
 droppable-I e s b =

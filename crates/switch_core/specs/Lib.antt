@@ -1,3 +1,4 @@
+pub mod Deeds
 pub mod Handling
 pub mod Invariant
 pub mod Sending

@@ -2,10 +2,12 @@
 #![tactic(auto)]
 
 mod endings;
+mod laws;
 mod messages;
 mod stands;
 mod states;
 mod switches;
 mod visits;
 
+pub use laws::receiving_is_deeds;
 pub use switches::SwitchCore;

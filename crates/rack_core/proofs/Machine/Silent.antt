@@ -10,11 +10,12 @@ use Rattle.invalidate_multicast.specs.Transition.{is_answered, target_of}
 use Rattle.protect_table.specs.Protect.{ProtectView}
 use Rattle.region_directory.specs.declared.entries.Entry.{Entry}
 use Rattle.wire_msg.specs.declared.msgs.Msg.{Msg}
+use Rattle.switch_core.specs.Deeds.{SwitchDeed, DeniesRequest, GrantsRequest, BeginsTransition, EntersBlock, DropsEntry, MayDo, after_deed}
 use Rattle.switch_core.specs.Handling.{ack_heard, noted_at, Receives}
 use Rattle.switch_core.specs.Switch.{SwitchView, SwitchEffect}
 use Rattle.switch_core.specs.Treating.{granted_state, noted_change, same_state}
 use Rattle.tso_machine.specs.Replay.{labels, label_of}
-use Rattle.rack_core.proofs.Moves.Switch.Serving.{IsKept, IsHeard, ends-kept, handled-heard, receives-kept}
+use Rattle.switch_core.proofs.Callers.{IsHeard, IsKeptByDeeds, ends-kept, handled-heard, receives-kept}
 
 -- no label was noted, and the permissions are these
 pub record IsSilent (given : ProtectView) (e : SwitchEffect) : Type 0 where
@@ -34,20 +35,21 @@ end-label (Some entry) = by (is_answered entry.busy) where
   by true = refl
   by false = refl
 
-serving-silent : IsKept (λ (switch : SwitchView). switch.protect) IsSilent
+deed-silent : (deed : SwitchDeed) (switch : SwitchView) → MayDo deed switch → IsSilent switch.protect (after_deed deed switch)
+deed-silent (DeniesRequest r at) switch may = record { silent = refl; protect = refl }
+deed-silent (GrantsRequest r at i entry) switch may = record { silent = changed-label entry.range entry.state (granted_state r.write r.blade entry.state); protect = refl }
+deed-silent (BeginsTransition purpose i entry) switch may = record { silent = refl; protect = refl }
+deed-silent (EntersBlock page) switch may = record { silent = refl; protect = refl }
+deed-silent (DropsEntry i entry) switch may = record { silent = refl; protect = refl }
+
+serving-silent : IsKeptByDeeds (λ (switch : SwitchView). switch.protect) IsSilent
 serving-silent = record {
   nothing = λ switch. record { silent = refl; protect = refl };
   follows = λ given first next one two. record {
     silent = filter_map-append label_of first.noted (next first.switch).noted ∙ ap (λ l. l ++ labels (next first.switch).noted) one.silent ∙ two.silent;
     protect = two.protect ∙ one.protect;
   };
-  denies = λ r at switch is. record { silent = refl; protect = refl };
-  grants = λ r at i entry switch is idle. record { silent = changed-label entry.range entry.state (granted_state r.write r.blade entry.state); protect = refl };
-  invalidates = λ r i entry switch idle. record { silent = refl; protect = refl };
-  lowers = λ r owner i entry switch idle owned. record { silent = refl; protect = refl };
-  enters = λ range switch. record { silent = refl; protect = refl };
-  drops = λ i entry switch. record { silent = refl; protect = refl };
-  clears = λ i entry switch idle. record { silent = refl; protect = refl };
+  each = deed-silent;
 }
 
 handling-silent : IsHeard (λ kind message switch e. IsSilent switch.protect e)

@@ -1,5 +1,6 @@
 -- What the switch does, as moves of the coherence.
 pub mod Begins
+pub mod Deeds
 pub mod Ends
 pub mod Enters
 pub mod Grants
@@ -8,11 +9,8 @@ pub mod Hears
 pub mod Homes
 pub mod Lookups
 pub mod May
-pub mod Passes
 pub mod Refuses
 pub mod Requests
-pub mod Serving
 pub mod Sets
 pub mod Sound
-pub mod Treats
 pub mod Worlds

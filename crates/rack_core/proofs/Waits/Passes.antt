@@ -12,15 +12,17 @@ use Rattle.mind_base.specs.declared.notes.State.{State}
 use Rattle.mind_base.specs.declared.notes.State.TheVariants.{I, S, M}
 use Rattle.mind_base.specs.Permission.{allows}
 use Rattle.protect_table.specs.Protect.{permission_at}
+use Rattle.region_directory.specs.Entry.{entry_place, fresh_entry}
 use Rattle.region_directory.specs.Room.{first_rule, is_droppable, is_evictable, is_for_room, room_of}
 use Rattle.region_directory.specs.declared.entries.Entry.{Entry}
 use Rattle.region_directory.specs.declared.rooms.Room.TheVariants.{Drop, Evict}
 use Rattle.request_list.specs.Requests.{fetched_pages}
 use Rattle.request_list.specs.declared.requests.Request.{Request}
+use Rattle.switch_core.specs.Deeds.{SwitchDeed, DeniesRequest, GrantsRequest, BeginsTransition, EntersBlock, DropsEntry, MayDo, after_deed}
 use Rattle.switch_core.specs.Serving.{treated_if, treated_next, over, first_pass, one_pass, IsServed}
 use Rattle.switch_core.specs.Switch.{SwitchView, SwitchEffect, place_in, only, and_then}
 use Rattle.switch_core.specs.Treating.{Pass, waits, blocks, does, grants, granted_state, is_denied, denied_request, noted_change, reading, granted, invalidated, lowered, changed_for, cleared, entered, dropped, new_range, is_fetched, with_idle, with_entry, at_entry, enters, with_room, without_entry, entry_for, for_entry, treated}
-use Rattle.rack_core.proofs.Moves.Switch.Serving.{IsKept, IsWaiting, at-kept, over-kept}
+use Rattle.switch_core.proofs.Callers.{IsKeptByDeeds, deeds-kept, enters-is, no-deeds, over-deeds}
 use Rattle.rack_core.proofs.Moves.Switch.Lookups.{position-here}
 
 -- ---- how much was done
@@ -59,31 +61,37 @@ abbrev pub AtLeast : ℕ → Pass → Type 0
 AtLeast n pass = n ≤ much pass.done
 
 -- serving takes nothing back
-serving-keeps : IsKept (λ (switch : SwitchView). switch.last) (λ n done. n ≤ much done)
+serving-keeps : IsKeptByDeeds (λ (switch : SwitchView). switch.last) (λ n done. n ≤ much done)
 serving-keeps = record {
   nothing = λ switch. omega arith;
   follows = λ n first next was more. let all = then-keeps first next more in omega (arith, all, was);
-  denies = λ r at switch is. omega arith;
-  grants = λ r at i entry switch is idle. omega arith;
-  invalidates = λ r i entry switch idle. omega arith;
-  lowers = λ r owner i entry switch idle owned. omega arith;
-  enters = λ range switch. omega arith;
-  drops = λ i entry switch. omega arith;
-  clears = λ i entry switch idle. omega arith;
-}
+  each = each;
+} where
+  each : (deed : SwitchDeed) (switch : SwitchView) → MayDo deed switch → switch.last ≤ much (after_deed deed switch)
+  each (DeniesRequest r at) switch may = omega arith
+  each (GrantsRequest r at i entry) switch may = omega arith
+  each (BeginsTransition purpose i entry) switch may = omega arith
+  each (EntersBlock page) switch may = omega arith
+  each (DropsEntry i entry) switch may = omega arith
+
+-- so what was done is done when more requests are treated
+over-keeps : (n left : ℕ) (pass : Pass) → AtLeast n pass → AtLeast n (over left pass)
+over-keeps n left pass was = deeds-kept serving-keeps n pass.done (over left pass).done (over-deeds pass.done left pass (no-deeds pass.done)) was
 
 -- an entry that is entered is noted
-enters-more : (n : ℕ) (r : Request) (pass : Pass) → IsWaiting r pass.at pass.done.switch → AtLeast n pass → AtLeast (suc n) (enters r pass)
-enters-more n r pass is was =
-    let range = new_range r.page pass.done.switch in
-    let more : much pass.done < much (and_then pass.done (entered range)) = then-more pass.done (entered range) (omega arith) in
-    at-kept serving-keeps (suc n) r _ (does (entered range) pass) (record { stands = is.stands; waiting = is.waiting }) (omega (arith, more, was))
+enters-more : (n : ℕ) (r : Request) (pass : Pass) → AtLeast n pass → AtLeast (suc n) (enters r pass)
+enters-more n r pass was =
+    let range : RangeView = new_range r.page pass.done.switch in
+    let inside : Pass = does (entered range) pass in
+    let more : much pass.done < much inside.done = then-more pass.done (entered range) (omega arith) in
+    let keeps = then-keeps inside.done (granted r pass.at (entry_place pass.done.switch.directory.entries range) (fresh_entry range)) (omega arith) in
+    subst (AtLeast (suc n)) (sym (enters-is r pass)) (omega (arith, more, keeps, was))
 
 -- room for it was made before
-dropped-more : (n : ℕ) (r : Request) (i : ℕ) (entry : Entry) (pass : Pass) → IsWaiting r pass.at pass.done.switch → AtLeast n pass → AtLeast (suc n) (enters r (does (dropped i entry) pass))
-dropped-more n r i entry pass is was =
+dropped-more : (n : ℕ) (r : Request) (i : ℕ) (entry : Entry) (pass : Pass) → AtLeast n pass → AtLeast (suc n) (enters r (does (dropped i entry) pass))
+dropped-more n r i entry pass was =
     let keeps = then-keeps pass.done (dropped i entry) (omega arith) in
-    enters-more n r (does (dropped i entry) pass) (record { stands = is.stands; waiting = is.waiting }) (omega (arith, keeps, was))
+    enters-more n r (does (dropped i entry) pass) (omega (arith, keeps, was))
 
 cleared-more : (n i : ℕ) (entry : Entry) (pass : Pass) → AtLeast n pass → AtLeast (suc n) (blocks (does (cleared i entry) pass))
 cleared-more n i entry pass was = let more = then-more pass.done (cleared i entry) (omega arith) in omega (arith, more, was)
@@ -159,10 +167,10 @@ first-evictable [] some idle = absurd (omega (arith, some))
 first-evictable (entry ∷ entries) some idle =
     position-here (is_evictable []) entry entries (ap (λ b. is_none b && not (list_any (in_range entry.range) [])) (idle 0 entry refl))
 
-drops-more : (n : ℕ) (r : Request) (i : ℕ) (pass : Pass) → IsWaiting r pass.at pass.done.switch → position is_droppable pass.done.switch.directory.entries ≡ Some i → AtLeast n pass → AtLeast (suc n) (with_room r (Drop i) pass)
-drops-more n r i pass is found was =
+drops-more : (n : ℕ) (r : Request) (i : ℕ) (pass : Pass) → position is_droppable pass.done.switch.directory.entries ≡ Some i → AtLeast n pass → AtLeast (suc n) (with_room r (Drop i) pass)
+drops-more n r i pass found was =
     let entry = found-at is_droppable pass.done.switch.directory.entries i found in
-    subst (λ o. AtLeast (suc n) (unwrap_or (option_map (λ e. enters r (does (dropped i e) pass)) o) (blocks pass))) (sym entry.1) (dropped-more n r i entry.0 pass is was)
+    subst (λ o. AtLeast (suc n) (unwrap_or (option_map (λ e. enters r (does (dropped i e) pass)) o) (blocks pass))) (sym entry.1) (dropped-more n r i entry.0 pass was)
 
 evicts-more : (n : ℕ) (r : Request) (pass : Pass) → 0 < length pass.done.switch.directory.entries → AtLeast n pass → AtLeast (suc n) (with_room r (Evict 0) pass)
 evicts-more n r pass some was = by pass.done.switch.directory.entries some where
@@ -170,9 +178,9 @@ evicts-more n r pass some was = by pass.done.switch.directory.entries some where
   by [] lt = absurd (omega (arith, lt))
   by (entry ∷ entries) lt = cleared-more n 0 entry pass was
 
-room-more : (n : ℕ) (r : Request) (pass : Pass) → IsWaiting r pass.at pass.done.switch → IsStill pass.done.switch → 0 < length pass.done.switch.directory.entries → AtLeast n pass
+room-more : (n : ℕ) (r : Request) (pass : Pass) → IsStill pass.done.switch → 0 < length pass.done.switch.directory.entries → AtLeast n pass
     → AtLeast (suc n) (with_room r (room_of pass.done.switch.directory (fetched_pages pass.done.switch.requests)) pass)
-room-more n r pass is still some was =
+room-more n r pass still some was =
     subst (λ pages. AtLeast (suc n) (with_room r (room_of pass.done.switch.directory pages) pass)) (sym still.unfetched)
     (subst (λ b. AtLeast (suc n) (with_room r (first_rule (position is_droppable entries) b (position (is_evictable []) entries)) pass)) (sym (none-for_room entries still.idle))
     (subst (λ o. AtLeast (suc n) (with_room r (first_rule (position is_droppable entries) false o) pass)) (sym (first-evictable entries some still.idle))
@@ -183,14 +191,14 @@ room-more n r pass is still some was =
 
     by : (o : Option ℕ) → position is_droppable entries ≡ o → AtLeast (suc n) (with_room r (first_rule o false (Some 0)) pass)
     by None found = evicts-more n r pass some was
-    by (Some i) found = drops-more n r i pass is found was
+    by (Some i) found = drops-more n r i pass found was
 
-without-more : (n : ℕ) (r : Request) (pass : Pass) → IsWaiting r pass.at pass.done.switch → IsStill pass.done.switch → pass.blocked ≡ false → AtLeast n pass → AtLeast (suc n) (without_entry r pass)
-without-more n r pass is still free was =
+without-more : (n : ℕ) (r : Request) (pass : Pass) → IsStill pass.done.switch → pass.blocked ≡ false → AtLeast n pass → AtLeast (suc n) (without_entry r pass)
+without-more n r pass still free was =
     subst (λ b. AtLeast (suc n) (if b then waits pass else rest)) (sym free)
     (chosen-if (AtLeast (suc n)) (length pass.done.switch.directory.entries == pass.done.switch.directory.slots) _ _
-    (λ full. room-more n r pass is still (let many = eqb-true _ _ full in omega (arith, many, still.slots)) was)
-    (λ f. enters-more n r pass is was))
+    (λ full. room-more n r pass still (let many = eqb-true _ _ full in omega (arith, many, still.slots)) was)
+    (λ f. enters-more n r pass was))
   where
     rest : Pass
     rest = if length pass.done.switch.directory.entries == pass.done.switch.directory.slots
@@ -198,19 +206,19 @@ without-more n r pass is still free was =
 
 -- ---- the request
 
-for-more : (n : ℕ) (r : Request) (pass : Pass) → IsWaiting r pass.at pass.done.switch → IsStill pass.done.switch → pass.blocked ≡ false → is_some (place_in pass.done.switch r.page) ≡ true → AtLeast n pass
+for-more : (n : ℕ) (r : Request) (pass : Pass) → IsStill pass.done.switch → pass.blocked ≡ false → is_some (place_in pass.done.switch r.page) ≡ true → AtLeast n pass
     → AtLeast (suc n) (for_entry r (entry_for r.page pass.done.switch.directory.entries) pass)
-for-more n r pass is still free placed was = by (entry_for r.page pass.done.switch.directory.entries) refl where
+for-more n r pass still free placed was = by (entry_for r.page pass.done.switch.directory.entries) refl where
   by : (o : Option ℕ) → entry_for r.page pass.done.switch.directory.entries ≡ o → AtLeast (suc n) (for_entry r o pass)
-  by None found = without-more n r pass is still free was
+  by None found = without-more n r pass still free was
   by (Some i) found = at-more n r i pass still placed found was
 
-treated-more : (n : ℕ) (r : Request) (pass : Pass) → IsWaiting r pass.at pass.done.switch → IsStill pass.done.switch → pass.blocked ≡ false → AtLeast n pass → AtLeast (suc n) (treated r pass)
-treated-more n r pass is still free was =
-    subst (λ b. AtLeast (suc n) (if b then waits pass else rest)) (sym is.waiting)
+treated-more : (n : ℕ) (r : Request) (pass : Pass) → r.fetching ≡ false → IsStill pass.done.switch → pass.blocked ≡ false → AtLeast n pass → AtLeast (suc n) (treated r pass)
+treated-more n r pass waiting still free was =
+    subst (λ b. AtLeast (suc n) (if b then waits pass else rest)) (sym waiting)
     (chosen-if (AtLeast (suc n)) (is_denied pass.done.switch r) _ _
     (λ t. let more = then-more pass.done (denied_request r) (omega arith) in omega (arith, more, was))
-    (λ f. for-more n r pass is still free (still.placed r.write r.page (not-false (allows r.write (permission_at pass.done.switch.protect r.page)) f)) was))
+    (λ f. for-more n r pass still free (still.placed r.write r.page (not-false (allows r.write (permission_at pass.done.switch.protect r.page)) f)) was))
   where
     rest : Pass
     rest = if is_denied pass.done.switch r then does (denied_request r) pass else for_entry r (entry_for r.page pass.done.switch.directory.entries) pass
@@ -218,11 +226,11 @@ treated-more n r pass is still free was =
 -- A switch that has served, and where nothing is under way, has no request that waits first.
 pub none_waits_first : (switch : SwitchView) (r : Request) (rest : List Request) → IsStill switch → IsServed switch → switch.requests ≡ r ∷ rest → r.fetching ≡ false → ⊥
 none_waits_first switch r rest still served requests waiting =
-    let first : AtLeast (suc switch.last) (treated r (first_pass switch)) = treated-more switch.last r (first_pass switch) (record { stands = ap (λ rs. slice_get rs 0) requests; waiting = waiting }) still refl (omega arith) in
+    let first : AtLeast (suc switch.last) (treated r (first_pass switch)) = treated-more switch.last r (first_pass switch) waiting still refl (omega arith) in
     let next : AtLeast (suc switch.last) (treated_next (first_pass switch)) =
     subst (λ o. AtLeast (suc switch.last) (treated_if o (first_pass switch))) (sym (ap (λ rs. slice_get rs 0) requests)) first in
     let all : AtLeast (suc switch.last) (over (length switch.requests) (first_pass switch)) =
-    subst (λ rs. AtLeast (suc switch.last) (over (length rs) (first_pass switch))) (sym requests) (over-kept serving-keeps (suc switch.last) (length rest) (treated_next (first_pass switch)) next) in
+    subst (λ rs. AtLeast (suc switch.last) (over (length rs) (first_pass switch))) (sym requests) (over-keeps (suc switch.last) (length rest) (treated_next (first_pass switch)) next) in
     let same : much (one_pass switch) ≡ much (only switch) = ap much served in
     let none : much (only switch) ≡ switch.last = omega arith in
     omega (arith, all, same, none)

@@ -30,8 +30,8 @@ use Rattle.rack_core.proofs.Moves.Switch.Worlds.{regions-changed, regions-got}
 
 -- the directory and the frames stay, and nothing is noted
 pub nothing_noted : (w taken : World) (switch : SwitchView) (effect : SwitchEffect) → w.regions ≡ region_at switch.directory.entries → taken.frames ≡ w.frames → effect.switch.directory ≡ switch.directory → effect.noted ≡ []
-    → (plan : RackPlan) → HasSlots plan switch → HasSlots plan effect.switch × Tells plan w effect.noted (shown taken effect)
-nothing_noted w taken switch effect regions frames same none plan slots = (
+    → IsTold w taken switch effect
+nothing_noted w taken switch effect regions frames same none plan before safe holds slots = (
   record { slots = ap (λ d. d.slots) same ∙ slots.slots; room = subst (λ d. length d.entries ≤ plan.slots) (sym same) slots.room },
   subst (λ noted. Tells plan w noted (shown taken effect)) (sym none) (tells_nothing plan w (shown taken effect) (alike-same w (shown taken effect) frames (ap (λ d. region_at d.entries) same ∙ sym regions))),
 )
@@ -61,16 +61,16 @@ module _ (v : World) (switch : SwitchView) (i : ℕ) (f : Entry → Entry) (e : 
   }
 
   pub kept-told : (effect : SwitchEffect) → effect.switch.directory.entries ≡ changed_at i f switch.directory.entries → effect.switch.directory.slots ≡ switch.directory.slots → effect.noted ≡ [] → (f e).state ≡ e.state
-      → IsTold v switch effect
-  kept-told effect entries same none state plan safe holds slots = (
+      → IsTold v v switch effect
+  kept-told effect entries same none state plan before safe holds slots = (
     slots-changed plan effect.switch entries same slots,
     subst (λ noted. Tells plan v noted (shown v effect)) (sym none) (tells_nothing plan v (shown v effect)
         (record { held = λ blade page. refl; states = λ range. ap (λ es. state_in (region_at es) range) entries ∙ state-kept state range })),
   )
 
   pub changed-told : (effect : SwitchEffect) → effect.switch.directory.entries ≡ changed_at i f switch.directory.entries → effect.switch.directory.slots ≡ switch.directory.slots
-      → effect.noted ≡ noted_change e.range e.state (f e).state → IsTold v switch effect
-  changed-told effect entries same noted plan safe holds slots =
+      → effect.noted ≡ noted_change e.range e.state (f e).state → IsTold v v switch effect
+  changed-told effect entries same noted plan before safe holds slots =
       let next = slots-changed plan effect.switch entries same slots in
       (next, subst (λ n. Tells plan v n (shown v effect)) (sym noted) (by (same_state e.state (f e).state) refl next)) where
         same_state-so : (a b : State) → same_state a b ≡ true → b ≡ a
@@ -90,8 +90,8 @@ module _ (v : World) (switch : SwitchView) (i : ℕ) (f : Entry → Entry) (e : 
         by false t next = region_told plan v (shown v effect) e.range (f e).state (region_of (f e)) safe (within_slots plan (shown v effect) effect.switch refl holds next) refl
             (ap region_at entries ∙ regions-changed v.regions switch.directory.entries i f e regions keeps apart at) (keeps e) refl of_block
 
-  pub dropped-told : region_at (remove switch.directory.entries i) ≡ put_range e.range None v.regions → IsTold v switch (dropped i e switch)
-  dropped-told after plan safe holds slots =
+  pub dropped-told : region_at (remove switch.directory.entries i) ≡ put_range e.range None v.regions → IsTold v v switch (dropped i e switch)
+  dropped-told after plan before safe holds slots =
       let fewer = length-remove switch.directory.entries i (slice_get_within switch.directory.entries i e at) in
       let next : HasSlots plan (dropped i e switch).switch = record { slots = slots.slots; room = omega (arith, fewer, slots.room) } in
       (next, gone_told plan v (shown v (dropped i e switch)) e.range safe (within_slots plan (shown v (dropped i e switch)) (dropped i e switch).switch refl holds next) refl after of_block (ap is_some in_force))
@@ -101,8 +101,8 @@ module _ (v : World) (switch : SwitchView) (i : ℕ) (f : Entry → Entry) (e : 
 pub entered-told : (v : World) (switch : SwitchView) (range : RangeView) → (length switch.directory.entries == switch.directory.slots) ≡ false
     → ((page : PageView) → in_range range page ≡ true → v.regions page ≡ None)
     → region_at (insert switch.directory.entries (entry_place switch.directory.entries range) (fresh_entry range)) ≡ put_range range (Some (region_of (fresh_entry range))) v.regions
-    → IsTold v switch (entered range switch)
-entered-told v switch range short none after plan safe holds slots =
+    → IsTold v v switch (entered range switch)
+entered-told v switch range short none after plan before safe holds slots =
     let es = switch.directory.entries in
     let more = length-insert es (entry_place es range) (fresh_entry range) (count_by-le-length (λ e. is_before e.range range) es) in
     let next : HasSlots plan (entered range switch).switch = record { slots = slots.slots; room = omega (arith, more, below (length es) switch.directory.slots plan.slots short slots.slots slots.room) } in (

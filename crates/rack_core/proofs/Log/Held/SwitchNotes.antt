@@ -70,7 +70,8 @@ within_slots plan w switch regions holds slots = record {
 
 -- ---- what an effect notes
 
--- the notes of an effect of the switch tell of it, and the entries are then no more than the slots
-abbrev pub IsTold : World → SwitchView → SwitchEffect → Type 0
-IsTold v switch effect = (plan : RackPlan) → IsCoherent (shown v effect) → HoldsWithin plan v → HasSlots plan switch
-    → HasSlots plan effect.switch × Tells plan v effect.noted (shown v effect)
+-- the notes of an effect of the switch tell of it, from a world in which its message was not taken yet, and the entries
+-- are then no more than the slots
+abbrev pub IsTold : World → World → SwitchView → SwitchEffect → Type 0
+IsTold w taken switch effect = (plan : RackPlan) → IsCoherent w → IsCoherent (shown taken effect) → HoldsWithin plan w → HasSlots plan switch
+    → HasSlots plan effect.switch × Tells plan w effect.noted (shown taken effect)

@@ -9,24 +9,22 @@ use Rattle.mind_base.specs.Range.{RangeView}
 use Rattle.mind_base.specs.declared.links.LinkKind.{LinkKind}
 use Rattle.mind_base.specs.declared.links.LinkKind.TheVariants.{Up, Down, To, From}
 use Rattle.mind_base.specs.declared.links.LinkName.{LinkName}
-use Rattle.mind_base.specs.declared.notes.State.TheVariants.{I}
 use Rattle.invalidate_multicast.specs.Blades.{without_blade, casts_of}
 use Rattle.invalidate_multicast.specs.First.{first_changed}
 use Rattle.invalidate_multicast.specs.Transition.{acknowledged, after_answer, finished, is_answered, is_number}
 use Rattle.page_image.specs.PageImage.{PageImageView}
 use Rattle.region_directory.specs.Entry.{changed_at, fresh_entry, in_state, entry_place, plus_hits, with_busy}
-use Rattle.region_directory.specs.declared.entries.Busy.{Busy}
 use Rattle.region_directory.specs.declared.entries.Entry.{Entry}
 use Rattle.request_list.specs.declared.requests.Request.{Request}
 use Rattle.wire_msg.specs.declared.msgs.Msg.{Msg}
 use Rattle.wire_msg.specs.declared.msgs.Msg.TheVariants.{Inv, Ack}
+use Rattle.switch_core.specs.Deeds.{Purpose, MakesRoom, LetsWrite, LetsRead, SwitchDeed, DeniesRequest, GrantsRequest, BeginsTransition, EntersBlock, DropsEntry, MayDo, after_deed, begun_for, calls_for}
 use Rattle.switch_core.specs.Handling.{ended, from_blade, writing, Receives}
 use Rattle.switch_core.specs.Switch.{SwitchView, SwitchEffect, only, place_in}
-use Rattle.switch_core.specs.Treating.{with_transition, denied_request, granted, granted_state, holders, invalidations, lowered, invalidated, reading, entered, cleared}
-use Rattle.switch_core.proofs.Callers.{answered-is}
+use Rattle.switch_core.specs.Treating.{denied_request, granted, granted_state, holders, new_range, reading, entered}
+use Rattle.switch_core.proofs.Callers.{IsHeard, IsKeptByDeeds, answered-is, handled-heard, receives-kept}
 use Rattle.rack_core.specs.Released.{count_in, hits_of}
 use Rattle.rack_core.specs.Seen.{sent_on}
-use Rattle.rack_core.proofs.Moves.Switch.Serving.{IsKept, IsHeard, handled-heard, receives-kept}
 use Rattle.rack_core.proofs.Moves.Runs.{sent_on-append}
 use Rattle.rack_core.proofs.Moves.Switch.Sets.{calls-quiet}
 
@@ -97,33 +95,30 @@ grants-hits r at i entry switch =
     by c None = refl
     by c (Some place) = refl
 
-begins-hits : (i : ℕ) (busy : Busy) (messages : List (LinkName × Msg)) (switch : SwitchView) → ((c : ℕ) → sent_on Up c messages ≡ []) → AddsNone switch (with_transition i busy messages switch)
-begins-hits i busy messages switch quiet = same-hits switch (with_transition i busy messages switch) (hits-changed i (with_busy (Some busy)) switch.directory.entries (λ e. refl)) quiet
+-- a transition calls blades, down the links to them
+calls-down : (purpose : Purpose) (number : ℕ) (entry : Entry) (c : ℕ) → sent_on Up c (calls_for purpose number entry) ≡ []
+calls-down MakesRoom number entry c = (calls-quiet (casts_of (holders entry.state)) (Inv number entry.range None) c).0
+calls-down (LetsWrite r) number entry c = (calls-quiet (casts_of (without_blade (holders entry.state) r.blade)) (Inv number entry.range (Some r.page)) c).0
+calls-down (LetsRead r owner) number entry c = refl
 
-clears-hits : (i : ℕ) (entry : Entry) (switch : SwitchView) → AddsNone switch (cleared i entry switch)
-clears-hits i entry switch =
-    begins-hits i (record { number = switch.last + 1; waiting = holders entry.state; target = I; for_room = true })
-    (invalidations (switch.last + 1) entry.range None (holders entry.state)) switch
-    (λ c. (calls-quiet (casts_of (holders entry.state)) (Inv (switch.last + 1) entry.range None) c).0)
+deed-hits : (deed : SwitchDeed) (switch : SwitchView) → MayDo deed switch → AddsNone switch (after_deed deed switch)
+deed-hits (DeniesRequest r at) switch may = same-hits switch (denied_request r switch) refl (λ c. refl)
+deed-hits (GrantsRequest r at i entry) switch may = grants-hits r at i entry switch
+deed-hits (BeginsTransition purpose i entry) switch may =
+    same-hits switch (begun_for purpose i entry switch) (hits-changed i (with_busy (Some _)) switch.directory.entries (λ e. refl)) (λ c. calls-down purpose (switch.last + 1) entry c)
+deed-hits (EntersBlock page) switch may =
+    let range : RangeView = new_range page switch in
+    same-hits switch (entered range switch) (hits-entered switch.directory.entries (entry_place switch.directory.entries range) range) (λ c. refl)
+deed-hits (DropsEntry i entry) switch may = record { hits = hits-removed i switch.directory.entries; quiet = λ c. refl }
 
-serving-hits : IsKept (λ (switch : SwitchView). hits_of switch.directory.entries) HasHits
+serving-hits : IsKeptByDeeds (λ (switch : SwitchView). hits_of switch.directory.entries) HasHits
 serving-hits = record {
   nothing = λ switch. same-hits switch (only switch) refl (λ c. refl);
   follows = λ most first next one two. record {
     hits = omega (arith, one.hits, two.hits);
     quiet = λ c. sent_on-append Up c first.sent (next first.switch).sent ∙ ap (λ s. s ++ sent_on Up c (next first.switch).sent) (one.quiet c) ∙ two.quiet c;
   };
-  denies = λ r at switch is. same-hits switch (denied_request r switch) refl (λ c. refl);
-  grants = λ r at i entry switch is idle. grants-hits r at i entry switch;
-  invalidates = λ r i entry switch idle.
-      same-hits switch (invalidated r i entry switch) (hits-changed i (with_busy (Some _)) switch.directory.entries (λ e. refl))
-      (λ c. (calls-quiet (casts_of (without_blade (holders entry.state) r.blade)) (Inv (switch.last + 1) entry.range (Some r.page)) c).0);
-  lowers = λ r owner i entry switch idle owned.
-      same-hits switch (lowered r owner i entry switch) (hits-changed i (with_busy (Some _)) switch.directory.entries (λ e. refl)) (λ c. refl);
-  enters = λ range switch.
-      same-hits switch (entered range switch) (hits-entered switch.directory.entries (entry_place switch.directory.entries range) range) (λ c. refl);
-  drops = λ i entry switch. record { hits = hits-removed i switch.directory.entries; quiet = λ c. refl };
-  clears = λ i entry switch idle. clears-hits i entry switch;
+  each = deed-hits;
 }
 
 -- ---- a message is handled

@@ -10,12 +10,12 @@ use Rattle.mind_base.specs.declared.notes.State.{State}
 use Rattle.invalidate_multicast.specs.Transition.{is_answered, target_of}
 use Rattle.region_directory.specs.declared.entries.Entry.{Entry}
 use Rattle.wire_msg.specs.declared.msgs.Msg.{Msg}
+use Rattle.switch_core.specs.Deeds.{SwitchDeed, DeniesRequest, GrantsRequest, BeginsTransition, EntersBlock, DropsEntry, MayDo, after_deed}
 use Rattle.switch_core.specs.Handling.{ack_heard, noted_at, Receives}
 use Rattle.switch_core.specs.Switch.{SwitchView, SwitchEffect}
 use Rattle.switch_core.specs.Treating.{granted_state, noted_change, same_state}
-use Rattle.switch_core.proofs.Callers.{all-append}
+use Rattle.switch_core.proofs.Callers.{IsHeard, IsKeptByDeeds, all-append, ends-kept, handled-heard, receives-kept}
 use Rattle.rack_core.specs.Noted.{IsOfSwitch}
-use Rattle.rack_core.proofs.Moves.Switch.Serving.{IsKept, IsHeard, ends-kept, handled-heard, receives-kept}
 
 -- notes of the directory
 abbrev pub AreOfSwitch : List Note → Type 0
@@ -37,18 +37,16 @@ end-note (Some entry) = by (is_answered entry.busy) where
   by true = (tt, tt)
   by false = tt
 
-serving-notes : IsKept (λ (switch : SwitchView). switch) NotesOfSwitch
-serving-notes = record {
-  nothing = λ switch. tt;
-  follows = λ a first next one two. all-append IsOfSwitch first.noted (next first.switch).noted one two;
-  denies = λ r at switch is. tt;
-  grants = λ r at i entry switch is idle. changed-note entry.range entry.state (granted_state r.write r.blade entry.state);
-  invalidates = λ r i entry switch idle. tt;
-  lowers = λ r owner i entry switch idle owned. tt;
-  enters = λ range switch. (tt, tt);
-  drops = λ i entry switch. (tt, tt);
-  clears = λ i entry switch idle. tt;
-}
+deed-notes : (deed : SwitchDeed) (switch : SwitchView) → MayDo deed switch → AreOfSwitch (after_deed deed switch).noted
+deed-notes (DeniesRequest r at) switch may = tt
+deed-notes (GrantsRequest r at i entry) switch may = changed-note entry.range entry.state (granted_state r.write r.blade entry.state)
+deed-notes (BeginsTransition purpose i entry) switch may = tt
+deed-notes (EntersBlock page) switch may = (tt, tt)
+deed-notes (DropsEntry i entry) switch may = (tt, tt)
+
+serving-notes : IsKeptByDeeds (λ (switch : SwitchView). switch) NotesOfSwitch
+serving-notes =
+    record { nothing = λ switch. tt; follows = λ a first next one two. all-append IsOfSwitch first.noted (next first.switch).noted one two; each = deed-notes }
 
 handling-notes : IsHeard (λ kind message switch e. AreOfSwitch e.noted)
 handling-notes = record {

@@ -15,12 +15,12 @@ use Rattle.invalidate_multicast.proofs.Callers.{without-other}
 use Rattle.region_directory.specs.Entry.{with_busy}
 use Rattle.region_directory.specs.declared.entries.Busy.{Busy}
 use Rattle.region_directory.specs.declared.entries.Entry.{Entry}
-use Rattle.request_list.specs.declared.requests.Request.{Request}
 use Rattle.wire_msg.specs.declared.msgs.Msg.{Msg}
 use Rattle.wire_msg.specs.declared.msgs.Msg.TheVariants.{Inv, Lower}
+use Rattle.switch_core.specs.Deeds.{Purpose, MakesRoom, LetsWrite, LetsRead, HasPurpose, begun_for, calls_for, transition_for}
 use Rattle.switch_core.specs.Invariant.{IsFitState, IsFitEntry}
 use Rattle.switch_core.specs.Switch.{SwitchView, to_blade}
-use Rattle.switch_core.specs.Treating.{with_transition, cleared, invalidated, lowered, invalidations, left_to, holders, grants, is_fetched}
+use Rattle.switch_core.specs.Treating.{with_transition, invalidations, left_to, holders, grants, is_fetched}
 use Rattle.switch_core.proofs.Callers.{all-at}
 use Rattle.coherence.specs.Facts.{names, owns, is_fetching}
 use Rattle.coherence.specs.Moves.{Begins, IsCallOf, call_to}
@@ -51,7 +51,7 @@ pub record AreCalls (busy : Busy) (message : Msg) (messages : List (LinkName × 
 module _ (v : World) (switch : SwitchView) (i : ℕ) (entry : Entry) (shows : Shows v switch) (sound : IsSoundSwitch switch)
     (stands : slice_get switch.directory.entries i ≡ Some entry) (free : entry.busy ≡ None) (still : is_fetched entry.range switch.requests ≡ false) where
   pub begins_it : (busy : Busy) (message : Msg) (messages : List (LinkName × Msg)) → busy.number ≡ switch.last + 1 → IsFor entry.state busy → IsCallOf entry.range busy message → AreCalls busy message messages
-      → Follows v switch (with_transition i busy messages switch)
+      → Follows v v switch (with_transition i busy messages switch)
   begins_it busy message messages number fits call calls = record {
     moves = one_move v (shown v (with_transition i busy messages switch)) (Begins (region_of entry) busy message)
         (record {
@@ -202,24 +202,20 @@ module _ (v : World) (switch : SwitchView) (i : ℕ) (entry : Entry) (shows : Sh
   fit : IsFitState 8 entry.state
   fit = (all-at (IsFitEntry 8) switch.directory.entries i entry sound.entries stands).state
 
-  pub clears : Follows v switch (cleared i entry switch)
-  clears =
-      let busy : Busy = record { number = switch.last + 1; waiting = holders entry.state; target = I; for_room = true } in
-      begins_it v switch i entry shows sound stands free still busy (Inv (switch.last + 1) entry.range None) (invalidations (switch.last + 1) entry.range None (holders entry.state))
-      refl (cleared-for (switch.last + 1) entry.state) (refl, refl) (invalidations-calls busy (switch.last + 1) entry.range None (holders-fit entry.state fit))
+  abbrev number : ℕ
+  number = switch.last + 1
 
-  pub invalidates : (r : Request) → r.blade < 8 → grants true r.blade entry.state ≡ false → Follows v switch (invalidated r i entry switch)
-  invalidates r lt cannot =
-      let busy : Busy = record { number = switch.last + 1; waiting = without_blade (holders entry.state) r.blade; target = left_to r.blade entry.state; for_room = false } in
-      begins_it v switch i entry shows sound stands free still busy (Inv (switch.last + 1) entry.range (Some r.page))
-      (invalidations (switch.last + 1) entry.range (Some r.page) (without_blade (holders entry.state) r.blade))
-      refl (invalidated-for (switch.last + 1) r.blade entry.state lt cannot) (refl, refl)
-      (invalidations-calls busy (switch.last + 1) entry.range (Some r.page) (less-fits (holders entry.state) r.blade (holders-fit entry.state fit)))
-
-  pub lowers : (r : Request) (owner : ℕ) → entry.state ≡ M owner → Follows v switch (lowered r owner i entry switch)
-  lowers r owner is =
-      let busy : Busy = record { number = switch.last + 1; waiting = 2 ^ owner; target = S (2 ^ owner); for_room = false } in
-      let message : Msg = Lower (switch.last + 1) entry.range r.page in
-      begins_it v switch i entry shows sound stands free still busy message (to_blade owner message ∷ [])
-      refl (subst (λ s. IsFor s busy) (sym is) (lowered-for (switch.last + 1) owner (subst (IsFitState 8) is fit))) (refl, refl, λ blade h. h)
+  pub begins_for : (purpose : Purpose) → HasPurpose purpose entry switch → Follows v v switch (begun_for purpose i entry switch)
+  begins_for MakesRoom is =
+      begins_it v switch i entry shows sound stands free still (transition_for MakesRoom number entry.state) (Inv number entry.range None) (calls_for MakesRoom number entry)
+      refl (cleared-for number entry.state) (refl, refl) (invalidations-calls (transition_for MakesRoom number entry.state) number entry.range None (holders-fit entry.state fit))
+  begins_for (LetsWrite r) (at, waiting, within, cannot) =
+      begins_it v switch i entry shows sound stands free still (transition_for (LetsWrite r) number entry.state) (Inv number entry.range (Some r.page)) (calls_for (LetsWrite r) number entry)
+      refl (invalidated-for number r.blade entry.state (all-at (λ q. q.blade < 8) switch.requests at r sound.blades waiting.stands) cannot) (refl, refl)
+      (invalidations-calls (transition_for (LetsWrite r) number entry.state) number entry.range (Some r.page) (less-fits (holders entry.state) r.blade (holders-fit entry.state fit)))
+  begins_for (LetsRead r owner) (at, waiting, within, is, other) =
+      let busy : Busy = transition_for (LetsRead r owner) number entry.state in
+      let message : Msg = Lower number entry.range r.page in
+      begins_it v switch i entry shows sound stands free still busy message (calls_for (LetsRead r owner) number entry)
+      refl (subst (λ s. IsFor s busy) (sym is) (lowered-for number owner (subst (IsFitState 8) is fit))) (refl, refl, λ blade h. h)
       (lowering-calls busy owner message refl)

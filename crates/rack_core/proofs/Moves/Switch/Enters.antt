@@ -32,17 +32,6 @@ use Rattle.rack_core.proofs.Lists.Parts.{all-same}
 abbrev pub NoneHas : PageView → List Entry → Type 0
 NoneHas page es = AllByRecursion (λ e. in_range e.range page ≡ false) es
 
-pub none-has : (es : List Entry) (page : PageView) → entry_for page es ≡ None → NoneHas page es
-none-has [] page e = tt
-none-has (x ∷ es) page e = by (in_range x.range page) refl (λ k. none-has es page k) where
-  lesser : (o : Option ℕ) → option_map suc o ≡ None → o ≡ None
-  lesser None f = refl
-  lesser (Some n) f = absurd (none-some (suc n) (sym f))
-
-  by : (b : Bool) → in_range x.range page ≡ b → (entry_for page es ≡ None → NoneHas page es) → (in_range x.range page ≡ false) × NoneHas page es
-  by true t rest = absurd (none-some 0 (sym e ∙ position-here (λ y. in_range y.range page) x es t))
-  by false t rest = (t, rest (lesser (entry_for page es) (sym (position-there (λ y. in_range y.range page) x es t) ∙ e)))
-
 tested : (es : List Entry) (range : RangeView) → list_all (λ e. are_apart e.range range) es ≡ true → MeetsNone range es
 tested [] range t = tt
 tested (x ∷ es) range t = let parts = and_parts (are_apart x.range range) (list_all (λ e. are_apart e.range range) es) t in (apart-from_test x.range range parts.0, tested es range parts.1)
@@ -55,24 +44,10 @@ free_block es page (suc log) none = by (list_all (λ e. are_apart e.range (block
   by true t rest = tested es (block_of page (suc log)) t
   by false t rest = rest
 
-has_page : (es : List Entry) (page : PageView) (log : ℕ) → log ≤ 9 → in_range (largest_free es page log) page ≡ true
-has_page es page zero le = test-from_has (block_of page 0) page (block_of-InRange page 0 le)
-has_page es page (suc log) le = by (list_all (λ e. are_apart e.range (block_of page (suc log))) es) (has_page es page log (omega arith)) where
-  by : (b : Bool) → in_range (largest_free es page log) page ≡ true → in_range (if b then block_of page (suc log) else largest_free es page log) page ≡ true
-  by true rest = test-from_has (block_of page (suc log)) page (block_of-InRange page (suc log) le)
-  by false rest = rest
-
-pub new_has : (switch : SwitchView) (page : PageView) → IsSoundSwitch switch → in_range (new_range page switch) page ≡ true
-new_has switch page sound = has_page switch.directory.entries page switch.plan.region sound.region
-
-pub new_stands : (switch : SwitchView) (range : RangeView)
-    → slice_get (entered range switch).switch.directory.entries (entry_place switch.directory.entries range) ≡ Some (fresh_entry range)
-new_stands switch range = insert-at switch.directory.entries (entry_place switch.directory.entries range) (fresh_entry range) (count_by-le-length (λ e. is_before e.range range) switch.directory.entries)
-
 -- ---- an entry is put in
 
 pub enters_it : (v : World) (switch : SwitchView) (page : PageView) → Shows v switch → IsSoundSwitch switch → NoneHas page switch.directory.entries → (length switch.directory.entries == switch.directory.slots) ≡ false
-    → Follows v switch (entered (new_range page switch) switch)
+    → Follows v v switch (entered (new_range page switch) switch)
 enters_it v switch page shows sound none short =
     let es = switch.directory.entries in
     let range = new_range page switch in
@@ -97,7 +72,7 @@ enters_it v switch page shows sound none short =
 -- ---- an entry is dropped
 
 pub drops_it : (v : World) (switch : SwitchView) (i : ℕ) (entry : Entry) → Shows v switch → IsSoundSwitch switch → slice_get switch.directory.entries i ≡ Some entry → entry.state ≡ I → entry.busy ≡ None
-    → Follows v switch (dropped i entry switch)
+    → Follows v v switch (dropped i entry switch)
 drops_it v switch i entry shows sound stands unheld free =
     let es = switch.directory.entries in
     let regions : region_at (remove es i) ≡ put_range entry.range None v.regions = fun_ext (λ p.

@@ -111,7 +111,7 @@ module _ (v : World) (switch : SwitchView) (at : ℕ) (r : Request) (i : ℕ) (e
   by_place (Some place) lies = grant_moves place lies
   by_place None none = absurd (false≢true (ap is_some (sym (ap (λ f. f r.page) shows.places.places ∙ none)) ∙ safe.placed.placed r.page (not_no r.write (v.perms r.page) (allowed v switch r shows may))))
 
-  pub grants_it : Follows v switch (granted r at i entry switch)
+  pub grants_it : Follows v v switch (granted r at i entry switch)
   grants_it = record {
     moves = by_place (place_in switch r.page) refl;
     quiet = λ n. read_quiet (place_in switch r.page) n;

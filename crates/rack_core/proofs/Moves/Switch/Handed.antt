@@ -24,9 +24,10 @@ use Rattle.rack_core.specs.Seen.{pending_on, seen, sent_on}
 use Rattle.rack_core.specs.SwitchMoves.{shown, Shows, HasPlaces, IsSoundSwitch, SendsNoneUp, AsksAt, AskPlaces, AreAsked, LeadsByMoves, HasSlots, LiesWhere, taken_from, with_front}
 use Rattle.rack_core.proofs.Moves.Switch.Hears.{switch_moves}
 use Rattle.rack_core.proofs.Log.Held.SwitchNotes.{HoldsWithin}
+use Rattle.rack_core.proofs.Moves.Runs.{leads_keeps}
 use Rattle.rack_core.proofs.Moves.Sent.{sends_all}
 use Rattle.rack_core.proofs.Moves.Blade.Worlds.{put-again}
-use Rattle.rack_core.proofs.Moves.Switch.Worlds.{Stands}
+use Rattle.rack_core.proofs.Moves.Switch.Worlds.{Follows}
 
 -- the last value at a number counts
 pub put-twice : {X : Type 0} (k : ℕ) (x y : X) (f : ℕ → X) → put k x (put k y f) ≡ put k x f
@@ -84,19 +85,18 @@ still_asked old effect net sent places before asks m =
     (all-append (AsksAt (place_in old.switch) m) (pending_on old.net To m) (sent_on To m effect.sent) (before m) (asks m)))
 
 -- what the switch did with a message, from a world that is seen again, with it taken, in the rack after
-heard_by : (old new : RackView) (w taken : World) (last : RackView → World) (link : LinkName) (message : Msg) (noted : List Note) (hears : SwitchHears link message old new noted) → AreAsked old → taken.places ≡ place_in old.switch
-    → LeadsByMoves w (shown taken hears.effect) × Stands taken hears.effect
-    × ((plan : RackPlan) → HoldsWithin plan w → HasSlots plan old.switch → HasSlots plan hears.effect.switch × Tells plan w hears.effect.noted (shown taken hears.effect))
+heard_by : (old new : RackView) (w taken : World) (last : RackView → World) (link : LinkName) (message : Msg) (noted : List Note) (hears : SwitchHears link message old new noted) → IsCoherent w → AreAsked old
+    → taken.places ≡ place_in old.switch → Follows w taken old.switch hears.effect
     → HasPlaces w hears.effect.switch → place_in old.switch ≡ place_in hears.effect.switch → shown taken hears.effect ≡ last (with_net hears.net (with_switch hears.effect.switch old))
     → Handed w (last new) old.switch new noted
-heard_by old new w taken last link message noted hears before asked done places lie same =
+heard_by old new w taken last link message noted hears safe before asked done places lie same =
     subst (λ r. Handed w (last r) old.switch r noted) (sym hears.after) (record {
-      moves = subst (λ v. LeadsByMoves w v) same done.0;
-      sound = done.1.sound;
+      moves = subst (λ v. LeadsByMoves w v) same done.moves;
+      sound = done.sound;
       places = places;
-      asked = still_asked old hears.effect hears.net hears.sent lie before (subst (λ f. AskPlaces f hears.effect.sent) asked done.1.asks);
+      asked = still_asked old hears.effect hears.net hears.sent lie before (subst (λ f. AskPlaces f hears.effect.sent) asked done.asks);
       told = λ plan holds slots.
-          let told = done.2 plan holds slots in
+          let told = done.told plan safe (leads_keeps w (shown taken hears.effect) safe done.moves) holds slots in
           (told.0, subst (λ v. Tells plan w noted v) same (subst (λ n. Tells plan w n (shown taken hears.effect)) (sym hears.notes) told.1));
     })
 
@@ -109,9 +109,9 @@ switch_handed_up old new flat number message rest noted safe sound before lt lie
     let behind = rest ++ pending_on old.net Up number in
     let done = switch_moves w old.switch (record { kind = Up; number = number }) message behind hears.effect safe (shows_front Up number (message ∷ rest) old flat) sound lt lies
     (put-here number (message ∷ behind) (pending_on old.net Up)) hears.heard in
-    let places : HasPlaces w hears.effect.switch = record { places = done.1.places.places; perms = done.1.places.perms } in
-    heard_by old new w (taken_from Up number behind w) (λ r. with_front Up number rest (seen r flat)) (record { kind = Up; number = number }) message noted hears before refl done places done.1.places.places
-    (seen_up old flat number rest hears.effect hears.net hears.sent done.1.quiet message places)
+    let places : HasPlaces w hears.effect.switch = record { places = done.places.places; perms = done.places.perms } in
+    heard_by old new w (taken_from Up number behind w) (λ r. with_front Up number rest (seen r flat)) (record { kind = Up; number = number }) message noted hears safe before refl done places done.places.places
+    (seen_up old flat number rest hears.effect hears.net hears.sent done.quiet message places)
 
 -- no page comes back from a memory blade
 lies_from : (w : World) (number : ℕ) (message : Msg) (behind : List Msg) → AreFroms w number (message ∷ behind) → LiesWhere w message
@@ -128,6 +128,6 @@ switch_handed_from old new flat number message rest noted safe sound before lt h
     let first : w.froms number ≡ message ∷ behind = put-here number (message ∷ behind) (pending_on old.net From) in
     let done = switch_moves w old.switch (record { kind = From; number = number }) message behind hears.effect safe (shows_front From number (message ∷ rest) old flat) sound lt
     (lies_from w number message behind (subst (AreFroms w number) first (safe.froms number))) first hears.heard in
-    let places : HasPlaces w hears.effect.switch = record { places = done.1.places.places; perms = done.1.places.perms } in
-    heard_by old new w (taken_from From number behind w) (λ r. with_front From number rest (seen r flat)) (record { kind = From; number = number }) message noted hears before refl done places done.1.places.places
-    (seen_from old flat number rest hears.effect hears.net hears.sent done.1.quiet message places)
+    let places : HasPlaces w hears.effect.switch = record { places = done.places.places; perms = done.places.perms } in
+    heard_by old new w (taken_from From number behind w) (λ r. with_front From number rest (seen r flat)) (record { kind = From; number = number }) message noted hears safe before refl done places done.places.places
+    (seen_from old flat number rest hears.effect hears.net hears.sent done.quiet message places)

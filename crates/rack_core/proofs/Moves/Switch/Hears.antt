@@ -31,35 +31,23 @@ use Rattle.switch_core.specs.Handling.{all_ended, request_noted, filling, filled
 use Rattle.switch_core.specs.Invariant.{IsFitState, IsFitTarget, IsFitEntry}
 use Rattle.switch_core.specs.Switch.{SwitchView, SwitchEffect, place_in}
 use Rattle.switch_core.specs.Treating.{without_request}
-use Rattle.switch_core.proofs.Callers.{answered-is}
+use Rattle.switch_core.proofs.Callers.{answered-is, receives-deeds}
 use Rattle.coherence.specs.Facts.{IsCoherent, AreAnswered, AreUps, AreFroms, is_fetching}
 use Rattle.coherence.specs.Moves as moves
 use Rattle.coherence.specs.Moves.{HearsGet, HearsBack, HearsAck, HearsImage, heard, region_answered}
-use Rattle.coherence.specs.Lawful.{Tells, first_page, state_in}
+use Rattle.coherence.specs.Lawful.{first_page, state_in}
 use Rattle.coherence.specs.World.{Region, World, put, put_both}
-use Rattle.coherence.proofs.Callers.{tells_then}
 use Rattle.rack_core.specs.Seen.{sent_on, region_of, region_at, wanted_at}
 use Rattle.rack_core.specs.SwitchMoves.{shown, Shows, HasPlaces, IsSoundSwitch, SendsNoneUp, AsksAt, AskPlaces, LeadsByMoves, AreEntriesApart, HasSlots, LiesWhere, IsFirstOn, taken_from}
 use Rattle.rack_core.proofs.Moves.Switch.Lookups.{apart-map, first_region, region_at-first, first-map}
 use Rattle.rack_core.proofs.Log.Held.SwitchNotes.{HoldsWithin, state_of, within_slots}
-use Rattle.rack_core.proofs.Moves.Switch.Passes.{serving_goes}
+use Rattle.rack_core.proofs.Moves.Switch.Deeds.{serves_on}
 use Rattle.rack_core.proofs.Moves.Switch.Requests.{wanted_of, found-of, wanted-last, wanted-without, unwanted-none}
-use Rattle.rack_core.proofs.Moves.Runs.{one_move, leads_on, leads_keeps}
+use Rattle.rack_core.proofs.Moves.Runs.{one_move}
 use Rattle.rack_core.proofs.Moves.Switch.Ends.{ended-range, ended-region, ends_told}
 use Rattle.rack_core.proofs.Log.Held.SwitchEffects.{nothing_noted}
-use Rattle.rack_core.proofs.Moves.Switch.Worlds.{asked_there, Stands, none_sent, one_sent, without-sound, entries-sound}
+use Rattle.rack_core.proofs.Moves.Switch.Worlds.{asked_there, Follows, none_sent, one_sent, without-sound, entries-sound}
 use Rattle.rack_core.proofs.Lists.Parts.{all-map, all-last}
-
--- a message was taken: moves, and the switch is sound still, with the same places and permissions, and its notes tell
--- of it
-pub record Hears (w taken : World) (switch : SwitchView) (effect : SwitchEffect) : Type 0 where
-  pub moves : LeadsByMoves w (shown taken effect)
-  pub quiet : SendsNoneUp effect.sent
-  pub asks : AskPlaces taken.places effect.sent
-  pub sound : IsSoundSwitch effect.switch
-  pub places : HasPlaces taken effect.switch
-  pub told : (plan : RackPlan) → IsCoherent w → IsCoherent (shown taken effect) → HoldsWithin plan w → HasSlots plan switch
-      → HasSlots plan effect.switch × Tells plan w effect.noted (shown taken effect)
 
 -- ---- a request
 
@@ -68,7 +56,7 @@ pub unwanted_before : (w : World) (blade : ℕ) (page : PageView) (write : Bool)
 unwanted_before w blade page write behind head answers = grind (arith, nat_tests, answers blade page, same_page-refl page)
 
 hears_get : (w : World) (switch : SwitchView) (blade : ℕ) (page : PageView) (write : Bool) (behind : List Msg) → IsCoherent w → Shows w switch → IsSoundSwitch switch → blade < 8
-    → w.ups blade ≡ Get page write ∷ behind → Hears w (heard blade behind w) switch (request_noted blade page write switch)
+    → w.ups blade ≡ Get page write ∷ behind → Follows w (heard blade behind w) switch (request_noted blade page write switch)
 hears_get w switch blade page write behind safe shows sound lt head =
     let request : Request = record { blade = blade; page = page; write = write; fetching = false } in
     let unwanted : wanted_at switch.requests blade page ≡ None = ap (λ f. f blade page) (sym shows.wants) ∙ unwanted_before w blade page write behind head safe.answered in
@@ -88,20 +76,20 @@ hears_get w switch blade page write behind safe shows sound lt head =
         region = sound.region;
       };
       places = record { places = shows.places.places; perms = shows.places.perms };
-      told = λ plan safe_then safe_after holds slots. nothing_noted w (heard blade behind w) switch (request_noted blade page write switch) shows.regions refl refl refl plan slots;
+      told = nothing_noted w (heard blade behind w) switch (request_noted blade page write switch) shows.regions refl refl refl;
     }
 
 -- ---- a page that comes back
 
 hears_back : (w : World) (switch : SwitchView) (blade : ℕ) (page : PageView) (image : PageImageView) (behind : List Msg) → Shows w switch → IsSoundSwitch switch → is_some (w.places page) ≡ true
-    → w.ups blade ≡ Back page image ∷ behind → Hears w (heard blade behind w) switch (went_back page image switch)
+    → w.ups blade ≡ Back page image ∷ behind → Follows w (heard blade behind w) switch (went_back page image switch)
 hears_back w switch blade page image behind shows sound lies head = record {
   moves = by (place_in switch page) refl;
   quiet = λ n. write_quiet (place_in switch page) n;
   asks = λ m. write_asks m (place_in switch page) refl;
   sound = sound;
   places = record { places = shows.places.places; perms = shows.places.perms };
-  told = λ plan safe safe_after holds slots. nothing_noted w (heard blade behind w) switch (went_back page image switch) shows.regions refl refl refl plan slots;
+  told = nothing_noted w (heard blade behind w) switch (went_back page image switch) shows.regions refl refl refl;
 } where
   write_quiet : (o : Option (ℕ × ℕ)) → SendsNoneUp (writing o image)
   write_quiet None n = (refl, refl)
@@ -182,7 +170,7 @@ fit-ended e h = by (is_answered e.busy) (target e.busy h.target) where
   by false s = h
 
 hears_ended : (w : World) (switch : SwitchView) (blade number count : ℕ) (behind : List Msg) → Shows w switch → IsSoundSwitch switch
-    → w.ups blade ≡ Ack number count ∷ behind → Hears w (heard blade behind w) switch (all_ended (transition.acknowledged number blade count switch.directory.entries) switch)
+    → w.ups blade ≡ Ack number count ∷ behind → Follows w (heard blade behind w) switch (all_ended (transition.acknowledged number blade count switch.directory.entries) switch)
 hears_ended w switch blade number count behind shows sound head =
     let es = switch.directory.entries in
     let answer : Entry → Entry = λ e. with_busy (after_answer number blade e.busy) e in
@@ -226,16 +214,16 @@ hears_ended w switch blade number count behind shows sound head =
     answer-state range (Some region) = refl
 
 hears_ack : (w : World) (switch : SwitchView) (blade number count : ℕ) (behind : List Msg) → Shows w switch → IsSoundSwitch switch
-    → w.ups blade ≡ Ack number count ∷ behind → Hears w (heard blade behind w) switch (answered number blade count switch)
+    → w.ups blade ≡ Ack number count ∷ behind → Follows w (heard blade behind w) switch (answered number blade count switch)
 hears_ack w switch blade number count behind shows sound head =
-    subst (Hears w (heard blade behind w) switch) (sym (answered-is number blade count switch)) (hears_ended w switch blade number count behind shows sound head)
+    subst (Follows w (heard blade behind w) switch) (sym (answered-is number blade count switch)) (hears_ended w switch blade number count behind shows sound head)
 
 -- ---- an image
 
 hears_image : (w : World) (switch : SwitchView) (memory blade : ℕ) (page : PageView) (image : PageImageView) (behind : List Msg) → Shows w switch → IsSoundSwitch switch → is_fetching (w.wants blade page) ≡ true
-    → w.froms memory ≡ Image (Some blade) page image ∷ behind → Hears w (record w { froms = put memory behind w.froms }) switch (filled (Some blade) page image switch)
+    → w.froms memory ≡ Image (Some blade) page image ∷ behind → Follows w (record w { froms = put memory behind w.froms }) switch (filled (Some blade) page image switch)
 hears_image w switch memory blade page image behind shows sound fetching head = by (find (is_of blade page) switch.requests) refl where
-  by : (o : Option Request) → find (is_of blade page) switch.requests ≡ o → Hears w (record w { froms = put memory behind w.froms }) switch (filling o image switch)
+  by : (o : Option Request) → find (is_of blade page) switch.requests ≡ o → Follows w (record w { froms = put memory behind w.froms }) switch (filling o image switch)
   by None at = absurd (false≢true (ap is_fetching (sym (ap (λ f. f blade page) shows.wants ∙ ap (option_map wanted_of) at)) ∙ fetching))
   by (Some r) at =
       let same = found-of blade page switch.requests r at in
@@ -256,30 +244,29 @@ hears_image w switch memory blade page image behind shows sound fetching head = 
         asks = λ m. tt;
         sound = without-sound switch r sound;
         places = record { places = shows.places.places; perms = shows.places.perms };
-        told = λ plan safe safe_after holds slots.
-            nothing_noted w (record w { froms = put memory behind w.froms }) switch (filling (Some r) image switch) shows.regions refl refl refl plan slots;
+        told = nothing_noted w (record w { froms = put memory behind w.froms }) switch (filling (Some r) image switch) shows.regions refl refl refl;
       }
 
 -- ---- every message
 
 pub hears_up : (w : World) (switch : SwitchView) (blade : ℕ) (message : Msg) (behind : List Msg) → IsCoherent w → Shows w switch → IsSoundSwitch switch → blade < 8 → LiesWhere w message
-    → w.ups blade ≡ message ∷ behind → Hears w (heard blade behind w) switch (from_blade blade message switch)
+    → w.ups blade ≡ message ∷ behind → Follows w (heard blade behind w) switch (from_blade blade message switch)
 hears_up w switch blade message behind safe shows sound lt lies head = by message lies head (subst (AreUps w blade) head (safe.ups blade)) where
-  by : (m : Msg) → LiesWhere w m → w.ups blade ≡ m ∷ behind → AreUps w blade (m ∷ behind) → Hears w (heard blade behind w) switch (from_blade blade m switch)
+  by : (m : Msg) → LiesWhere w m → w.ups blade ≡ m ∷ behind → AreUps w blade (m ∷ behind) → Follows w (heard blade behind w) switch (from_blade blade m switch)
   by (Get page write) there at known = hears_get w switch blade page write behind safe shows sound lt at
   by (Back page image) there at known = hears_back w switch blade page image behind shows sound there at
   by (Ack number count) there at known = hears_ack w switch blade number count behind shows sound at
   by m there at known = absurd known.0
 
 pub hears_from : (w : World) (switch : SwitchView) (memory : ℕ) (message : Msg) (behind : List Msg) → IsCoherent w → Shows w switch → IsSoundSwitch switch
-    → w.froms memory ≡ message ∷ behind → Hears w (record w { froms = put memory behind w.froms }) switch (from_memory message switch)
+    → w.froms memory ≡ message ∷ behind → Follows w (record w { froms = put memory behind w.froms }) switch (from_memory message switch)
 hears_from w switch memory message behind safe shows sound head = by message head (subst (AreFroms w memory) head (safe.froms memory)) where
-  by : (m : Msg) → w.froms memory ≡ m ∷ behind → AreFroms w memory (m ∷ behind) → Hears w (record w { froms = put memory behind w.froms }) switch (from_memory m switch)
+  by : (m : Msg) → w.froms memory ≡ m ∷ behind → AreFroms w memory (m ∷ behind) → Follows w (record w { froms = put memory behind w.froms }) switch (from_memory m switch)
   by (Image (Some blade) page image) at known = hears_image w switch memory blade page image behind shows sound known.0.1 at
   by m at known = absurd known.0
 
 pub hears : (w : World) (switch : SwitchView) (kind : LinkKind) (number : ℕ) (message : Msg) (behind : List Msg) → IsCoherent w → Shows w switch → IsSoundSwitch switch → number < 8 → LiesWhere w message
-    → IsFirstOn kind number message behind w → Hears w (taken_from kind number behind w) switch (handled_from kind number message switch)
+    → IsFirstOn kind number message behind w → Follows w (taken_from kind number behind w) switch (handled_from kind number message switch)
 hears w switch Up number message behind safe shows sound lt lies first = hears_up w switch number message behind safe shows sound lt lies first
 hears w switch From number message behind safe shows sound lt lies first = hears_from w switch number message behind safe shows sound first
 hears w switch Down number message behind safe shows sound lt lies first = absurd first
@@ -288,29 +275,13 @@ hears w switch To number message behind safe shows sound lt lies first = absurd 
 -- What the switch does with the first message on a link to it, and then by serving, is a run of moves to the
 -- world with that message taken and the switch as it is after.
 pub switch_moves : (w : World) (switch : SwitchView) (link : LinkName) (message : Msg) (behind : List Msg) (effect : SwitchEffect) → IsCoherent w → Shows w switch → IsSoundSwitch switch → link.number < 8 → LiesWhere w message
-    → IsFirstOn link.kind link.number message behind w → Receives link message switch effect
-    → LeadsByMoves w (shown (taken_from link.kind link.number behind w) effect) × Stands (taken_from link.kind link.number behind w) effect
-    × ((plan : RackPlan) → HoldsWithin plan w → HasSlots plan switch → HasSlots plan effect.switch × Tells plan w effect.noted (shown (taken_from link.kind link.number behind w) effect))
+    → IsFirstOn link.kind link.number message behind w → Receives link message switch effect → Follows w (taken_from link.kind link.number behind w) switch effect
 switch_moves w switch link message behind effect safe shows sound lt lies first receives =
-    let taken = taken_from link.kind link.number behind w in
-    let done = handled_from link.kind link.number message switch in
-    let step = hears w switch link.kind link.number message behind safe shows sound lt lies first in
-    let stands : Stands taken done = record { safe = leads_keeps w (shown taken done) safe step.moves; quiet = step.quiet; asks = step.asks; sound = step.sound; places = step.places } in
-    let serves = serving_goes taken done effect stands receives in (
-      leads_on w (shown taken done) (shown taken effect) step.moves serves.0,
-      serves.1,
-      λ plan holds slots.
-          let heard_it = step.told plan safe stands.safe holds slots in
-          let served = serves.2.told plan (taken-holds plan link.kind w holds) heard_it.0 in (
-            served.0,
-            subst (λ noted. Tells plan w noted (shown taken effect)) (sym serves.2.is)
-                (tells_then plan w (shown taken done) (shown taken effect) done.noted serves.2.noted heard_it.1 served.1),
-          ),
-    )
-  where
-    -- the frames are as they were
-    taken-holds : (plan : RackPlan) (kind : LinkKind) (w : World) → HoldsWithin plan w → HoldsWithin plan (taken_from kind link.number behind w)
-    taken-holds plan Up w holds = holds
-    taken-holds plan From w holds = holds
-    taken-holds plan Down w holds = holds
-    taken-holds plan To w holds = holds
+    serves_on w (taken_from link.kind link.number behind w) switch (handled_from link.kind link.number message switch) effect safe (λ plan holds. taken-holds plan link.kind w holds)
+    (hears w switch link.kind link.number message behind safe shows sound lt lies first) (receives-deeds link message switch effect receives) where
+      -- the frames are as they were
+      taken-holds : (plan : RackPlan) (kind : LinkKind) (w : World) → HoldsWithin plan w → HoldsWithin plan (taken_from kind link.number behind w)
+      taken-holds plan Up w holds = holds
+      taken-holds plan From w holds = holds
+      taken-holds plan Down w holds = holds
+      taken-holds plan To w holds = holds

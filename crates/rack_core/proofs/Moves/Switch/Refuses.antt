@@ -25,7 +25,7 @@ allowed v switch r shows e =
     ap (λ f. allows r.write (f r.page)) shows.places.perms ∙ not-false (allows r.write (permission_at switch.protect r.page)) e
 
 pub refuses : (v : World) (switch : SwitchView) (at : ℕ) (r : Request) → Shows v switch → IsSoundSwitch switch → slice_get switch.requests at ≡ Some r → r.fetching ≡ false → is_denied switch r ≡ true
-    → Follows v switch (denied_request r switch)
+    → Follows v v switch (denied_request r switch)
 refuses v switch at r shows sound is idle none = record {
   moves = one_move v (shown v (denied_request r switch)) (Refuses r.blade r.page r.write)
       (wants-got v.wants switch.requests at r shows.wants sound.requests is idle, disallowed v switch r shows none)
@@ -40,5 +40,5 @@ refuses v switch at r shows sound is idle none = record {
   asks = λ m. tt;
   sound = without-sound switch r sound;
   places = record { places = shows.places.places; perms = shows.places.perms };
-  told = λ plan safe holds slots. nothing_noted v v switch (denied_request r switch) shows.regions refl refl refl plan slots;
+  told = nothing_noted v v switch (denied_request r switch) shows.regions refl refl refl;
 }

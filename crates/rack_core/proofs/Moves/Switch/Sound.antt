@@ -17,7 +17,7 @@ use Rattle.rack_core.proofs.Lists.Parts.{all-same}
 
 -- ---- soundness
 
-all-from : {X : Type 0} (P : X → Type 0) (xs : List X) → All P xs → AllByRecursion P xs
+pub all-from : {X : Type 0} (P : X → Type 0) (xs : List X) → All P xs → AllByRecursion P xs
 all-from P [] h = tt
 all-from P (x ∷ xs) h = (h 0 x (omega arith), all-from P xs (λ k d lt. h (suc k) d (omega arith)))
 

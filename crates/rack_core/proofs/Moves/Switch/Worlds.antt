@@ -10,8 +10,6 @@ use Rattle.mind_base.specs.declared.commands.Perm.TheVariants.{No}
 use Rattle.mind_base.specs.declared.links.LinkKind.{LinkKind}
 use Rattle.mind_base.specs.declared.links.LinkKind.TheVariants.{Up, Down, To, From}
 use Rattle.mind_base.specs.Range.{in_range}
-use Rattle.mind_base.specs.declared.notes.Note.{Note}
-use Rattle.mind_base.specs.declared.plans.RackPlan.{RackPlan}
 use Rattle.mind_base.specs.Permission.{allows}
 use Rattle.region_directory.specs.Entry.{changed_at}
 use Rattle.region_directory.specs.declared.entries.Entry.{Entry}
@@ -21,18 +19,15 @@ use Rattle.request_list.proofs.Callers.{apart-filter}
 use Rattle.wire_msg.specs.declared.msgs.Msg.{Msg}
 use Rattle.switch_core.specs.Switch.{SwitchView, SwitchEffect, and_then, only, to_memory, with_entries, with_requests}
 use Rattle.switch_core.specs.Treating.{without_request}
-use Rattle.switch_core.proofs.Callers.{all-append, all-filter}
+use Rattle.switch_core.proofs.Callers.{all-filter}
 use Rattle.switch_core.specs.Invariant.{IsFitEntry}
-use Rattle.coherence.specs.Facts.{IsCoherent}
-use Rattle.coherence.specs.Lawful.{Tells}
 use Rattle.coherence.specs.World.{Region, Wanted, World, put, put_both, put_range}
-use Rattle.coherence.proofs.Callers.{tells_nothing, tells_then, alike-same}
 use Rattle.rack_core.specs.Seen.{sent_on, region_of, region_at, wanted_at}
-use Rattle.rack_core.specs.SwitchMoves.{shown, Shows, HasPlaces, IsSoundSwitch, SendsNoneUp, AsksAt, AskPlaces, LeadsByMoves, AreEntriesApart, HasSlots}
-use Rattle.rack_core.proofs.Log.Held.SwitchNotes.{HoldsWithin, IsTold}
+use Rattle.rack_core.specs.SwitchMoves.{shown, Shows, HasPlaces, IsSoundSwitch, SendsNoneUp, AsksAt, AskPlaces, LeadsByMoves, AreEntriesApart}
+use Rattle.rack_core.proofs.Log.Held.SwitchNotes.{IsTold}
 use Rattle.rack_core.proofs.Moves.Switch.Lookups.{region_at-first, first-changed, first-got}
 use Rattle.rack_core.proofs.Moves.Switch.Requests.{wanted-got, wanted-without, wanted-fetching}
-use Rattle.rack_core.proofs.Moves.Runs.{sent_on-append, leads_keeps, leads_on, stay}
+use Rattle.rack_core.proofs.Moves.Runs.{sent_on-append}
 
 -- an effect after another, seen from the world that the first one leads to
 pub shown-then : (w : World) (done : SwitchEffect) (change : SwitchView → SwitchEffect) → shown w (and_then done change) ≡ shown (shown w done) (change done.switch)
@@ -105,89 +100,15 @@ asked_there places m place message there = by (m == place.0) refl where
 
 -- ---- steps
 
--- what follows from a step of the switch: moves, and it is sound still, with the same places and permissions, and its
--- notes tell of it
-pub record Follows (v : World) (switch : SwitchView) (effect : SwitchEffect) : Type 0 where
-  pub moves : LeadsByMoves v (shown v effect)
+-- What follows from a step of the switch, behind a message that may have been taken: moves, and it is sound still, with
+-- the same places and permissions, and its notes tell of it.
+pub record Follows (w taken : World) (switch : SwitchView) (effect : SwitchEffect) : Type 0 where
+  pub moves : LeadsByMoves w (shown taken effect)
   pub quiet : SendsNoneUp effect.sent
-  pub asks : AskPlaces v.places effect.sent
+  pub asks : AskPlaces taken.places effect.sent
   pub sound : IsSoundSwitch effect.switch
-  pub places : HasPlaces v effect.switch
-  pub told : IsTold v switch effect
-
--- a world in which the switch is seen, sound, and what is done there
-pub record Stands (w : World) (done : SwitchEffect) : Type 0 where
-  pub safe : IsCoherent (shown w done)
-  pub quiet : SendsNoneUp done.sent
-  pub asks : AskPlaces w.places done.sent
-  pub sound : IsSoundSwitch done.switch
-  pub places : HasPlaces w done.switch
-
--- what was noted after something was done tells of what was done then
-pub record Adds (w : World) (done after : SwitchEffect) : Type 0 where
-  pub noted : List Note
-  pub is : after.noted ≡ done.noted ++ noted
-  pub told : (plan : RackPlan) → HoldsWithin plan w → HasSlots plan done.switch → HasSlots plan after.switch × Tells plan (shown w done) noted (shown w after)
-
--- moves lead on from what was done, all that is true of the switch stays true, and its notes tell of it
-abbrev pub Goes : World → SwitchEffect → SwitchEffect → Type 0
-Goes w done after = LeadsByMoves (shown w done) (shown w after) × Stands w after × Adds w done after
-
--- where the moves of a step lead from what was done
-pub follow : (w : World) (done : SwitchEffect) (change : SwitchView → SwitchEffect) → Stands w done → Follows (shown w done) done.switch (change done.switch) → Goes w done (and_then done change)
-follow w done change stands step =
-    let next = shown w (and_then done change) in
-    let same : shown (shown w done) (change done.switch) ≡ next = sym (shown-then w done change) in
-    let moves : LeadsByMoves (shown w done) next = subst (λ v. LeadsByMoves (shown w done) v) same step.moves in
-    let safe : IsCoherent next = leads_keeps (shown w done) next stands.safe moves in (
-      moves,
-      record {
-        safe = safe;
-        quiet = λ n. (
-          sent_on-append Up n done.sent (change done.switch).sent ∙ ap (λ s. s ++ sent_on Up n (change done.switch).sent) (stands.quiet n).0 ∙ (step.quiet n).0,
-          sent_on-append From n done.sent (change done.switch).sent ∙ ap (λ s. s ++ sent_on From n (change done.switch).sent) (stands.quiet n).1 ∙ (step.quiet n).1,
-        );
-        asks = λ m. subst (λ s. AllByRecursion (AsksAt w.places m) s) (sym (sent_on-append To m done.sent (change done.switch).sent))
-            (all-append (AsksAt w.places m) (sent_on To m done.sent) (sent_on To m (change done.switch).sent) (stands.asks m) (step.asks m));
-        sound = step.sound;
-        places = record { places = step.places.places; perms = step.places.perms };
-      },
-      record {
-        noted = (change done.switch).noted;
-        is = refl;
-        told = λ plan holds slots.
-            let told = step.told plan (subst IsCoherent (sym same) safe) holds slots in
-            (told.0, subst (λ v. Tells plan (shown w done) (change done.switch).noted v) same told.1);
-      },
-    )
-
-pub goes_nowhere : (w : World) (done : SwitchEffect) → Stands w done → Goes w done done
-goes_nowhere w done stands = (
-  stay (shown w done),
-  stands,
-  record {
-    noted = [];
-    is = sym (append-nil done.noted);
-    told = λ plan holds slots. (slots, tells_nothing plan (shown w done) (shown w done) (alike-same (shown w done) (shown w done) refl refl));
-  },
-)
-
-pub goes_on : (w : World) (a b c : SwitchEffect) → Goes w a b → (Stands w b → Goes w b c) → Goes w a c
-goes_on w a b c first next =
-    let later = next first.1 in
-    let one = first.2 in
-    let two = later.2 in (
-      leads_on (shown w a) (shown w b) (shown w c) first.0 later.0,
-      later.1,
-      record {
-        noted = one.noted ++ two.noted;
-        is = two.is ∙ ap (λ n. n ++ two.noted) one.is ∙ append_assoc a.noted one.noted two.noted;
-        told = λ plan holds slots.
-            let before = one.told plan holds slots in
-            let after = two.told plan holds before.0 in
-            (after.0, tells_then plan (shown w a) (shown w b) (shown w c) one.noted two.noted before.1 after.1);
-      },
-    )
+  pub places : HasPlaces taken effect.switch
+  pub told : IsTold w taken switch effect
 
 -- ---- entries and requests, seen as functions
 
