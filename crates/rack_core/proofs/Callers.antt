@@ -1,9 +1,9 @@
 -- What the proofs of other crates may cite.
-pub use Rattle.rack_core.proofs.Code.Events.{few-links, of-rack}
 pub use Rattle.rack_core.proofs.Events.Delivering.{asks_taken, gave_on, with_net-sound}
 pub use Rattle.rack_core.proofs.Events.Handing.{each-handed}
 pub use Rattle.rack_core.proofs.Events.Sending.{as-many}
 pub use Rattle.rack_core.proofs.Events.Whole.{event_keeps, run_keeps-all}
+pub use Rattle.rack_core.proofs.Functions.Events.{few-links, of-rack}
 pub use Rattle.rack_core.proofs.Lists.Lookups.{Entries, found-put_fresh, found-put_pushed, found-put_replaced, slice_get-set, slice_get-set_other}
 pub use Rattle.rack_core.proofs.Lists.Parts.{all_front, append-none}
 pub use Rattle.rack_core.proofs.Lists.Sums.{below-changed}

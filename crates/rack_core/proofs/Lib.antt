@@ -1,6 +1,6 @@
 pub mod Callers
-pub mod Code
 pub mod Events
+pub mod Functions
 pub mod Lists
 pub mod Log
 pub mod Machine

@@ -5,7 +5,7 @@ use Rattle.mind_base.specs.declared.plans.RackPlan.{RackPlan}
 use Rattle.compute_blade.specs.Blade.{HasSpent}
 use Rattle.rack_core.specs.HartActs.{hart_acted}
 use Rattle.rack_core.specs.Rack.{RackView}
-use Rattle.rack_core.proofs.Code.Blades.{there, spent-place, blade-within, blade-own, blade-plan, did-agrees, did-sent, of-net, hart-at, hart-acted, shape-acted, acted-acts, act-leads}
+use Rattle.rack_core.proofs.Functions.Blades.{there, spent-place, blade-within, blade-own, blade-plan, did-agrees, did-sent, of-net, hart-at, hart-acted, shape-acted, acted-acts, act-leads}
 use Rattle.rack_core.proofs.racks.Rack.act.Goals as goal
 
 pub let_act-requires : goal.let_act-requires

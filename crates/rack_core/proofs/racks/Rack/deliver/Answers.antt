@@ -7,9 +7,9 @@ use Rattle.rack_core.specs.Events.{Hands, HandsAll, Leads}
 use Rattle.rack_core.specs.Handing.{IsHanding}
 use Rattle.rack_core.specs.Rack.{RackView, with_net}
 use Rattle.rack_core.specs.Shape.{IsShaped}
-use Rattle.rack_core.proofs.Code.Blades.{when-ok}
-use Rattle.rack_core.proofs.Code.Hands.{handing-first, delivered}
-use Rattle.rack_core.proofs.Code.Net.{link-there, shape-only}
+use Rattle.rack_core.proofs.Functions.Blades.{when-ok}
+use Rattle.rack_core.proofs.Functions.Hands.{handing-first, delivered}
+use Rattle.rack_core.proofs.Functions.Net.{link-there, shape-only}
 use Rattle.rack_core.proofs.racks.Rack.deliver.Goals as goal
 
 pub deliver-requires : goal.deliver-requires

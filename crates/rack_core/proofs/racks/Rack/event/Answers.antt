@@ -1,5 +1,5 @@
-use Rattle.rack_core.proofs.Code.Blades.{when-ok, both-ok}
-use Rattle.rack_core.proofs.Code.Events.{kept-after, of-rack}
+use Rattle.rack_core.proofs.Functions.Blades.{when-ok, both-ok}
+use Rattle.rack_core.proofs.Functions.Events.{kept-after, of-rack}
 use Rattle.rack_core.proofs.Log.Places.Events.{places_of, shaped-own}
 use Rattle.rack_core.proofs.Machine.Logs.{event-logs}
 use Rattle.rack_core.proofs.Machine.Shaped.{shaped-counted}

@@ -2,7 +2,7 @@ use Rattle.std.proofs.Common.{ap, Some, rules}
 use Rattle.compute_blade.specs.Pages.{given_up}
 use Rattle.compute_blade.proofs.Callers.{gives}
 use Rattle.rack_core.specs.Rack.{RackView}
-use Rattle.rack_core.proofs.Code.Blades.{did-agrees, did-sent, of-net, number-within, number-at, blade-acted, shape-acted}
+use Rattle.rack_core.proofs.Functions.Blades.{did-agrees, did-sent, of-net, number-within, number-at, blade-acted, shape-acted}
 use Rattle.rack_core.proofs.racks.Rack.evict.Goals as goal
 
 pub send_up-requires-clause-of_rack : goal.send_up-requires-clause-of_rack

@@ -4,7 +4,7 @@ use Rattle.std.proofs.lemmas.List.Elements.{All-pop}
 use Rattle.wire_msg.specs.WellFormed.{IsWellFormed}
 use Rattle.rack_core.specs.Calls.{HasLink}
 use Rattle.rack_core.specs.Handing.{IsHanding}
-use Rattle.rack_core.proofs.Code.Hands.{HandsOnward, last-first, one-handed, all-handed-over, handing-next}
+use Rattle.rack_core.proofs.Functions.Hands.{HandsOnward, last-first, one-handed, all-handed-over, handing-next}
 use Rattle.rack_core.proofs.Events.MayHand.{may-hand, handing-allowed}
 use Rattle.rack_core.proofs.racks.Rack.hand_all.Goals as goal
 

@@ -2,7 +2,7 @@ use Rattle.std.proofs.Common.{◌≡◌, length, reverse, All}
 use Rattle.wire_msg.specs.WellFormed.{IsWellFormed}
 use Rattle.rack_core.specs.Handing.{IsHanding}
 use Rattle.rack_core.specs.Shape.{IsShaped}
-use Rattle.rack_core.proofs.Code.Hands.{HandsOnward}
+use Rattle.rack_core.proofs.Functions.Hands.{HandsOnward}
 use Rattle.rack_core.proofs.racks.Rack.hand_all.Given as goal
 
 -- what is left may be handed over, and is the rest of what was to be handed over at first

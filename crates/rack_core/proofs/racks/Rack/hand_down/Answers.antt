@@ -5,7 +5,7 @@ use Rattle.mind_base.specs.declared.plans.RackPlan.{RackPlan}
 use Rattle.compute_blade.specs.Messages.{after_message}
 use Rattle.compute_blade.proofs.Callers.{message_acts}
 use Rattle.rack_core.specs.Rack.{RackView}
-use Rattle.rack_core.proofs.Code.Blades.{there, blade-plan, some-spent, spent-place, did-agrees, did-sent, of-net, number-within, number-at, blade-acted, shape-acted}
+use Rattle.rack_core.proofs.Functions.Blades.{there, blade-plan, some-spent, spent-place, did-agrees, did-sent, of-net, number-within, number-at, blade-acted, shape-acted}
 use Rattle.rack_core.proofs.racks.Rack.hand_down.Goals as goal
 
 pub receive-requires-clause-images : goal.receive-requires-clause-images

@@ -1,6 +1,6 @@
 use Rattle.std.proofs.Common.{sym, ◌∙◌, refl, Some, None}
-use Rattle.rack_core.proofs.Code.Blades.{when-ok}
-use Rattle.rack_core.proofs.Code.Switch.{memory-there, memory-at, memory-same, memory-heard, memory-shape, answer-sent}
+use Rattle.rack_core.proofs.Functions.Blades.{when-ok}
+use Rattle.rack_core.proofs.Functions.Switch.{memory-there, memory-at, memory-same, memory-heard, memory-shape, answer-sent}
 use Rattle.rack_core.proofs.racks.Rack.hand_to_memory.Goals as goal
 
 pub handle-requires : goal.handle-requires

@@ -1,8 +1,8 @@
 use Rattle.std.proofs.Common.{sym, subst, refl, rules}
 use Rattle.rack_core.specs.Rack.{RackView, with_net, with_switch}
 use Rattle.rack_core.specs.Shape.{IsShaped}
-use Rattle.rack_core.proofs.Code.Blades.{when-ok}
-use Rattle.rack_core.proofs.Code.Switch.{switch-shape}
+use Rattle.rack_core.proofs.Functions.Blades.{when-ok}
+use Rattle.rack_core.proofs.Functions.Switch.{switch-shape}
 use Rattle.rack_core.proofs.racks.Rack.hand_to_switch.Goals as goal
 
 pub returns-clause-leaves : goal.returns-clause-leaves

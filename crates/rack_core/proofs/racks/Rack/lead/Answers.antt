@@ -3,7 +3,7 @@ use Rattle.mind_base.specs.declared.events.Event.{Event}
 use Rattle.std.specs.Prelude.{OnOk}
 use Rattle.rack_core.specs.Calls.{Notes}
 use Rattle.rack_core.specs.Events.{Leads}
-use Rattle.rack_core.proofs.Code.Events.{silent}
+use Rattle.rack_core.proofs.Functions.Events.{silent}
 use Rattle.rack_core.proofs.racks.Rack.lead.Goals as goal
 
 pub returns-in-Evict-clause-leads : goal.returns-in-Evict-clause-leads

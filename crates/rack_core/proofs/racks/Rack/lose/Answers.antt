@@ -1,7 +1,7 @@
 use Rattle.std.proofs.Common.{sym, subst}
 use Rattle.rack_core.specs.Rack.{RackView}
 use Rattle.rack_core.specs.Shape.{IsShaped}
-use Rattle.rack_core.proofs.Code.Net.{shape-only}
+use Rattle.rack_core.proofs.Functions.Net.{shape-only}
 use Rattle.rack_core.proofs.racks.Rack.lose.Goals as goal
 
 pub returns-clause-shape : goal.returns-clause-shape

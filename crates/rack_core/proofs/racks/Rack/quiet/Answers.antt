@@ -2,7 +2,7 @@ use Rattle.std.proofs.Common.{sym, subst}
 use Rattle.switch_core.specs.Handling.{IsQuietSwitch}
 use Rattle.rack_core.specs.Calls.{HasNoFrame, KeepsNothing}
 use Rattle.rack_core.specs.Rack.{RackView}
-use Rattle.rack_core.proofs.Code.Events.{not-true}
+use Rattle.rack_core.proofs.Functions.Events.{not-true}
 use Rattle.rack_core.proofs.racks.Rack.quiet.Goals as goal
 
 pub returns-then-not-has_no_frame : goal.returns-then-not-has_no_frame

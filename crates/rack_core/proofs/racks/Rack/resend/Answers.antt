@@ -1,8 +1,8 @@
 use Rattle.std.proofs.Common.{sym, subst}
 use Rattle.rack_core.specs.Rack.{RackView}
 use Rattle.rack_core.specs.Shape.{IsShaped}
-use Rattle.rack_core.proofs.Code.Blades.{when-ok}
-use Rattle.rack_core.proofs.Code.Net.{shape-only}
+use Rattle.rack_core.proofs.Functions.Blades.{when-ok}
+use Rattle.rack_core.proofs.Functions.Net.{shape-only}
 use Rattle.rack_core.proofs.racks.Rack.resend.Goals as goal
 
 pub returns-clause-shape : goal.returns-clause-shape

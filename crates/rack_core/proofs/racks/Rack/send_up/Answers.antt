@@ -3,7 +3,7 @@ use Rattle.mind_base.specs.declared.links.LinkKind.TheVariants.{Up}
 use Rattle.rack_net.specs.Net.{IsNet}
 use Rattle.rack_core.specs.Events.{SendsAll, on}
 use Rattle.rack_core.specs.Rack.{RackView, with_net}
-use Rattle.rack_core.proofs.Code.Blades.{when-ok}
+use Rattle.rack_core.proofs.Functions.Blades.{when-ok}
 use Rattle.rack_core.proofs.racks.Rack.send_up.Goals as goal
 
 pub returns-clause-ok : goal.returns-clause-ok

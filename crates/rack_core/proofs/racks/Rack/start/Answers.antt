@@ -1,7 +1,7 @@
 use Rattle.std.proofs.Common.{◌≡◌, ◌∙◌, ap, map, refl, length, rules, arith}
 use Rattle.rack_core.specs.Rack.{RackView}
 use Rattle.rack_core.specs.Start.{IsStart, first_memory}
-use Rattle.rack_core.proofs.Code.Starts.{first-shape}
+use Rattle.rack_core.proofs.Functions.Starts.{first-shape}
 use Rattle.rack_core.proofs.Events.Served.{start-served}
 use Rattle.rack_core.proofs.Machine.Starts.{start-logs}
 use Rattle.rack_core.proofs.Events.Starting.{starts}

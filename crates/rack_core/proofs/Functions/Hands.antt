@@ -14,7 +14,7 @@ use Rattle.rack_core.specs.Events.{Hands, HandsTo, HandsAll, Leads}
 use Rattle.rack_core.specs.Handing.{IsHanding}
 use Rattle.rack_core.specs.Rack.{RackView, with_net}
 use Rattle.coherence.specs.Facts.{IsCoherent}
-use Rattle.rack_core.proofs.Code.Events.{few-links}
+use Rattle.rack_core.proofs.Functions.Events.{few-links}
 use Rattle.rack_core.proofs.Events.Delivering.{gave_on, with_net-sound, asks_taken}
 use Rattle.rack_core.proofs.Events.Handing.{handed_over}
 
