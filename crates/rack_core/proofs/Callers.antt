@@ -19,14 +19,16 @@ pub use Rattle.rack_core.proofs.Machine.Mids.{taken-silent}
 pub use Rattle.rack_core.proofs.Machine.Shaped.{shaped-counted}
 pub use Rattle.rack_core.proofs.Machine.Silent.{receives-silent}
 pub use Rattle.rack_core.proofs.Machine.Starts.{start-logs}
+unfoldable pub use Rattle.rack_core.proofs.Moves.Blade.Deeds.{buffer_of}
 pub use Rattle.rack_core.proofs.Moves.Blade.Fills.{Ends, resumed-is}
 unfoldable pub use Rattle.rack_core.proofs.Moves.Blade.Fills.{awaking}
 pub use Rattle.rack_core.proofs.Moves.Blade.Handed.{blade_handed, did, handed_may_come}
 pub use Rattle.rack_core.proofs.Moves.Blade.Resuming.{resumes-as}
-pub use Rattle.rack_core.proofs.Moves.Blade.Sound.{of_found}
+pub use Rattle.rack_core.proofs.Moves.Blade.Sound.{hart_in-set, of_found}
 pub use Rattle.rack_core.proofs.Moves.Blade.Steps.{OfHart, for_hart-some}
 pub use Rattle.rack_core.proofs.Moves.Switch.Sets.{one-here, one-other, with-here}
 pub use Rattle.rack_core.proofs.Waits.GoOn.{carried, resumes}
 pub use Rattle.rack_core.proofs.Waits.Messages.{message_keeps, out_for}
+pub use Rattle.rack_core.proofs.Waits.Queues.{deed_fits}
 pub use Rattle.rack_core.proofs.Waits.Quiet.{quiet-rack}
 pub use Rattle.rack_core.proofs.Waits.Runs.{blade_keeps, event_needs, run_needs, start_needs}

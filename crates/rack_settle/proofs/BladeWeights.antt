@@ -1,10 +1,11 @@
 -- A compute blade that handles a message makes the weight of what is still to come less.
-use Rattle.std.proofs.Common.{◌≡◌, ℕ, zero, suc, ◌+◌, ◌-◌, ◌*◌, ◌≤◌, Bool, true, false, cond, ap, sym, refl, subst, ◌∙◌, List, [], ◌∷◌, take, slice_get, Option, Some, None, arith}
-use Rattle.std.specs.Prelude.{if◌then◌else◌, IsSomeAnd}
+use Rattle.std.proofs.Common.{◌≡◌, ℕ, zero, suc, ◌+◌, ◌-◌, ◌*◌, ◌≤◌, Bool, true, false, ◌==◌, ◌||◌, ◌&&◌, cond, ap, sym, refl, subst, ◌∙◌, List, [], ◌∷◌, ◌++◌, length, take, drop, slice_get, slice_set, Option, Some, None, arith}
+use Rattle.std.specs.Prelude.{if◌then◌else◌, IsSomeAnd, option_and_then}
 use Rattle.std.specs.List.{AllByRecursion}
 use Rattle.std.specs.Map.{set_value}
 use Rattle.std.specs.Option.{option_map_or}
-use Rattle.std.proofs.lemmas.Option.{same_Some}
+use Rattle.std.proofs.lemmas.Bool.Decides.{nat_tests}
+use Rattle.std.proofs.lemmas.Option.{none-some, same_Some}
 use Rattle.mind_base.specs.Page.{PageView}
 use Rattle.mind_base.specs.Pending.{PendingView}
 use Rattle.mind_base.specs.Place.{place_of, page_at, offset_at}
@@ -13,20 +14,23 @@ use Rattle.mind_base.specs.declared.ends.End.{End}
 use Rattle.mind_base.specs.declared.ends.End.TheVariants.{Running, Exit, Fault}
 use Rattle.mind_base.specs.declared.images.Image.{Image}
 use Rattle.mind_base.specs.declared.plans.ThreadPlan.{ThreadPlan}
-use Rattle.hart_effect.specs.Deed.{Deed, Alone, Storing, carried_out, found}
+use Rattle.hart_effect.specs.Access.{Around}
+use Rattle.hart_effect.specs.Deed.{Deed, Alone, Storing, carried_out, drains_first, found, is_store, must_wait}
+use Rattle.hart_effect.specs.Thread.{Thread}
 use Rattle.hart_effect.specs.declared.finds.Found.{Found}
+use Rattle.hart_effect.specs.declared.finds.Found.TheVariants.{Outside, Unknown, Asks}
 use Rattle.page_cache.specs.PageCache.{CacheView, same_page, frame_of, without_page, with_first, written_frame, lowered_frame, entries_after_put, put_from, is_writable}
 use Rattle.page_cache.specs.declared.frames.Frame.{Frame}
 use Rattle.page_cache.proofs.Callers.{same_page-refl}
 use Rattle.page_image.specs.PageImage.{PageImageView}
 use Rattle.wire_msg.specs.declared.msgs.Msg.{Msg}
-use Rattle.wire_msg.specs.declared.msgs.Msg.TheVariants.{Fill, Deny, Back, Inv, Lower, Ack}
-use Rattle.compute_blade.specs.Blade.{HartView, BladeView, BladeEffect, request_for, and_then}
-use Rattle.compute_blade.specs.Denials.{denial_in, refused_by}
+use Rattle.wire_msg.specs.declared.msgs.Msg.TheVariants.{Get, Fill, Deny, Back, Inv, Lower, Ack}
+use Rattle.compute_blade.specs.Blade.{HartView, BladeView, BladeEffect, hart_of, is_asked, with_hart, request_for, only, and_then}
+use Rattle.compute_blade.specs.Denials.{denial_in, faulting, refused_by}
 use Rattle.compute_blade.specs.Frames.{around_held, thread_of}
 use Rattle.compute_blade.specs.Messages.{FitsFill, MayComeToBlade, awake, need_asked, answered_by, resumed_at, resumed_by, resumed, resumed_for, acknowledging, after_message}
 use Rattle.compute_blade.specs.Pages.{back_of, giving_up, given_up, lowering, lowered, each_in, held_in, writable_in, spared, sent_out, taken}
-use Rattle.compute_blade.specs.Steps.{need_in, frames_after, next_tag, frames_with, performed_by, asking, drained, draining_by}
+use Rattle.compute_blade.specs.Steps.{need_in, frames_after, hart_after, next_tag, one_more_store, frames_with, performed_by, waiting, asking, drained, draining_by, drain_of, blade_after_drain}
 use Rattle.compute_blade.specs.declared.kept.Answer.{Answer}
 use Rattle.compute_blade.specs.declared.kept.Answer.TheVariants.{Filled, Denied}
 use Rattle.compute_blade.specs.declared.kept.Asked.{Asked}
@@ -35,10 +39,11 @@ use Rattle.compute_blade.specs.declared.kept.Need.{Need}
 use Rattle.compute_blade.specs.declared.kept.Waits.{Waits}
 use Rattle.compute_blade.specs.declared.kept.Waits.TheVariants.{Step, Drain}
 use Rattle.coherence.specs.Counts.{bit}
-use Rattle.rack_core.specs.BladeMoves.{IsRequestBy, IsRequest}
-use Rattle.rack_core.proofs.Callers.{Ends, awaking, resumed-is, of_found, Entries, bit-most, marked, marked-cons, resumes-as}
+use Rattle.rack_core.specs.BladeMoves.{IsRequestBy, IsRequest, hart_in}
+use Rattle.rack_core.proofs.Callers.{Ends, awaking, resumed-is, of_found, Entries, bit-most, marked, marked-cons, resumes-as, buffer_of, deed_fits, hart_in-set}
+use Rattle.rack_settle.proofs.ListSums.{sum-set}
 use Rattle.rack_settle.proofs.SentWeights.{messages-append}
-use Rattle.rack_settle.specs.Weight.{weight_of, messages_weight, blade_weight}
+use Rattle.rack_settle.specs.Weight.{weight_of, messages_weight, left_to_drain, hart_weight, harts_weight, blade_weight, HasToDrain}
 
 -- ---- dirty frames
 
@@ -143,12 +148,107 @@ takes-adds page perm writable image blade = by (frame_of page blade.cache.entrie
   new = record { image = image; writable = writable; dirty = false; perm = perm }
 
   by : (held : Option Frame) (last : Option (PageView × Frame)) → frame_of page blade.cache.entries ≡ held → slice_get blade.cache.entries (blade.cache.frames - 1) ≡ last
-      → 3 * dirty (option_map_or (λ old. (page, new) ∷ without_page page blade.cache.entries) held ((page, new) ∷ take (blade.cache.frames - 1) blade.cache.entries)) + messages_weight (sent_out (put_from held last))
-      ≤ 3 * dirty blade.cache.entries + 0
+      → 3 * dirty (option_map_or (λ old. (page, new) ∷ without_page page blade.cache.entries) held ((page, new) ∷ take (blade.cache.frames - 1) blade.cache.entries)) + harts_weight blade.harts
+      + messages_weight (sent_out (put_from held last)) ≤ 3 * dirty blade.cache.entries + harts_weight blade.harts + 0
   by (Some old) last e f = omega (arith, dirty-cons (page, new) (without_page page blade.cache.entries), dirty-without page blade.cache.entries old e)
   by None None e f = omega (arith, dirty-cons (page, new) (take (blade.cache.frames - 1) blade.cache.entries), dirty-take (blade.cache.frames - 1) blade.cache.entries)
   by None (Some last) e f =
       omega (arith, dirty-cons (page, new) (take (blade.cache.frames - 1) blade.cache.entries), dirty-next (blade.cache.frames - 1) blade.cache.entries last f, back-weight last.0 last.1)
+
+-- ---- harts
+
+-- a hart changes, and with it the harts' weight
+harts-set : (harts : List (Option HartView)) (h : ℕ) (old new : HartView) → hart_in harts h ≡ Some old → harts_weight (slice_set harts h (Some new)) + hart_weight old ≡ harts_weight harts + hart_weight new
+harts-set harts h old new own = sum-set (λ hart. option_map_or hart_weight hart 0) harts h (Some old) (Some new) (there (slice_get harts h) own) where
+  there : (o : Option (Option HartView)) → option_and_then (λ hart. hart) o ≡ Some old → o ≡ Some (Some old)
+  there None e = absurd (none-some old e)
+  there (Some hart) e = ap Some e
+
+waits-once : (b : Bool) → b ≡ true → (let n : ℕ = if b then 1 else 0 in n) ≡ 1
+waits-once b e = ap (λ t. let n : ℕ = if t then 1 else 0 in n) e
+
+-- one that goes on with a store more, or with none more
+buffer-adds : (draining : Bool) (old new : List PendingView) → length new ≤ length old + 1
+    → length (if draining then drop 1 new else new) ≤ length (if draining then drop 1 old else old) + 1
+buffer-adds false old new le = le
+buffer-adds true [] [] le = omega arith
+buffer-adds true [] (n ∷ new) le = omega (arith, le)
+buffer-adds true (o ∷ old) [] le = omega arith
+buffer-adds true (o ∷ old) (n ∷ new) le = omega (arith, le)
+
+-- one whose step no longer waits, and one whose drain no longer does
+awake-step : (hart : HartView) → hart.stepping ≡ true → hart_weight (awake Step hart) + 15 ≡ hart_weight hart
+awake-step hart e = omega (arith, waits-once hart.stepping e)
+
+awake-drain : (hart : HartView) (oldest : PendingView) (newer : List PendingView) → hart.draining ≡ true → hart.queue.stores ≡ oldest ∷ newer → hart_weight (awake Drain hart) ≡ hart_weight hart + 15
+awake-drain hart oldest newer e queue =
+    let before : length (left_to_drain hart) ≡ length newer = (λ i. length (if e i then drop 1 (queue i) else queue i)) in
+    let after : length hart.queue.stores ≡ length newer + 1 = ap length queue ∙ (let more : length (oldest ∷ newer) ≡ length newer + 1 = omega arith in more) in
+    omega (arith, before, after)
+
+-- ---- what is drained
+
+-- what is done to the blade takes at least so much away
+abbrev TakesAtLeast : ℕ → BladeView → BladeEffect → Type 0
+TakesAtLeast n blade effect = blade_weight effect.blade + messages_weight effect.sent + n ≤ blade_weight blade
+
+stored-dirty : (domain : ℕ) (store : PendingView) (tag : ℕ) (entries : Entries) → dirty (frames_with domain store tag entries) ≤ dirty entries + 1
+stored-dirty domain store tag entries =
+    dirty-first (written_frame (offset_at (place_of domain store.address)) store.size store.value tag) (page_at (place_of domain store.address)) entries
+
+-- the oldest store takes effect
+drained-takes : (h : ℕ) (plan : ThreadPlan) (oldest : PendingView) (newer : List PendingView) (blade : BladeView) (hart : HartView) → hart_in blade.harts h ≡ Some hart → hart.draining ≡ false
+    → hart.queue.stores ≡ oldest ∷ newer → TakesAtLeast 12 blade (drained h plan oldest newer blade hart)
+drained-takes h plan oldest newer blade hart own idle queue =
+    let new : HartView = one_more_store (record hart { queue = record hart.queue { stores = newer } }) in
+    let before : length (left_to_drain hart) ≡ length newer + 1 = (λ i. length (if idle i then drop 1 (queue i) else queue i)) ∙ (let more : length (oldest ∷ newer) ≡ length newer + 1 = omega arith in more) in
+    let after : length (left_to_drain new) ≡ length newer = ap (λ b. length (if b then drop 1 newer else newer)) idle in
+    omega (arith, stored-dirty plan.domain oldest (next_tag h hart.stores) blade.cache.entries, harts-set blade.harts h hart new own, before, after)
+
+-- or its page is asked for
+asked-takes : (h : ℕ) (need : Need) (oldest : PendingView) (newer : List PendingView) (blade : BladeView) (hart : HartView) → hart_in blade.harts h ≡ Some hart → hart.draining ≡ false
+    → hart.queue.stores ≡ oldest ∷ newer → is_asked need.page blade.requests ≡ false → TakesAtLeast 1 blade (asking h Drain need blade hart)
+asked-takes h need oldest newer blade hart own idle queue unasked = subst (λ b. TakesAtLeast 1 blade (if b then only blade else asks)) (sym unasked) takes where
+  new : HartView
+  new = record hart { draining = true }
+
+  asks : BladeEffect
+  asks = record {
+    blade = with_hart h (waiting Drain hart) (record blade { requests = blade.requests ++ record { page = need.page; write = need.write; hart = h; waits = Drain } ∷ [] });
+    sent = Get need.page need.write ∷ [];
+    noted = [];
+  }
+
+  takes : TakesAtLeast 1 blade (record {
+    blade = with_hart h (waiting Drain hart) (record blade { requests = blade.requests ++ record { page = need.page; write = need.write; hart = h; waits = Drain } ∷ [] });
+    sent = Get need.page need.write ∷ [];
+    noted = [];
+  })
+  takes =
+      let before : length (left_to_drain hart) ≡ length newer + 1 = (λ i. length (if idle i then drop 1 (queue i) else queue i)) ∙ (let more : length (oldest ∷ newer) ≡ length newer + 1 = omega arith in more) in
+      let after : length (drop 1 hart.queue.stores) ≡ length newer = ap (λ q. length (drop 1 q)) queue in
+      omega (arith, harts-set blade.harts h hart (record hart { draining = true }) own, before, after)
+
+pub drain_lightens : (h : ℕ) (blade : BladeView) (effect : BladeEffect) → HasToDrain h blade → blade_after_drain h blade ≡ Some effect
+    → blade_weight effect.blade + messages_weight effect.sent + 1 ≤ blade_weight blade
+drain_lightens h blade effect has given = subst (TakesAtLeast 1 blade) does (subst (TakesAtLeast 1 blade) (sym drains) falls) where
+  need : Need
+  need = record { page = page_at (place_of has.plan.domain has.oldest.address); write = true }
+
+  does : drain_of h has.plan blade has.hart ≡ effect
+  does = same_Some _ _ (sym (ap (option_and_then (λ plan. option_and_then (λ hart. Some (drain_of h plan blade hart)) (hart_of blade h))) has.thread
+      ∙ ap (option_and_then (λ hart. Some (drain_of h has.plan blade hart))) has.own) ∙ given)
+
+  drains : drain_of h has.plan blade has.hart ≡ draining_by h has.plan (has.oldest ∷ has.newer) blade has.hart
+  drains = (λ i. if has.idle i then only blade else draining_by h has.plan (has.queue i) blade has.hart)
+
+  by : (b : Bool) → TakesAtLeast 1 blade (if b then drained h has.plan has.oldest has.newer blade has.hart
+      else asking h Drain (record { page = page_at (place_of has.plan.domain has.oldest.address); write = true }) blade has.hart)
+  by true = omega (arith, drained-takes h has.plan has.oldest has.newer blade has.hart has.own has.idle has.queue)
+  by false = asked-takes h (record { page = page_at (place_of has.plan.domain has.oldest.address); write = true }) has.oldest has.newer blade has.hart has.own has.idle has.queue has.unasked
+
+  falls : TakesAtLeast 1 blade (draining_by h has.plan (has.oldest ∷ has.newer) blade has.hart)
+  falls = by (is_writable (frame_of (page_at (place_of has.plan.domain has.oldest.address)) blade.cache.entries))
 
 -- ---- what waited goes on
 
@@ -158,40 +258,71 @@ used-dirty (Some need) (Running pc) entries = dirty-first (λ frame. frame) need
 used-dirty need (Exit value) entries = omega arith
 used-dirty need (Fault kind value pc) entries = omega arith
 
-stored-dirty : (domain : ℕ) (store : PendingView) (tag : ℕ) (entries : Entries) → dirty (frames_with domain store tag entries) ≤ dirty entries + 1
-stored-dirty domain store tag entries =
-    dirty-first (written_frame (offset_at (place_of domain store.address)) store.size store.value tag) (page_at (place_of domain store.address)) entries
+-- a deed leaves one store more at most, and writes one page at most
+deed-adds : (deed : Option Deed) (h : ℕ) (plan : ThreadPlan) (found : Found) (blade : BladeView) (hart : HartView) → hart_in blade.harts h ≡ Some hart
+    → ((d : Deed) → deed ≡ Some d → length (buffer_of d) ≤ length hart.queue.stores + 1) → AddsAtMost 18 blade (performed_by deed h plan found blade hart)
+unfolding buffer_of
+deed-adds None h plan found blade hart own grows = omega arith
+deed-adds (Some (Alone thread)) h plan found blade hart own grows =
+    let new : HartView = hart_after plan.domain found blade.cache.entries hart (Alone thread) in
+    omega (
+      arith,
+      used-dirty (need_in found plan.domain) thread.end blade.cache.entries,
+      harts-set blade.harts h hart new own,
+      buffer-adds hart.draining hart.queue.stores thread.buffer (grows (Alone thread) refl),
+    )
+deed-adds (Some (Storing thread store)) h plan found blade hart own grows =
+    let new : HartView = hart_after plan.domain found blade.cache.entries hart (Storing thread store) in
+    omega (
+      arith,
+      stored-dirty plan.domain store (next_tag h hart.stores) blade.cache.entries,
+      harts-set blade.harts h hart new own,
+      buffer-adds hart.draining hart.queue.stores thread.buffer (grows (Storing thread store) refl),
+    )
 
-deed-adds : (deed : Option Deed) (h : ℕ) (plan : ThreadPlan) (found : Found) (blade : BladeView) (hart : HartView) → AddsAtMost 3 blade (performed_by deed h plan found blade hart)
-deed-adds None h plan found blade hart = omega arith
-deed-adds (Some (Alone thread)) h plan found blade hart = omega (arith, used-dirty (need_in found plan.domain) thread.end blade.cache.entries)
-deed-adds (Some (Storing thread store)) h plan found blade hart = omega (arith, stored-dirty plan.domain store (next_tag h hart.stores) blade.cache.entries)
-
-denial-adds : (denial : Option Denial) (h pc : ℕ) (blade : BladeView) (hart : HartView) → AddsAtMost 0 blade (refused_by denial h pc blade hart)
-denial-adds None h pc blade hart = omega arith
-denial-adds (Some denial) h pc blade hart = omega arith
+denial-adds : (denial : Option Denial) (h pc : ℕ) (blade : BladeView) (hart : HartView) → hart_in blade.harts h ≡ Some hart → AddsAtMost 0 blade (refused_by denial h pc blade hart)
+denial-adds None h pc blade hart own = omega arith
+denial-adds (Some denial) h pc blade hart own = omega (arith, harts-set blade.harts h hart (faulting denial.kind denial.address pc hart) own)
 
 -- what waited for a page may write one, and what was denied writes none
 abbrev most : Answer → ℕ
 most Filled = 3
 most Denied = 0
 
-answer-adds : (answer : Answer) (h : ℕ) (plan : ThreadPlan) (found : Found) (pc : ℕ) (blade : BladeView) (hart : HartView) → AddsAtMost (most answer) blade (answered_by answer h plan found pc blade hart)
-answer-adds Filled h plan found pc blade hart =
-    deed-adds (carried_out found (around_held blade.cache.entries h plan.domain) pc (thread_of blade.cache.entries hart)) h plan found blade hart
-answer-adds Denied h plan found pc blade hart = denial-adds (denial_in found) h pc blade hart
+-- where no store must drain first, there is room for one more
+one-more : (found : Found) (around : Around) (pc capacity : ℕ) (thread : Thread) (deed : Deed) → drains_first found thread.buffer capacity ≡ false → carried_out found around pc thread ≡ Some deed
+    → length (buffer_of deed) ≤ length thread.buffer + 1
+one-more found around pc capacity thread deed ready e = deed_fits found around pc (length thread.buffer + 1) thread deed (omega arith) (by found ready) e where
+  less : (wait store : Bool) (n capacity : ℕ) → (wait || store && n == capacity) ≡ false → (wait || store && n == n + 1) ≡ false
+  less true store n capacity e = e
+  less false true n capacity e = grind (arith, nat_tests)
+  less false false n capacity e = refl
 
-step-adds : (answer : Answer) (asked : Need) (images : List Image) (h : ℕ) (plan : ThreadPlan) (blade : BladeView) (hart : HartView) → AddsAtMost (most answer) blade (resumed_at hart.end answer asked images h plan blade hart)
-step-adds answer asked images h plan blade hart =
-    resumes-as (AddsAtMost (most answer) blade) answer asked images h plan blade hart (omega arith) (λ image pc code runs just ready. answer-adds answer h plan (found image hart.regs pc) pc blade hart)
+  by : (found : Found) → drains_first found thread.buffer capacity ≡ false → drains_first found thread.buffer (length thread.buffer + 1) ≡ false
+  by Outside e = refl
+  by (Unknown word) e = refl
+  by (Asks asked) e = less (must_wait asked thread.buffer) (is_store asked) (length thread.buffer) capacity e
+
+answer-adds : (answer : Answer) (h : ℕ) (plan : ThreadPlan) (found : Found) (pc : ℕ) (blade : BladeView) (hart : HartView) → hart_in blade.harts h ≡ Some hart
+    → drains_first found hart.queue.stores hart.queue.capacity ≡ false → AddsAtMost (most answer + 15) blade (answered_by answer h plan found pc blade hart)
+answer-adds Filled h plan found pc blade hart own ready =
+    deed-adds (carried_out found (around_held blade.cache.entries h plan.domain) pc (thread_of blade.cache.entries hart)) h plan found blade hart own
+    (λ deed e. one-more found (around_held blade.cache.entries h plan.domain) pc hart.queue.capacity (thread_of blade.cache.entries hart) deed ready e)
+answer-adds Denied h plan found pc blade hart own ready = let adds = denial-adds (denial_in found) h pc blade hart own in omega (arith, adds)
+
+step-adds : (answer : Answer) (asked : Need) (images : List Image) (h : ℕ) (plan : ThreadPlan) (blade : BladeView) (hart : HartView) → hart_in blade.harts h ≡ Some hart
+    → AddsAtMost (most answer + 15) blade (resumed_at hart.end answer asked images h plan blade hart)
+step-adds answer asked images h plan blade hart own =
+    resumes-as (AddsAtMost (most answer + 15) blade) answer asked images h plan blade hart (omega arith) (λ image pc code runs just ready. answer-adds answer h plan (found image hart.regs pc) pc blade hart own ready)
 
 -- a drain whose page is held to be written
-drain-adds : (h : ℕ) (plan : ThreadPlan) (oldest : PendingView) (newer : List PendingView) (blade : BladeView) (hart : HartView)
-    → is_writable (frame_of (page_at (place_of plan.domain oldest.address)) blade.cache.entries) ≡ true → AddsAtMost 3 blade (draining_by h plan (oldest ∷ newer) blade hart)
-drain-adds h plan oldest newer blade hart held =
-    subst (λ b. AddsAtMost 3 blade (if b then drained h plan oldest newer blade hart
+drain-takes : (h : ℕ) (plan : ThreadPlan) (oldest : PendingView) (newer : List PendingView) (blade : BladeView) (hart : HartView) → hart_in blade.harts h ≡ Some hart → hart.draining ≡ false
+    → hart.queue.stores ≡ oldest ∷ newer → is_writable (frame_of (page_at (place_of plan.domain oldest.address)) blade.cache.entries) ≡ true
+    → TakesAtLeast 12 blade (draining_by h plan (oldest ∷ newer) blade hart)
+drain-takes h plan oldest newer blade hart own idle queue held =
+    subst (λ b. TakesAtLeast 12 blade (if b then drained h plan oldest newer blade hart
     else asking h Drain (record { page = page_at (place_of plan.domain oldest.address); write = true }) blade hart)) (sym held)
-    (omega (arith, stored-dirty plan.domain oldest (next_tag h hart.stores) blade.cache.entries))
+    (drained-takes h plan oldest newer blade hart own idle queue)
 
 -- A page that was asked for to be written is held so, and only a step is denied: no drain asks again.
 abbrev MayGoOn : Answer → Waits → Asked → Entries → Type 0
@@ -210,12 +341,23 @@ resumed-adds answer images asked blade request may = by asked.waits refl answer 
 
   by : (waits : Waits) → asked.waits ≡ waits → (answer : Answer) → IsRequestBy waits blade.plan.threads blade.harts asked → MayGoOn answer waits asked blade.cache.entries
       → AddsAtMost (most answer) blade (resumed answer images asked blade)
-  by Step is answer r may = goes answer r.plan r.hart (record { thread = r.thread; own = r.own; request = request }) Step is
-      (step-adds answer (need_asked asked) images asked.hart r.plan (awaking asked r.hart blade) (awake Step r.hart))
-  by Drain is Filled r may = goes Filled r.plan r.hart (record { thread = r.thread; own = r.own; request = request }) Drain is
+  by Step is answer r may =
+      let now = subst (λ w. harts_weight (awaking asked r.hart blade).harts + hart_weight r.hart ≡ harts_weight blade.harts + hart_weight (awake w r.hart)) is
+      (harts-set blade.harts asked.hart r.hart (awake asked.waits r.hart) r.own) in
+      let own : hart_in (awaking asked r.hart blade).harts asked.hart ≡ Some (awake Step r.hart) =
+      hart_in-set blade.harts asked.hart r.hart (awake asked.waits r.hart) r.own ∙ ap (λ (w : Waits). Some (awake w r.hart)) is in
+      let adds = step-adds answer (need_asked asked) images asked.hart r.plan (awaking asked r.hart blade) (awake Step r.hart) own in
+      goes answer r.plan r.hart (record { thread = r.thread; own = r.own; request = request }) Step is (omega (arith, adds, now, awake-step r.hart r.waits))
+  by Drain is Filled r may =
+      let now = subst (λ w. harts_weight (awaking asked r.hart blade).harts + hart_weight r.hart ≡ harts_weight blade.harts + hart_weight (awake w r.hart)) is
+      (harts-set blade.harts asked.hart r.hart (awake asked.waits r.hart) r.own) in
+      let own : hart_in (awaking asked r.hart blade).harts asked.hart ≡ Some (awake Drain r.hart) =
+      hart_in-set blade.harts asked.hart r.hart (awake asked.waits r.hart) r.own ∙ ap (λ (w : Waits). Some (awake w r.hart)) is in
+      let takes = drain-takes asked.hart r.plan r.oldest r.newer (awaking asked r.hart blade) (awake Drain r.hart) own refl r.queue
+      (ap (λ p. is_writable (frame_of p blade.cache.entries)) r.page ∙ may r.write) in
+      goes Filled r.plan r.hart (record { thread = r.thread; own = r.own; request = request }) Drain is
       (subst (λ stores. AddsAtMost 3 blade (draining_by asked.hart r.plan stores (awaking asked r.hart blade) (awake Drain r.hart))) (sym r.queue)
-      (drain-adds asked.hart r.plan r.oldest r.newer (awaking asked r.hart blade) (awake Drain r.hart)
-      (ap (λ p. is_writable (frame_of p blade.cache.entries)) r.page ∙ may r.write)))
+      (omega (arith, takes, now, awake-drain r.hart r.oldest r.newer r.waits r.queue)))
   by Drain is Denied r may = let never : ⊥ = cc in absurd never
 
 -- ---- messages

@@ -1,5 +1,5 @@
 -- The labels of stretches of events, and of events that are settled one by one.
-use Rattle.std.proofs.Common.{◌≡◌, ◌⊎◌, inl, inr, ℕ, zero, suc, ap, sym, refl, subst, List, [], ◌∷◌, ◌++◌, length, map, slice_get, Option, Some, None, option_map, append-nil, arith, ◌∙◌}
+use Rattle.std.proofs.Common.{◌≡◌, ◌⊎◌, inl, inr, ℕ, ◌≤◌, zero, suc, ap, sym, refl, subst, List, [], ◌∷◌, ◌++◌, length, map, slice_get, Option, Some, None, option_map, append-nil, arith, ◌∙◌}
 use Rattle.std.specs.Prelude.{All}
 use Rattle.std.specs.List.{AllByRecursion, flat_map, range_with_len}
 use Rattle.std.specs.List.Sorted.{IsPermutation}
@@ -274,6 +274,13 @@ asks-one setup state (Resend link) xs same = only-none xs same
 asks-one setup state Epoch xs same = only-none xs same
 asks-one setup state (Ask command) xs same = only-none xs same
 asks-one setup state Settle xs same = only-none xs same
+
+-- so do all events, where there is one at most
+pub few-asked : (setup : Setup) (state : State) (events : List Event) (xs : List Label) → length events ≤ 1 → IsPermutation xs (all_asked setup state.threads events) → xs ≡ all_asked setup state.threads events
+few-asked setup state [] xs few same = only-none xs same
+few-asked setup state (event ∷ []) xs few same =
+    asks-one setup state event xs (subst (IsPermutation xs) (append-nil (asked_labels setup state.threads event)) same) ∙ sym (append-nil (asked_labels setup state.threads event))
+few-asked setup state (event ∷ other ∷ events) xs few same = let never : ⊥ = omega (arith, few) in absurd never
 
 pub event-settles : (images : List Image) (event : Event) (turns : List Event) (old mid new : RackView) (log noted later : List Note) → (stands : StandsForLog images old log) → AreNeeded images old → owed old ≡ []
     → IsOfRack event → Leads images event old mid noted → AreOfRack turns → AskNothing turns → Reaches images turns mid new later → owed new ≡ []

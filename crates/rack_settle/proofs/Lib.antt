@@ -7,10 +7,12 @@ pub mod LabelMessages
 pub mod LabelRacks
 pub mod LabelRuns
 pub mod LabelSteps
+pub mod LateLabels
 pub mod LinkSums
 pub mod LinkTurns
 pub mod ListSums
 pub mod MemoryWeights
+pub mod Numbers
 pub mod Prompts
 pub mod Rans
 pub mod Schedules

@@ -89,6 +89,13 @@ ack-hope : (first number : ℕ) (messages rest : List ℕ) → nat_lt first numb
 ack-hope first number messages [] not is = absurd (false≢true (sym (ap (λ b. b || false) not) ∙ is))
 ack-hope first number messages (ack ∷ acks) not is = sym (ap (λ b. b || list_any (λ n. nat_lt first n) (ack ∷ acks)) not) ∙ is
 
+-- as many are kept where the acknowledgement passes none of them
+kept-stays : (new old first number : ℕ) → (new < old → first < number) → new ≤ old → number ≤ first → new ≡ old
+kept-stays new old first number falls le below = by (nat_lt new old) refl where
+  by : (b : Bool) → nat_lt new old ≡ b → new ≡ old
+  by true lt = let passes = falls (ltb-true new old lt) in let never : ⊥ = omega (arith, passes, below) in absurd never
+  by false ge = let not = ltb-false new old ge in omega (arith, le, not)
+
 ack_delivered : (old new : NetLink) (number : ℕ) (rest : List ℕ) (taken : List (List ℕ)) → old.acks ≡ number ∷ rest
     → IsLink (spelled old) → Acknowledges (spelled old) 0 number taken (spelled new) → link_turns new < link_turns old
 ack_delivered old new number rest taken is link acked = by (nat_lt (first_kept (spelled old)) number) refl where
@@ -104,6 +111,10 @@ ack_delivered old new number rest taken is link acked = by (nat_lt (first_kept (
       let before : length old.acks ≡ length (number ∷ rest) = ap length is in
       omega arith
 
+  -- the number that is kept rises in sending alone
+  no_more : new.kept ≤ old.kept
+  no_more = let after : new.kept ≡ min old.kept (old.next - number) = acked.kept in omega arith
+
   by : (b : Bool) → nat_lt (first_kept (spelled old)) number ≡ b → link_turns new < link_turns old
   by true passes =
       let fewer : new.kept < old.kept = acked.falls.1 (ltb-true (first_kept (spelled old)) number passes) in
@@ -111,10 +122,7 @@ ack_delivered old new number rest taken is link acked = by (nat_lt (first_kept (
       let most_acks : length old.acks ≤ 64 = link.acks in
       omega (arith, messages, acks, flag-small (is_hopeful new))
   by false not =
-      let below : number ≤ old.next - old.kept = ltb-false (old.next - old.kept) number not in
-      let kept_of : old.kept ≤ old.next = link.kept in
-      let after : new.kept ≡ min old.kept (old.next - number) = acked.kept in
-      let kept : new.kept ≡ old.kept = omega arith in
+      let kept : new.kept ≡ old.kept = kept-stays new.kept old.kept (first_kept (spelled old)) number acked.falls.0 no_more (ltb-false (first_kept (spelled old)) number not) in
       let same_first : first_kept (spelled new) ≡ first_kept (spelled old) = ap (λ n. n - new.kept) acked.next ∙ ap (λ k. old.next - k) kept in
       let hope : is_hopeful old ≡ true → is_hopeful new ≡ true = λ was.
       subst (λ f. will_pass f new.messages new.acks ≡ true) (sym same_first)

@@ -1,6 +1,6 @@
 -- Sums over a list when an element changes, comes or goes.
 use Rattle.std.proofs.Common.{◌≡◌, refl, sym, ◌∙◌, ap, ℕ, ◌+◌, ◌≤◌, Bool, true, false, List, [], ◌∷◌, ◌++◌, map, filter, insert, remove, zero, suc, arith, Some}
-use Rattle.std.specs.Prelude.{if◌then◌else◌, slice_get}
+use Rattle.std.specs.Prelude.{if◌then◌else◌, slice_get, slice_set}
 use Rattle.std.specs.List.{sum, sum_by}
 use Rattle.std.proofs.lemmas.List.Sums.{sum-map, sum_by-cons, sum_by-append, sum_by-insert}
 use Rattle.std.proofs.lemmas.Option.{none-some, same_Some}
@@ -37,6 +37,19 @@ sum-filtered f test (x ∷ xs) = by (test x) (sum-filtered f test xs) where
   by : (b : Bool) → sum (map f (filter test xs)) ≤ sum (map f xs) → sum (map f (if b then x ∷ filter test xs else filter test xs)) ≤ sum (map f (x ∷ xs))
   by true rest = more_before (f x) _ _ _ _ (sum-first f x (filter test xs)) (sum-first f x xs) rest
   by false rest = less_before (f x) _ _ _ (sum-first f x xs) rest
+
+-- one element in the place of another
+pub sum-set : {X : Type 0} (f : X → ℕ) (xs : List X) (i : ℕ) (old new : X) → slice_get xs i ≡ Some old → sum (map f (slice_set xs i new)) + f old ≡ sum (map f xs) + f new
+sum-set f [] i old new at = absurd (none-some old at)
+sum-set f (x ∷ xs) zero old new at =
+    let same : f x ≡ f old = ap f (same_Some x old at) in
+    plain _ _ _ _ _ _ (sum-first f new xs) (sum-first f x xs) same where
+      plain : (a b c d s t : ℕ) → s ≡ a + d → t ≡ b + d → b ≡ c → s + c ≡ t + a
+      plain a b c d s t g h e = omega arith
+sum-set f (x ∷ xs) (suc i) old new at =
+    plain _ _ _ _ _ _ _ (sum-first f x (slice_set xs i new)) (sum-first f x xs) (sum-set f xs i old new at) where
+      plain : (a b c d e s t : ℕ) → s ≡ c + d → t ≡ c + e → d + a ≡ e + b → s + a ≡ t + b
+      plain a b c d e s t g h rest = omega arith
 
 -- where each element weighs as much as before, so does the list
 pub sum-mapped : {X : Type 0} (f : X → ℕ) (g : X → X) (xs : List X) → ((x : X) → f (g x) ≡ f x) → sum (map f (map g xs)) ≡ sum (map f xs)

@@ -23,7 +23,7 @@ when-ok (Err e) ok p = absurd (let no : false ≡ true = ok in cc)
 
 -- ---- one event more
 
-ran-more : (images : List Image) (from : ℕ) (es : List Event) (e : Event) (first mid last : RackView) (notes added : List Note)
+pub ran-more : (images : List Image) (from : ℕ) (es : List Event) (e : Event) (first mid last : RackView) (notes added : List Note)
     → Ran images from es first mid notes → LeadsOrSettles images e mid last added → AreInPlace mid.plan e added → Ran images from (es ++ e ∷ []) first last (notes ++ note.Event (from + length es) ∷ added)
 ran-more images from [] e first mid last notes added (same, none) leads places = (
   last,

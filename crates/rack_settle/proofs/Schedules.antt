@@ -1,9 +1,10 @@
 -- The labels of a schedule's stretches, and of a schedule whose events are settled one by one.
-use Rattle.std.proofs.Common.{◌≡◌, ◌⊎◌, inl, inr, ℕ, suc, ◌+◌, ◌∙◌, ap, sym, refl, subst, List, [], ◌∷◌, ◌++◌, length, slice_get, Some, append-nil, arith}
-use Rattle.std.specs.List.{AllByRecursion, flat_map}
+use Rattle.std.proofs.Common.{◌≡◌, inl, inr, ℕ, suc, ◌+◌, ◌∙◌, ap, sym, refl, subst, List, [], ◌∷◌, ◌++◌, length, append-nil, length-append, arith}
+use Rattle.std.specs.List.{AllByRecursion}
 use Rattle.std.specs.List.Sorted.{IsPermutation}
 use Rattle.std.proofs.lemmas.List.{append_assoc}
 use Rattle.std.proofs.lemmas.List.Elements.{filter_map-append}
+use Rattle.std.proofs.lemmas.Option.{none-some, same_Some}
 use Rattle.mind_base.specs.Fit.{IsFit}
 use Rattle.mind_base.specs.declared.events.Event.{Event}
 use Rattle.mind_base.specs.declared.events.Event.TheVariants.{Step, Drain, Evict, Deliver, Lose, Repeat, Resend, Epoch, Ask, Settle}
@@ -11,10 +12,10 @@ use Rattle.mind_base.specs.declared.images.Image.{Image}
 use Rattle.mind_base.specs.declared.notes.Note.{Note}
 use Rattle.mind_base.specs.declared.notes.Note.TheVariants as note
 use Rattle.mind_base.specs.declared.plans.RackPlan.{RackPlan}
-use Rattle.rack_net.specs.Net.{NetView}
 use Rattle.tso_machine.specs.Replay.{Whole, label_of, labels, replay}
-use Rattle.tso_machine.specs.State.{start_state}
-use Rattle.rack_core.specs.Calls.{IsEventFor}
+use Rattle.tso_machine.specs.State.{Setup, start_state}
+use Rattle.tso_machine.specs.declared.labels.Label.{Label}
+use Rattle.rack_core.specs.Calls.{IsEventFor, IsKept, Notes}
 use Rattle.rack_core.specs.Events.{Leads}
 use Rattle.rack_core.specs.Rack.{RackView}
 use Rattle.rack_core.specs.Safe.{IsSafe, IsOfRack, AreOfRack, Reaches}
@@ -23,12 +24,14 @@ use Rattle.rack_core.specs.StandRuns.{AreCounted}
 use Rattle.rack_core.specs.Start.{IsStart}
 use Rattle.rack_core.specs.Waits.{AreNeeded}
 use Rattle.rack_core.proofs.Callers.{of-rack, BladesStay, blades-same, blades-then, counted-before, runs-log, runs-stay, start-logs, run_needs, start_needs, run_keeps-all, all_front}
-use Rattle.rack_settle.specs.Labels.{owed, all_asked, AsksNothing, AskNothing, IsOneEach, LeadsAndSettles, SettlesEach, settled_labels}
+use Rattle.rack_settle.specs.Labels.{owed, asked_labels, all_asked, AsksNothing, AskNothing, IsOneEach, threads_in, asked_after, settled_labels}
+use Rattle.rack_settle.specs.Numbered.{AreOfEvents}
 use Rattle.rack_settle.specs.Ran.{IsRunFor, LeadsOrSettles, Ran}
 use Rattle.rack_settle.specs.Settled.{IsTurn, AreTurns, Settles}
-use Rattle.rack_settle.specs.Stretches.{IsNoSettling, EndSettled, IsStretch, HasItsLabels, AreSettledEach, HasSettledLabels}
-use Rattle.rack_settle.proofs.LabelRuns.{quiet-owes, start-owes, safe-log, stretch-settles, settles-start}
-use Rattle.rack_settle.proofs.Rans.{stands-noted}
+use Rattle.rack_settle.specs.Stretches.{IsNoSettling, EndSettled, SettleTogether, IsStretch, HasItsLabels, AreSettledEach, HasSettledLabels}
+use Rattle.rack_settle.proofs.LabelRuns.{quiet-owes, start-owes, safe-log, settling, settling-none, stretch-settles, few-asked, event-settles}
+use Rattle.rack_settle.proofs.Numbers.{ran-numbered}
+use Rattle.rack_settle.proofs.Rans.{ran-more, stands-noted}
 
 -- ---- the events by which a schedule's event leads on
 
@@ -36,21 +39,21 @@ turns-reach : (images : List Image) (turns : List Event) (first last : RackView)
 turns-reach images [] first last noted taken = taken
 turns-reach images (turn ∷ turns) first last noted (mid, now, later, is, leads, rest, split) = (mid, now, later, leads, turns-reach images turns mid last later rest, split)
 
-turn-asks : (net : NetView) (turn : Event) → IsTurn net turn → AsksNothing turn
-turn-asks net (Deliver link side k) is = tt
-turn-asks net (Resend link) is = tt
-turn-asks net (Step hart) is = absurd is
-turn-asks net (Drain hart) is = absurd is
-turn-asks net (Evict blade page) is = absurd is
-turn-asks net (Lose link side k) is = absurd is
-turn-asks net (Repeat link side k) is = absurd is
-turn-asks net Epoch is = absurd is
-turn-asks net (Ask command) is = absurd is
-turn-asks net Settle is = absurd is
+turn-asks : (rack : RackView) (turn : Event) → IsTurn rack turn → AsksNothing turn
+turn-asks rack (Deliver link side k) is = tt
+turn-asks rack (Resend link) is = tt
+turn-asks rack (Step hart) is = absurd is
+turn-asks rack (Drain hart) is = absurd is
+turn-asks rack (Evict blade page) is = absurd is
+turn-asks rack (Lose link side k) is = absurd is
+turn-asks rack (Repeat link side k) is = absurd is
+turn-asks rack Epoch is = absurd is
+turn-asks rack (Ask command) is = absurd is
+turn-asks rack Settle is = absurd is
 
 turns-ask : (images : List Image) (turns : List Event) (first last : RackView) (noted : List Note) → AreTurns images turns first last noted → AskNothing turns
 turns-ask images [] first last noted taken = tt
-turns-ask images (turn ∷ turns) first last noted (mid, now, later, is, leads, rest, split) = (turn-asks first.net turn is, turns-ask images turns mid last later rest)
+turns-ask images (turn ∷ turns) first last noted (mid, now, later, is, leads, rest, split) = (turn-asks first turn is, turns-ask images turns mid last later rest)
 
 all-of-rack : (plan : RackPlan) → IsFit plan → (events : List Event) → AllByRecursion (IsEventFor plan) events → AreOfRack events
 all-of-rack plan fit [] all = tt
@@ -62,12 +65,29 @@ record IsReached (images : List Image) (old new : RackView) (noted : List Note) 
   fits : AreOfRack events
   reaches : Reaches images events old new noted
 
-settles-reach : (images : List Image) (plan : RackPlan) (old new : RackView) (noted : List Note) → IsFit plan → old.plan ≡ plan → Settles images old new noted → IsReached images old new noted
-settles-reach images plan old new noted fit same settles = record {
-  events = settles.turns;
+-- a settling does so by turns that ask for nothing, to a rack that owes nothing
+record HasSettled (images : List Image) (old new : RackView) (noted : List Note) : Type 0 where
+  turns : List Event
+  fits : AreOfRack turns
+  asks : AskNothing turns
+  reaches : Reaches images turns old new noted
+  none : owed new ≡ []
+
+settles-by : (images : List Image) (plan : RackPlan) (old new : RackView) (noted : List Note) → IsFit plan → old.plan ≡ plan → Settles images old new noted → HasSettled images old new noted
+settles-by images plan old new noted fit same settles = record {
+  turns = settles.turns;
   fits = all-of-rack plan fit settles.turns (subst (λ p. AllByRecursion (IsEventFor p) settles.turns) same settles.fits);
+  asks = turns-ask images settles.turns old new noted settles.taken;
   reaches = turns-reach images settles.turns old new noted settles.taken;
+  none = quiet-owes new settles.quiet;
 }
+
+-- what waited is noted, each once
+pub settles-waiting : (images : List Image) (old new : RackView) (before behind : List Note) → IsKept old → Notes (Settles images old new) before behind → AreNeeded images old
+    → Notes (λ noted. IsPermutation (labels noted) (owed old)) before behind
+settles-waiting images old new before behind kept (noted, settles, log) needed =
+    let s = settles-by images old.plan old new noted kept.shape.fit refl settles in
+    (noted, settling images s.turns old new noted kept.safe needed s.fits s.asks s.reaches s.none, log)
 
 -- an event that is no settling
 alone : (images : List Image) (plan : RackPlan) (event : Event) (old new : RackView) (noted : List Note) → IsRunFor plan event → Leads images event old new noted → IsEventFor plan event
@@ -76,7 +96,9 @@ alone images plan event old new noted (inr fits) leads = fits
 
 event-reaches : (images : List Image) (plan : RackPlan) (event : Event) (old new : RackView) (noted : List Note) → IsFit plan → old.plan ≡ plan → IsRunFor plan event → LeadsOrSettles images event old new noted
     → IsReached images old new noted
-event-reaches images plan event old new noted fit same fits (inl (is, settles)) = settles-reach images plan old new noted fit same settles
+event-reaches images plan event old new noted fit same fits (inl (is, settles)) =
+    let s = settles-by images plan old new noted fit same settles in
+    record { events = s.turns; fits = s.fits; reaches = s.reaches }
 event-reaches images plan event old new noted fit same fits (inr leads) = record {
   events = event ∷ [];
   fits = (of-rack plan event fit (alone images plan event old new noted fits leads), tt);
@@ -116,16 +138,23 @@ ran-stays images plan from (event ∷ events) first last notes fit fits same saf
     blades-then first mid last stay
     (ran-stays images plan (suc from) events mid last later fit fits.1 (stay.plan ∙ same) (run_keeps-all images r.events first mid added r.fits safe r.reaches) rest)
 
+-- behind the first of some events
+mid-ahead : (images : List Image) (plan : RackPlan) (from : ℕ) (event : Event) (events : List Event) (first mid last : RackView) (log added later : List Note) → IsFit plan
+    → AllByRecursion (IsRunFor plan) (event ∷ events) → IsAhead images plan first log → LeadsOrSettles images event first mid added → Ran images (suc from) events mid last later → AreCounted last
+    → IsAhead images plan mid (log ++ note.Event from ∷ added)
+mid-ahead images plan from event events first mid last log added later fit fits ahead leads rest counted =
+    let r = event-reaches images plan event first mid added fit ahead.same fits.0 leads in
+    let safe = safe-log images first log ahead.stands in
+    let stay = runs-stay images r.events first mid added r.fits safe r.reaches in
+    let onward = ran-stays images plan (suc from) events mid last later fit fits.1 (stay.plan ∙ ahead.same) (run_keeps-all images r.events first mid added r.fits safe r.reaches) rest in
+    event-ahead images plan event from first mid log added fit fits.0 ahead leads (counted-before mid last onward counted)
+
 ran-ahead : (images : List Image) (plan : RackPlan) (from : ℕ) (events : List Event) (first last : RackView) (log notes : List Note) → IsFit plan → AllByRecursion (IsRunFor plan) events
     → IsAhead images plan first log → Ran images from events first last notes → AreCounted last → IsAhead images plan last (log ++ notes)
 ran-ahead images plan from [] first last log notes fit fits ahead (same, none) counted =
     subst (λ ns. IsAhead images plan last (log ++ ns)) (sym none) (subst (IsAhead images plan last) (sym (append-nil log)) (subst (λ r. IsAhead images plan r log) (sym same) ahead))
 ran-ahead images plan from (event ∷ events) first last log notes fit fits ahead (mid, added, later, leads, stand, rest, split) counted =
-    let r = event-reaches images plan event first mid added fit ahead.same fits.0 leads in
-    let safe = safe-log images first log ahead.stands in
-    let stay = runs-stay images r.events first mid added r.fits safe r.reaches in
-    let onward = ran-stays images plan (suc from) events mid last later fit fits.1 (stay.plan ∙ ahead.same) (run_keeps-all images r.events first mid added r.fits safe r.reaches) rest in
-    let one = event-ahead images plan event from first mid log added fit fits.0 ahead leads (counted-before mid last onward counted) in
+    let one = mid-ahead images plan from event events first mid last log added later fit fits ahead leads rest counted in
     let all = ran-ahead images plan (suc from) events mid last (log ++ note.Event from ∷ added) later fit fits.1 one rest counted in
     subst (λ ns. IsAhead images plan last (log ++ ns)) (sym split) (subst (IsAhead images plan last) (append_assoc log (note.Event from ∷ added) later) all)
 
@@ -209,17 +238,6 @@ ends-owing images events first last notes none (inr (front, e)) ran =
     let same : last ≡ end.0 = end.5.0 in
     ap owed same ∙ quiet-owes end.0 (settled-owes images Settle r.mid end.0 end.1 refl end.3).quiet
 
-starts-with : (images : List Image) (from : ℕ) (events after : List Event) (first last : RackView) (notes added : List Note) → Ran images from events first last notes
-    → slice_get (notes ++ note.Event (from + length events) ∷ added) 0 ≡ Some (note.Event from)
-starts-with images from [] after first last notes added ran =
-    ap (λ ns. slice_get (ns ++ note.Event (from + 0) ∷ added) 0) ran.1 ∙ ap (λ n. Some (note.Event n)) (let same : from + 0 ≡ from = omega arith in same)
-starts-with images from (event ∷ events) after first last notes added ran = ap (λ ns. slice_get (ns ++ note.Event (from + length (event ∷ events)) ∷ added) 0) ran.6
-
-pub goes-on : (images : List Image) (from : ℕ) (events : List Event) (first last : RackView) (notes : List Note) → Ran images from events first last notes
-    → (notes ≡ []) ⊎ (slice_get notes 0 ≡ Some (note.Event from))
-goes-on images from [] first last notes ran = inl ran.1
-goes-on images from (event ∷ events) first last notes ran = inr (ap (λ ns. slice_get ns 0) ran.6)
-
 -- the rack behind the first events of a schedule, and the rest of its run
 pub record IsBetween (images : List Image) (plan : RackPlan) (xs ys : List Event) (first last : RackView) (log : List Note) : Type 0 where
   pub parts : RanInParts images 0 xs ys first last log
@@ -251,10 +269,16 @@ between images plan xs ys first last log fit start its ran counted =
     let ahead = ran-ahead images plan 0 xs first mid [] whole.one fit fits_xs start_ahead whole.before (counted-before mid last stays counted) in
     record { parts = whole; onward = onward; ahead = ahead }
 
+-- no two of the events are of one blade's threads
+one-each : (plan : RackPlan) (events : List Event) → SettleTogether plan events → IsOneEach plan events
+one-each plan events (inr each) = each.1
+one-each plan [] (inl one) = tt
+one-each plan (event ∷ []) (inl one) = (λ blade here. tt, tt)
+one-each plan (event ∷ other ∷ events) (inl one) = let never : ⊥ = omega (arith, one) in absurd never
+
 stretch_labels : (images : List Image) (plan : RackPlan) (events : List Event) (first last : RackView) (log : List Note) → IsFit plan → IsStart plan first → AllByRecursion (IsRunFor plan) events
     → Ran images 0 events first last log → AreCounted last → (before stretch after : List Event) → IsStretch plan events before stretch after
-    → HasItsLabels (made_from images plan) log (length before) stretch
-unfolding settles-reach
+    → HasItsLabels (made_from images plan) log (length before) stretch (length after)
 stretch_labels images plan events first last log fit start fits ran counted before stretch after is =
     let rest = stretch ++ Settle ∷ after in
     let its : AllByRecursion (IsRunFor plan) (before ++ rest) = subst (λ es. AllByRecursion (IsRunFor plan) es) is.split fits in
@@ -270,86 +294,107 @@ stretch_labels images plan events first last log fit start fits ran counted befo
     let settles = settled-owes images Settle behind.mid end.0 end.1 refl end.3 in
     let same : mid.plan ≡ plan = whole.same in
     let stay = ran-stays images plan (length before) stretch mid behind.mid behind.one fit fits_stretch same mid_safe behind.before in
-    let turns = settles-reach images plan behind.mid end.0 end.1 fit (stay.plan ∙ same) settles in
-    let result = stretch-settles images stretch settles.turns mid behind.mid end.0 whole.one on.noted end.1 whole.stands whole.needed none (of-racks plan stretch fit fits_stretch is.unsettled)
-    (subst (λ p. IsOneEach p stretch) (sym same) is.each) on.reaches turns.fits (turns-ask images settles.turns behind.mid end.0 end.1 settles.taken) turns.reaches
-    (quiet-owes end.0 settles.quiet) in
+    let turn = settles-by images plan behind.mid end.0 end.1 fit (stay.plan ∙ same) settles in
+    let result = stretch-settles images stretch turn.turns mid behind.mid end.0 whole.one on.noted end.1 whole.stands whole.needed none (of-racks plan stretch fit fits_stretch is.unsettled)
+    (subst (λ p. IsOneEach p stretch) (sym same) (one-each plan stretch is.together)) on.reaches turn.fits turn.asks turn.reaches turn.none in
     let from = length before in
     let index = from + length stretch in
     let now = behind.one ++ note.Event index ∷ end.1 in
     let noted : labels (on.noted ++ end.1) ≡ labels now = labels-both on.noted end.1 ∙ ap (λ ls. ls ++ labels end.1) on.same ∙ sym (labels-both behind.one (note.Event index ∷ end.1)) in
     let Same : RackPlan → Type 0 = λ p. IsPermutation (labels now) (all_asked (made_from images p) whole.stands.state.threads stretch) in
     let Run : RackPlan → Type 0 = λ p. replay (made_from images p) (start_state (made_from images p)) (labels whole.one) ≡ Whole whole.stands.state in
+    let those = subst Same same (subst (λ ls. IsPermutation ls (all_asked (made_from images mid.plan) whole.stands.state.threads stretch)) noted result) in
     record {
-      before = whole.one;
-      now = now;
-      after = end.2;
-      split = whole.split ∙ ap (λ ns. whole.one ++ ns) (behind.split ∙ ap (λ ns. behind.one ++ ns) end.6 ∙ sym (append_assoc behind.one (note.Event index ∷ end.1) end.2));
-      first = starts-with images from stretch after mid behind.mid behind.one end.1 behind.before;
-      next = next (goes-on images (suc index) after end.0 last end.2 end.5) (let next_is : suc index ≡ from + length stretch + 1 = omega arith in next_is);
-      state = whole.stands.state;
-      run = subst Run same whole.stands.run;
-      same = subst Same same (subst (λ ls. IsPermutation ls (all_asked (made_from images mid.plan) whole.stands.state.threads stretch)) noted result);
+      part = record {
+        before = whole.one;
+        now = now;
+        after = end.2;
+        split = whole.split ∙ ap (λ ns. whole.one ++ ns) (behind.split ∙ ap (λ ns. behind.one ++ ns) end.6 ∙ sym (append_assoc behind.one (note.Event index ∷ end.1) end.2));
+        ahead = ran-numbered images 0 before first mid whole.one whole.before;
+        own = subst (λ n. AreOfEvents from n now) (length-append stretch (Settle ∷ []))
+            (ran-numbered images from (stretch ++ Settle ∷ []) mid end.0 now (ran-more images from stretch Settle mid behind.mid end.0 behind.one end.1 behind.before end.3 end.4));
+        behind = subst (λ n. AreOfEvents n (length after) end.2) (let next : suc index ≡ from + (length stretch + 1) = omega arith in next)
+            (ran-numbered images (suc index) after end.0 last end.2 end.5);
+        state = whole.stands.state;
+        run = subst Run same whole.stands.run;
+      };
+      same = those;
+      exact = λ few. few-asked (made_from images plan) whole.stands.state stretch (labels now) few those;
     }
-  where
-    next : {a b : ℕ} {notes : List Note} → (notes ≡ []) ⊎ (slice_get notes 0 ≡ Some (note.Event a)) → a ≡ b → (notes ≡ []) ⊎ (slice_get notes 0 ≡ Some (note.Event b))
-    next (inl none) e = inl none
-    next (inr some) e = inr (some ∙ ap (λ n. Some (note.Event n)) e)
 
 -- ---- events that are settled one by one
 
--- each event with its settling
-record SettlesOneByOne (images : List Image) (each : List Event) (first last : RackView) (notes : List Note) : Type 0 where
-  noted : List Note
-  settles : SettlesEach images each first last noted
-  same : labels noted ≡ labels notes
+-- the labels of some notes, and those of the events behind them
+both-labels : (setup : Setup) (log now later : List Note) (asked : List Label) (events : List Event) → labels now ≡ asked → labels later ≡ settled_labels setup (labels (log ++ now)) events
+    → labels (now ++ later) ≡ asked ++ settled_labels setup (labels log ++ asked) events
+both-labels setup log now later asked events is rest =
+    labels-both now later
+    ∙ (λ i. is i ++ (rest ∙ (λ j. settled_labels setup (labels-both log now j) events) ∙ ap (λ ls. settled_labels setup (labels log ++ ls) events) is) i)
 
-one-by-one : (images : List Image) (plan : RackPlan) (from : ℕ) (each : List Event) (first last : RackView) (notes : List Note) → IsFit plan → AllByRecursion IsNoSettling each
-    → AllByRecursion (IsRunFor plan) (flat_map (λ event. event ∷ Settle ∷ []) each) → first.plan ≡ plan → IsSafe first → AreCounted last
-    → Ran images from (flat_map (λ event. event ∷ Settle ∷ []) each) first last notes → SettlesOneByOne images each first last notes
-unfolding settles-reach
-one-by-one images plan from [] first last notes fit unsettled fits same safe counted ran = record { noted = []; settles = (ran.0, refl); same = sym (ap labels ran.1) }
-one-by-one images plan from (event ∷ each) first last notes fit unsettled fits same safe counted (mid, added, later, leads, stand, (next, more, others, turned, stand_too, rest, split_too), split) =
-    let r = event-reaches images plan event first mid added fit same fits.0 leads in
-    let stay = runs-stay images r.events first mid added r.fits safe r.reaches in
-    let mid_safe = run_keeps-all images r.events first mid added r.fits safe r.reaches in
-    let settles = settled-owes images Settle mid next more refl turned in
-    let t = settles-reach images plan mid next more fit (stay.plan ∙ same) settles in
-    let stays = runs-stay images t.events mid next more t.fits mid_safe t.reaches in
-    let next_same = stays.plan ∙ stay.plan ∙ same in
-    let next_safe = run_keeps-all images t.events mid next more t.fits mid_safe t.reaches in
-    let onward = ran-stays images plan (suc (suc from)) (flat_map (λ e. e ∷ Settle ∷ []) each) next last others fit fits.1.1 next_same next_safe rest in
-    let later_ones = one-by-one images plan (suc (suc from)) each next last others fit unsettled.1 fits.1.1 next_same next_safe counted rest in
-    let lands : LeadsAndSettles images event first next (added ++ more) = record {
-      turns = settles.turns;
-      fits = t.fits;
-      asks = turns-ask images settles.turns mid next more settles.taken;
-      reaches = (mid, added, more, leads-alone images event first mid added unsettled.0 leads, t.reaches, refl);
-      settled = quiet-owes next settles.quiet;
-      counted = counted-before next last onward counted;
-    } in
-    record {
-      noted = (added ++ more) ++ later_ones.noted;
-      settles = (next, added ++ more, later_ones.noted, lands, later_ones.settles, refl);
-      same = labels-both (added ++ more) later_ones.noted
-          ∙ (λ i. labels-both added more i ++ later_ones.same i)
-          ∙ append_assoc (labels added) (labels more) (labels others)
-          ∙ ap (λ ls. labels added ++ ls) (sym (labels-both more others) ∙ sym (ap labels split_too))
-          ∙ sym (labels-both added later)
-          ∙ sym (ap labels split);
-    }
+-- from a rack that owes nothing
+module _ (images : List Image) (plan : RackPlan) (fit : IsFit plan) where
+  abbrev setup : Setup
+  setup = made_from images plan
 
-each-of-rack : (plan : RackPlan) (each : List Event) → IsFit plan → AllByRecursion IsNoSettling each → AllByRecursion (IsRunFor plan) (flat_map (λ event. event ∷ Settle ∷ []) each) → AreOfRack each
-each-of-rack plan [] fit unsettled fits = tt
-each-of-rack plan (event ∷ each) fit unsettled fits = ((of-racks plan (event ∷ []) fit (fits.0, tt) (unsettled.0, tt)).0, each-of-rack plan each fit unsettled.1 fits.1.1)
+  -- a settling has no label
+  settles-none : (first mid : RackView) (log added : List Note) → IsAhead images plan first log → owed first ≡ [] → Settles images first mid added → labels added ≡ []
+  settles-none first mid log added ahead none settles =
+      let s = settles-by images plan first mid added fit ahead.same settles in
+      settling-none images s.turns first mid added (safe-log images first log ahead.stands) ahead.needed s.fits s.asks s.reaches s.none none
 
-determined_labels : (images : List Image) (plan : RackPlan) (events : List Event) (first last : RackView) (log : List Note) → IsFit plan → IsStart plan first → AllByRecursion (IsRunFor plan) events
-    → Ran images 0 events first last log → AreCounted last → (each : List Event) → AreSettledEach each events → labels log ≡ settled_labels (made_from images plan) [] each
-determined_labels images plan events first last log fit start fits ran counted each is =
-    let its = subst (λ es. AllByRecursion (IsRunFor plan) es) is.split fits in
-    let safe = safe-log images first [] (starts-ahead images plan first fit start).stands in
-    let ones = one-by-one images plan 0 each first last log fit is.unsettled its start.of_plan safe counted (subst (λ es. Ran images 0 es first last log) is.split ran) in
-    sym ones.same ∙ settles-start images plan each first last ones.noted fit start (each-of-rack plan each fit is.unsettled its) ones.settles
+  -- an event and the settling behind it have the labels that the event asks for
+  settles-asked : (event : Event) (first mid next : RackView) (log added more : List Note) → IsRunFor plan event → IsAhead images plan first log → owed first ≡ [] → mid.plan ≡ plan
+      → Leads images event first mid added → Settles images mid next more → labels (added ++ more) ≡ asked_after setup (labels log) event
+  settles-asked event first mid next log added more fits ahead none same leads settles =
+      let s = settles-by images plan mid next more fit same settles in
+      let Run : RackPlan → Type 0 = λ p. replay (made_from images p) (start_state (made_from images p)) (labels log) ≡ Whole ahead.stands.state in
+      subst (λ p. labels (added ++ more) ≡ asked_labels (made_from images p) ahead.stands.state.threads event) ahead.same
+      (event-settles images event s.turns first mid next log added more ahead.stands ahead.needed none (of-rack plan event fit (alone images plan event first mid added fits leads)) leads
+      s.fits s.asks s.reaches s.none)
+      ∙ ap (λ r. asked_labels setup (threads_in r) event) (sym (subst Run ahead.same ahead.stands.run))
+
+  -- the labels of all events, where the first one is a settling
+  settling-first : (from : ℕ) (event : Event) (events : List Event) (first mid : RackView) (log added later notes : List Note) → event ≡ Settle → Settles images first mid added
+      → IsAhead images plan first log → owed first ≡ [] → notes ≡ note.Event from ∷ (added ++ later) → labels later ≡ settled_labels setup (labels (log ++ note.Event from ∷ added)) events
+      → labels notes ≡ settled_labels setup (labels log) (event ∷ events)
+  settling-first from event events first mid log added later notes is settles ahead none split rest =
+      subst (λ e. labels notes ≡ settled_labels setup (labels log) (e ∷ events)) (sym is)
+      (ap labels split ∙ both-labels setup log (note.Event from ∷ added) later [] events (settles-none first mid log added ahead none settles) rest)
+
+  -- and where it is another one, with a settling behind it
+  event-first : (from : ℕ) (event other : Event) (events : List Event) (first mid next : RackView) (log added more others later notes : List Note) → other ≡ Settle → IsRunFor plan event
+      → Leads images event first mid added → Settles images mid next more → IsAhead images plan first log → owed first ≡ [] → mid.plan ≡ plan
+      → notes ≡ note.Event from ∷ (added ++ later) → later ≡ note.Event (suc from) ∷ (more ++ others)
+      → labels others ≡ settled_labels setup (labels (log ++ (note.Event from ∷ (added ++ note.Event (suc from) ∷ more)))) events
+      → labels notes ≡ settled_labels setup (labels log) (event ∷ other ∷ events)
+  event-first from event other events first mid next log added more others later notes is fits leads settles ahead none same split split_too rest =
+      let asked = asked_after setup (labels log) event in
+      let now = note.Event from ∷ (added ++ note.Event (suc from) ∷ more) in
+      let whole : notes ≡ now ++ others = split ∙ ap (λ ns. note.Event from ∷ (added ++ ns)) split_too ∙ ap (λ ns. note.Event from ∷ ns) (sym (append_assoc added (note.Event (suc from) ∷ more) others)) in
+      let its : labels now ≡ asked = labels-both added (note.Event (suc from) ∷ more) ∙ sym (labels-both added more)
+      ∙ settles-asked event first mid next log added more fits ahead none same leads settles in
+      subst (λ e. labels notes ≡ settled_labels setup (labels log) (event ∷ e ∷ events)) (sym is)
+      (ap labels whole ∙ both-labels setup log now others asked events its rest ∙ ap (λ ls. asked ++ settled_labels setup ls events) (sym (append-nil (labels log ++ asked))))
+
+  each-settled : (from : ℕ) (events : List Event) (first last : RackView) (log notes : List Note) → AllByRecursion (IsRunFor plan) events → IsAhead images plan first log → owed first ≡ []
+      → AreSettledEach events → Ran images from events first last notes → AreCounted last → labels notes ≡ settled_labels setup (labels log) events
+  each-settled from [] first last log notes fits ahead none settled ran counted = ap labels ran.1
+  each-settled from (event ∷ []) first last log notes fits ahead none settled (mid, added, later, inl (is, settles), stand, rest, split) counted =
+      settling-first from event [] first mid log added later notes is settles ahead none split (ap labels rest.1)
+  each-settled from (event ∷ []) first last log notes fits ahead none settled (mid, added, later, inr leads, stand, rest, split) counted =
+      absurd (none-some Settle (settled.0 (λ is. subst (λ e. Leads images e first mid added) is leads)))
+  each-settled from (event ∷ other ∷ events) first last log notes fits ahead none settled (mid, added, later, inl (is, settles), stand, rest, split) counted =
+      settling-first from event (other ∷ events) first mid log added later notes is settles ahead none split
+      (each-settled (suc from) (other ∷ events) mid last (log ++ note.Event from ∷ added) later fits.1
+      (mid-ahead images plan from event (other ∷ events) first mid last log added later fit fits ahead (inl (is, settles)) rest counted) (quiet-owes mid settles.quiet) settled.1 rest counted)
+  each-settled from (event ∷ other ∷ events) first last log notes fits ahead none settled (mid, added, later, inr leads, stand, (next, more, others, turned, stand_too, rest, split_too), split) counted =
+      let is : other ≡ Settle = same_Some _ _ (settled.0 (λ is. subst (λ e. Leads images e first mid added) is leads)) in
+      let settles = settled-owes images other mid next more is turned in
+      let here = mid-ahead images plan from event (other ∷ events) first mid last log added later fit fits ahead (inr leads) (next, more, others, turned, stand_too, rest, split_too) counted in
+      let there = mid-ahead images plan (suc from) other events mid next last (log ++ note.Event from ∷ added) more others fit fits.1 here turned rest counted in
+      event-first from event other events first mid next log added more others later notes is fits.0 leads settles ahead none here.same split split_too
+      (each-settled (suc (suc from)) events next last (log ++ (note.Event from ∷ (added ++ note.Event (suc from) ∷ more))) others fits.1.1
+      (subst (IsAhead images plan next) (append_assoc log (note.Event from ∷ added) (note.Event (suc from) ∷ more)) there) (quiet-owes next settles.quiet) settled.1.1 rest counted)
 
 -- ---- a schedule
 
@@ -357,5 +402,5 @@ pub settled_labels_of : (images : List Image) (plan : RackPlan) (events : List E
     → Ran images 0 events first last log → AreCounted last → HasSettledLabels (made_from images plan) plan events log
 settled_labels_of images plan events first last log fit start fits ran counted = record {
   stretches = stretch_labels images plan events first last log fit start fits ran counted;
-  determined = determined_labels images plan events first last log fit start fits ran counted;
+  determined = λ settled. each-settled images plan fit 0 events first last [] log fits (starts-ahead images plan first fit start) (start-owes plan first start) settled ran counted;
 }

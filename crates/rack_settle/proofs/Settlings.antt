@@ -29,7 +29,7 @@ of-plan rack link kept of_net =
     (subst (λ b. link.number < links_of_kind b rack.net.memories link.kind) kept.shape.links.0 of_net)
 
 -- the rack takes the event that the rule names
-pub turn-fits : (rack : RackView) (turn : Event) → IsKept rack → IsTurn rack.net turn → IsEventFor rack.plan turn
+pub turn-fits : (rack : RackView) (turn : Event) → IsKept rack → IsTurn rack turn → IsEventFor rack.plan turn
 turn-fits rack (event.Deliver link side k) kept is = of-plan rack link kept is.0.of_net
 turn-fits rack (event.Resend link) kept is = of-plan rack link kept is.1.of_net
 turn-fits rack (event.Step hart) kept is = absurd is
@@ -42,7 +42,7 @@ turn-fits rack (event.Ask command) kept is = absurd is
 turn-fits rack event.Settle kept is = absurd is
 
 -- and fewer turns are left behind it
-pub turn-lowers : (images : List Image) (turn : Event) (old new : RackView) (noted : List Note) → IsKept old → IsKept new → IsTurn old.net turn → Leads images turn old new noted
+pub turn-lowers : (images : List Image) (turn : Event) (old new : RackView) (noted : List Note) → IsKept old → IsKept new → IsTurn old turn → Leads images turn old new noted
     → turns_left new < turns_left old
 turn-lowers images (event.Deliver link side k) old new noted kept kept' is leads =
     deliver images link side old new noted kept kept.shape.net kept'.shape.net is.0 (subst (λ n. Leads images (event.Deliver link side n) old new noted) is.1 leads)
@@ -56,19 +56,19 @@ turn-lowers images event.Epoch old new noted kept kept' is leads = absurd is
 turn-lowers images (event.Ask command) old new noted kept kept' is leads = absurd is
 turn-lowers images event.Settle old new noted kept kept' is leads = absurd is
 
-pub lowered : (images : List Image) (turn : Event) (old new : RackView) (notes notes' : List Note) → IsKept old → IsKept new → IsTurn old.net turn
+pub lowered : (images : List Image) (turn : Event) (old new : RackView) (notes notes' : List Note) → IsKept old → IsKept new → IsTurn old turn
     → Notes (Leads images turn old new) notes notes' → turns_left new < turns_left old
 lowered images turn old new notes notes' kept kept' is (noted, leads, log) = turn-lowers images turn old new noted kept kept' is leads
 
 -- ---- one turn more
 
 turns-more : (images : List Image) (turns : List Event) (turn : Event) (first mid last : RackView) (noted added : List Note) → AreTurns images turns first mid noted
-    → IsTurn mid.net turn → Leads images turn mid last added → AreTurns images (turns ++ turn ∷ []) first last (noted ++ added)
+    → IsTurn mid turn → Leads images turn mid last added → AreTurns images (turns ++ turn ∷ []) first last (noted ++ added)
 turns-more images [] turn first mid last noted added (same, none) is leads = (
   last,
   added,
   [],
-  subst (λ r. IsTurn r.net turn) same is,
+  subst (λ r. IsTurn r turn) same is,
   subst (λ r. Leads images turn r last added) same leads,
   (refl, refl),
   ap (λ ns. ns ++ added) none ∙ sym (append-nil added),
@@ -106,7 +106,7 @@ turned-none images rack log kept = record {
 }
 
 pub turned-more : (images : List Image) (turn : Event) (first mid last : RackView) (before between behind : List Note) → HasTurned images first mid before between
-    → IsTurn mid.net turn → Notes (Leads images turn mid last) between behind → Notes (CarriesOn images mid last) between behind
+    → IsTurn mid turn → Notes (Leads images turn mid last) between behind → Notes (CarriesOn images mid last) between behind
     → Notes (AreInPlace mid.plan turn) between behind → IsKept last → last.plan ≡ mid.plan → HasTurned images first last before behind
 turned-more images turn first mid last before between behind has is (added, leads_on, log) carries places kept plan =
     let carries_on = same-added (CarriesOn images mid last) between behind added log carries in
@@ -132,10 +132,10 @@ stopped-turn images first mid before between behind has begins = record {
 
 -- ---- the end
 
-pub settled-quiet : (rack : RackView) → IsKept rack → HasNoTurn rack.net → IsQuiet rack
+pub settled-quiet : (rack : RackView) → IsKept rack → HasNoTurn rack → IsQuiet rack
 settled-quiet rack kept none = quiet-rack rack kept none.0 none.1
 
-pub settled : (images : List Image) (first last : RackView) (before behind : List Note) → HasTurned images first last before behind → HasNoTurn last.net
+pub settled : (images : List Image) (first last : RackView) (before behind : List Note) → HasTurned images first last before behind → HasNoTurn last
     → Notes (Settles images first last) before behind
 settled images first last before behind has none = (has.noted, record { turns = has.turns; fits = has.fits; taken = has.taken; quiet = settled-quiet last has.kept none }, has.log)
 

@@ -1,21 +1,23 @@
 -- Each turn of a settling leaves fewer.
-use Rattle.std.proofs.Common.{◌≡◌, refl, sym, ap, subst, ℕ, ◌+◌, ◌*◌, ◌<◌, ◌≤◌, List, [], ◌∷◌, length, map, arith, mul-le-mul_right}
-use Rattle.mind_base.specs.declared.events.Event.TheVariants.{Deliver, Resend}
+use Rattle.std.proofs.Common.{◌≡◌, refl, sym, ap, subst, ℕ, ◌+◌, ◌*◌, ◌<◌, ◌≤◌, List, [], ◌∷◌, length, map, slice_get, Some, arith, mul-le-mul_right}
+use Rattle.mind_base.specs.declared.events.Event.TheVariants.{Deliver, Drain, Resend}
 use Rattle.mind_base.specs.declared.images.Image.{Image}
 use Rattle.mind_base.specs.declared.links.LinkName.{LinkName}
 use Rattle.mind_base.specs.declared.links.Side.{Side}
 use Rattle.mind_base.specs.declared.links.Side.TheVariants.{Messages, Acks}
 use Rattle.mind_base.specs.declared.notes.Note.{Note}
+use Rattle.mind_base.specs.declared.plans.ThreadPlan.{ThreadPlan}
 use Rattle.wire_msg.specs.Spelling.{spelling}
 use Rattle.wire_msg.specs.declared.msgs.Msg.{Msg}
+use Rattle.compute_blade.specs.Blade.{BladeView}
 use Rattle.rack_net.specs.Net.{NetView, IsNet, IsFirstFrame, IsFirstKept, ChangesOnly, links_of, links_of_kind}
 use Rattle.rack_core.specs.Calls.{IsKept, HasNoFrame}
 use Rattle.rack_core.specs.Events.{HandsAll, Leads}
 use Rattle.rack_core.specs.Rack.{RackView, with_net}
 use Rattle.rack_core.proofs.Callers.{few-links}
 use Rattle.rack_settle.specs.Turns.{link_turns, net_turns, most_net_turns, turns_left}
-use Rattle.rack_settle.specs.Weight.{messages_weight, net_weight, rack_weight}
-use Rattle.rack_settle.proofs.HandedWeights.{delivery-lightens, delivery-as-many}
+use Rattle.rack_settle.specs.Weight.{messages_weight, net_weight, rack_weight, HasToDrain}
+use Rattle.rack_settle.proofs.HandedWeights.{delivery-lightens, delivery-as-many, drain-falls, drain-as-many}
 use Rattle.rack_settle.proofs.LinkSums.{changed_on, most-same, net_turns-small}
 use Rattle.rack_settle.proofs.LinkTurns.{link_delivered, sent_again}
 
@@ -91,3 +93,12 @@ resend images name old new noted kept net empty first given = subst (λ (r : Rac
   falls : turns_left (with_net given.net old) < turns_left old
   falls = less-later (rack_weight old) (rack_weight (with_net given.net old)) (most_net_turns old.net) (most_net_turns given.net) (net_turns old.net) (net_turns given.net)
       (omega (arith, weight)) (most-same old.net given.net given.only.blades given.only.memories) link
+
+-- ---- a drain
+
+pub drain : (images : List Image) (h : ℕ) (thread : ThreadPlan) (blade : BladeView) (old new : RackView) (noted : List Note) → IsNet new.net → slice_get old.plan.threads h ≡ Some thread
+    → slice_get old.blades thread.blade ≡ Some blade → HasToDrain h blade → Leads images (Drain h) old new noted → turns_left new < turns_left old
+drain images h thread blade old new noted later planned there has leads =
+    let many = drain-as-many images h thread old new noted planned leads in
+    less-first (rack_weight old) (rack_weight new) (most_net_turns old.net) (most_net_turns new.net) (net_turns old.net) (net_turns new.net)
+    (drain-falls images h thread blade old new noted planned there has leads) (most-same old.net new.net many.0 many.1) (net_turns-small new.net later)

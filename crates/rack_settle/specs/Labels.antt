@@ -49,7 +49,14 @@ OwesNothingFor hart rack = (thread : ThreadPlan) (blade : BladeView) → slice_g
 abbrev pub asked_labels : Setup → List Thread → Event → List Label
 asked_labels setup threads (event.Step hart) = option_to_list (step_label setup threads hart)
 asked_labels setup threads (event.Drain hart) = option_to_list (drain_label threads hart)
-asked_labels setup threads event = []
+asked_labels setup threads (event.Evict blade page) = []
+asked_labels setup threads (event.Deliver link side k) = []
+asked_labels setup threads (event.Lose link side k) = []
+asked_labels setup threads (event.Repeat link side k) = []
+asked_labels setup threads (event.Resend link) = []
+asked_labels setup threads event.Epoch = []
+asked_labels setup threads (event.Ask command) = []
+asked_labels setup threads event.Settle = []
 
 -- those that events ask for, each of the same threads
 abbrev pub all_asked : Setup → List Thread → List Event → List Label
@@ -59,7 +66,14 @@ all_asked setup threads events = flat_map (asked_labels setup threads) events
 abbrev pub AsksNothing : Event → Type 0
 AsksNothing (event.Step hart) = ⊥
 AsksNothing (event.Drain hart) = ⊥
-AsksNothing event = Unit {0}
+AsksNothing (event.Evict blade page) = Unit {0}
+AsksNothing (event.Deliver link side k) = Unit {0}
+AsksNothing (event.Lose link side k) = Unit {0}
+AsksNothing (event.Repeat link side k) = Unit {0}
+AsksNothing (event.Resend link) = Unit {0}
+AsksNothing event.Epoch = Unit {0}
+AsksNothing (event.Ask command) = Unit {0}
+AsksNothing event.Settle = Unit {0}
 
 abbrev pub AskNothing : List Event → Type 0
 AskNothing events = AllByRecursion AsksNothing events

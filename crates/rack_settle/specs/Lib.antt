@@ -1,4 +1,5 @@
 pub mod Labels
+pub mod Numbered
 pub mod Prompt
 pub mod Ran
 pub mod Settled

@@ -1,15 +1,15 @@
 -- What happens at once: labels that stand in the very event that asks for them, by what the log before it tells is held.
-use Rattle.std.specs.Prelude.{◌≡◌, ◌⊎◌, ℕ, ◌+◌, List, [], ◌∷◌, ◌++◌, slice_get, Some}
+use Rattle.std.specs.Prelude.{◌≡◌, ℕ, List, [], ◌∷◌, Some}
 use Rattle.mind_base.specs.declared.events.Event.{Event}
 use Rattle.mind_base.specs.declared.events.Event.TheVariants.{Step, Drain}
 use Rattle.mind_base.specs.declared.notes.Note.{Note}
-use Rattle.mind_base.specs.declared.notes.Note.TheVariants as note
 use Rattle.coherence.specs.Held.{Holdings, held_by}
-use Rattle.tso_machine.specs.Replay.{Whole, labels, replay}
+use Rattle.tso_machine.specs.Replay.{labels}
 use Rattle.tso_machine.specs.Scheduled.{step_label}
-use Rattle.tso_machine.specs.State.{Setup, State, start_state}
+use Rattle.tso_machine.specs.State.{Setup, State}
 use Rattle.tso_machine.specs.declared.labels.Label.TheVariants as label
 use Rattle.rack_core.specs.AtOnce.{ExecutesAtOnce, HoldsOldest, IsAtMostOne}
+use Rattle.rack_settle.specs.Numbered.{HasPart}
 
 -- ---- the labels of one event
 
@@ -30,14 +30,9 @@ IsPrompt setup held m event noted = Unit {0}
 
 -- ---- in a log
 
--- The part of a log that has the event with this number, and what is noted in it. By the state to which the labels before
--- lead, and by what the notes before tell is held, its labels stand in it that can.
-pub record HappensInLog (setup : Setup) (log : List Note) (index : ℕ) (event : Event) : Type 0 where
-  pub before : List Note
-  pub noted : List Note
-  pub after : List Note
-  pub split : log ≡ before ++ (note.Event index ∷ (noted ++ after))
-  pub next : (after ≡ []) ⊎ (slice_get after 0 ≡ Some (note.Event (index + 1)))
-  pub state : State
-  pub run : replay setup (start_state setup) (labels before) ≡ Whole state
-  pub prompt : IsPrompt setup (held_by before) state event noted
+-- By the state to which the labels before the event with this number lead, and by what the notes before it tell is held,
+-- its labels stand in its part of the log where they can. So many events stand behind it.
+pub record HappensInLog (setup : Setup) (log : List Note) (index : ℕ) (event : Event) (left : ℕ) : Type 0 where
+  pub part : HasPart setup log index 1 left
+  pub open part use *
+  pub prompt : IsPrompt setup (held_by before) state event now

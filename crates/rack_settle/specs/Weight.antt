@@ -1,19 +1,23 @@
 -- What is still to come in a rack without further events of its harts, as a number: each message that a node handles makes
 -- it less.
-use Rattle.std.specs.Prelude.{ℕ, ◌+◌, ◌*◌, List, length, map, filter, if◌then◌else◌}
+use Rattle.std.specs.Prelude.{◌≡◌, ℕ, ◌+◌, ◌*◌, false, List, ◌∷◌, length, map, filter, drop, slice_get, Option, Some, if◌then◌else◌}
 use Rattle.std.specs.List.{sum}
+use Rattle.std.specs.Option.{option_map_or}
 use Rattle.mind_base.specs.Cover.{sum_below}
+use Rattle.mind_base.specs.Pending.{PendingView}
+use Rattle.mind_base.specs.Place.{place_of, page_at}
 use Rattle.mind_base.specs.declared.links.LinkKind.TheVariants.{Up, Down, To, From}
 use Rattle.mind_base.specs.declared.links.LinkName.{LinkName}
 use Rattle.mind_base.specs.declared.notes.State.{State}
 use Rattle.mind_base.specs.declared.notes.State.TheVariants.{I, S, M}
+use Rattle.mind_base.specs.declared.plans.ThreadPlan.{ThreadPlan}
 use Rattle.invalidate_multicast.specs.Blades.{casts_of}
 use Rattle.invalidate_multicast.specs.Transition.{target_of}
 use Rattle.region_directory.specs.declared.entries.Entry.{Entry}
 use Rattle.request_list.specs.declared.requests.Request.{Request}
 use Rattle.wire_msg.specs.declared.msgs.Msg.{Msg}
-use Rattle.wire_msg.specs.declared.msgs.Msg.TheVariants.{Get, Fill, Deny, Back, Inv, Lower, Ack, Read, Image, Write}
-use Rattle.compute_blade.specs.Blade.{BladeView}
+use Rattle.wire_msg.specs.declared.msgs.Msg.TheVariants.{Get, Fill, Deny, Back, Inv, Lower, Ack, Close, Closed, Reopen, Read, Image, Write, Zero}
+use Rattle.compute_blade.specs.Blade.{HartView, BladeView, hart_of, is_asked}
 use Rattle.switch_core.specs.Switch.{SwitchView}
 use Rattle.rack_net.specs.Net.{NetLink, NetView, links_of}
 use Rattle.rack_core.specs.Rack.{RackView}
@@ -32,7 +36,10 @@ weight_of (Lower number range asked) = 2
 weight_of (Ack number count) = 1
 weight_of (Back page image) = 2
 weight_of (Write phys image) = 1
-weight_of message = 1
+weight_of (Close number span ends) = 3
+weight_of (Closed number) = 1
+weight_of (Reopen number) = 1
+weight_of (Zero phys pages) = 1
 
 abbrev pub messages_weight : List Msg → ℕ
 messages_weight messages = sum (map weight_of messages)
@@ -43,9 +50,32 @@ sent_weight sent = sum (map (λ message. weight_of message.1) sent)
 
 -- ---- nodes
 
--- a compute blade: each page that it wrote may go back
+-- the stores that a hart has still to drain, without the one that its drain waits for
+abbrev pub left_to_drain : HartView → List PendingView
+left_to_drain hart = if hart.draining then drop 1 hart.queue.stores else hart.queue.stores
+
+-- a hart: each store that it has still to drain may ask for its page, and a step that waits may leave one store more
+abbrev pub hart_weight : HartView → ℕ
+hart_weight hart = 15 * (length (left_to_drain hart) + (if hart.stepping then 1 else 0))
+
+abbrev pub harts_weight : List (Option HartView) → ℕ
+harts_weight harts = sum (map (λ hart. option_map_or hart_weight hart 0) harts)
+
+-- a compute blade: each page that it wrote may go back, and its harts
 abbrev pub blade_weight : BladeView → ℕ
-blade_weight blade = 3 * length (filter (λ held. held.1.dirty) blade.cache.entries)
+blade_weight blade = 3 * length (filter (λ held. held.1.dirty) blade.cache.entries) + harts_weight blade.harts
+
+-- The blade's hart has a store to drain: its drain does not wait, and the page of its oldest store is not asked for.
+pub record HasToDrain (h : ℕ) (blade : BladeView) : Type 0 where
+  pub plan : ThreadPlan
+  pub hart : HartView
+  pub oldest : PendingView
+  pub newer : List PendingView
+  pub thread : slice_get blade.plan.threads h ≡ Some plan
+  pub own : hart_of blade h ≡ Some hart
+  pub idle : hart.draining ≡ false
+  pub queue : hart.queue.stores ≡ oldest ∷ newer
+  pub unasked : is_asked (page_at (place_of plan.domain oldest.address)) blade.requests ≡ false
 
 -- a request that waits; one that is fetched has its Read or its Image under way
 abbrev pub request_weight : Request → ℕ

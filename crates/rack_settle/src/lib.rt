@@ -16,7 +16,9 @@ pub use laws_of_labels::{
     settling_performs_what_waits, what_waits_is_performed_once,
 };
 pub use laws_of_links::each_turn_leaves_fewer;
-pub use laws_of_schedules::{labels_stand_at_once, schedules_have_settled_labels};
+pub use laws_of_schedules::{
+    labels_are_not_late, labels_stand_at_once, schedules_have_settled_labels,
+};
 pub use laws_of_switch::the_switch_sends_less;
 pub use running::run_all;
 pub use settling::settle;

@@ -7,7 +7,11 @@ ghost use Rattle.mind_base.specs.declared.failures.Stop.TheVariants.{Spent};
 ghost use Rattle.compute_blade.specs.Blade.{BeginsWith};
 ghost use Rattle.rack_core.specs.Calls.{HasSpentNumber, IsKept, IsQuiet, Notes};
 ghost use Rattle.rack_core.specs.Noted.{AreInPlace, CarriesOn};
+ghost use Rattle.rack_core.specs.Waits.{AreNeeded};
+ghost use Rattle.rack_settle.specs.Labels.{owed};
 ghost use Rattle.rack_settle.specs.Settled.{FindsTurn, Settles};
+ghost use Rattle.std.specs.List.Sorted.{IsPermutation};
+ghost use Rattle.tso_machine.specs.Replay.{labels};
 
 use mind_base::{Event, Image, Log, Stop};
 use rack_core::Rack;
@@ -15,7 +19,7 @@ use rack_core::Rack;
 /// The turn that comes next: frame 0 of the first wire that is not empty is delivered; where all are empty, the
 /// first link that keeps messages sends them again. None where no link does.
 fn next_turn(rack: &Rack) -> Option<Event>
-    ensures { FindsTurn rack.now.net result }
+    ensures { FindsTurn rack.now result }
 {
     match rack.first_frame() {
         Some((link, side)) => Some(Event::Deliver { link, side, k: 0 }),
@@ -35,6 +39,9 @@ pub fn settle(rack: &mut Rack, images: &[Image], log: &mut Log) -> Result<(), St
     ensures settles { OnOk result (Notes (Settles images.now rack.old rack.new) log.old.notes log.new.notes) }
     ensures kept { OnOk result (IsKept rack.new) }
     ensures quiet { OnOk result (IsQuiet rack.new) }
+
+    // What waited is noted, each once and in some order, and nothing else, where each step waits for what it needs.
+    ensures labels { OnOk result (AreNeeded images.now rack.old → Notes (λ noted. IsPermutation (labels noted) (owed rack.old)) log.old.notes log.new.notes) }
 
     // The labels noted carry on the run of the machine for which the rack stood; the notes may stand in a settling.
     ensures stands { OnOk result (Notes (CarriesOn images.now rack.old rack.new) log.old.notes log.new.notes) }

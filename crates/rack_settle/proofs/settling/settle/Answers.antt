@@ -1,3 +1,4 @@
+use Rattle.rack_settle.proofs.Schedules.{settles-waiting}
 use Rattle.rack_settle.proofs.Settlings.{lowered, turned-none, turned-more, turned-places, settled, settled-quiet}
 use Rattle.rack_settle.proofs.settling.settle.Goals as goal
 
@@ -20,3 +21,7 @@ returns-clause-places c = turned-places c.args.images.now c.args.rack.now c.loop
 
 pub returns-clause-settles : goal.returns-clause-settles
 returns-clause-settles c = settled c.args.images.now c.args.rack.now c.loop-turn.rack c.args.log.now.notes c.loop-turn.log.notes c.loop-turn.invariant c.in_default.ensures
+
+pub returns-clause-labels : goal.returns-clause-labels
+returns-clause-labels c = settles-waiting c.args.images.now c.args.rack.now c.loop-turn.rack c.args.log.now.notes c.loop-turn.log.notes c.requires.kept
+    (settled c.args.images.now c.args.rack.now c.loop-turn.rack c.args.log.now.notes c.loop-turn.log.notes c.loop-turn.invariant c.in_default.ensures)
