@@ -24,4 +24,4 @@ pub record RanThrough (accepted : Accepted) (log : List Note) (rack : RackView) 
   pub kept : IsKept rack
   pub settled : HasSettledLabels (setup_of accepted.plan accepted.images) accepted.plan accepted.events log
   pub at_once : (before after : List Event) (event : Event) → accepted.events ≡ before ++ (event ∷ after)
-      → HappensInLog (setup_of accepted.plan accepted.images) log (length before) event
+      → HappensInLog (setup_of accepted.plan accepted.images) log (length before) event (length after)

@@ -6,7 +6,6 @@ ghost use Rattle.mind_base.specs.Fit.{IsFit};
 ghost use Rattle.mind_base.specs.Store.{Files};
 ghost use Rattle.mind_base.specs.declared.plans.RackPlan.{RackPlan as rack_plan};
 ghost use Rattle.rack_gen.specs.Generator.{generated_text};
-ghost use Rattle.mind_base.specs.declared.events.Event.{Event as event};
 ghost use Rattle.journal_text.specs.Journal.{AreJournalNotes};
 ghost use Rattle.report_text.specs.Counts.{counts_line};
 ghost use Rattle.rack_settle.specs.Stretches.{AreSettledEach};
@@ -47,10 +46,10 @@ pub fn what_is_journalled_is_checked()
         × DoneBy (Some files) (Check paths journal) (record { log = []; end = None }) said × CallFor files (Check paths journal) done }
 {}
 
-/// Where each event of a schedule is followed by a settling, the accepted files decide the report but for its line of
+/// Where each event of a schedule that is no settling is followed by one, the accepted files decide the report but for its line of
 /// counts: two runs of them, whatever their links did, write the same lines before it.
 pub fn settled_schedules_have_one_outcome()
-    ensures { (accepted : Accepted) (each : List event) (a b : Left) (text other : List ℕ) → AreSettledEach each accepted.events
+    ensures { (accepted : Accepted) (a b : Left) (text other : List ℕ) → AreSettledEach accepted.events
         → Headline accepted a text → Headline accepted b other
         → (front : List ℕ) × (text ≡ front ++ counts_line a.log) × (other ≡ front ++ counts_line b.log) }
 {}
