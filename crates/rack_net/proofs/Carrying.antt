@@ -6,12 +6,8 @@ use Rattle.std.proofs.lemmas.List.{map-append, take_more, get_or-map, length-map
 use Rattle.std.proofs.lemmas.List.Elements.{All-push}
 use Rattle.mind_base.specs.declared.links.Side.{Side}
 use Rattle.link_retry.specs.Link.{LinkView, IsLink, after_send, FrameDelivers}
-<<<<<<< HEAD
-use Rattle.link_retry.specs.GoBackN.{after_resend}
-=======
 use Rattle.link_retry.specs.SelectiveRepeat.{SelectiveView, after_resend}
 use Rattle.link_retry.proofs.Callers.{deliver_keeps}
->>>>>>> 8494c0364930c49157639d173f512e154c84d330
 use Rattle.wire_msg.specs.declared.msgs.Msg.{Msg}
 use Rattle.wire_msg.specs.Spelling.{spelling}
 use Rattle.wire_msg.specs.WellFormed.{IsWellFormed}
