@@ -1,5 +1,6 @@
 pub mod Carrying
 pub mod Finding
 pub mod Naming
+pub mod Noting
 pub mod Putting
 pub mod Texts
