@@ -11,6 +11,8 @@ use Rattle.wire_msg.specs.Spelling.{spelling}
 use Rattle.wire_msg.specs.WellFormed.{IsWellFormed}
 use Rattle.wire_msg.specs.Reading.{message_of}
 use Rattle.rack_net.specs.Net.{NetLink, NetView, links_of_kind, link_place}
+use Rattle.rack_net.specs.LinkSets.{HasLinksWith, is_busy, is_keeping}
+use Rattle.rack_net.specs.declared.sets.LinkSet.{LinkSet}
 
 -- the message that the bytes spell; bytes that spell none are never pending
 unfoldable pub message_spelled : List ℕ → Msg
@@ -78,3 +80,9 @@ pub record IsFirstKeeping (links : List SelectiveView) (place : ℕ) : Type 0 wh
 abbrev pub FindsKeeping : List SelectiveView → Option ℕ → Type 0
 FindsKeeping links None = All (λ link. link.link.kept ≡ 0) links
 FindsKeeping links (Some place) = IsFirstKeeping links place
+
+-- a net with the sets of its links that have a frame, and that keep messages
+pub record IsKeptNet (blades memories : ℕ) (links : List SelectiveView) (busy keeping : LinkSet) : Type 0 where
+  pub kept : AreKeptLinks blades memories links
+  pub busy_links : HasLinksWith is_busy links busy
+  pub keeping_links : HasLinksWith is_keeping links keeping

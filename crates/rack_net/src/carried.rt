@@ -14,6 +14,9 @@ use mind_base::{NoMemory, Side, Stop};
 use std::alloc::Global;
 use wire_msg::{Msg, WireRefusal, decode, encode};
 
+/// Bytes enough for a message without an image.
+const WITHOUT_IMAGE: usize = 16;
+
 /// Sends a message on a link. `Spent` leaves the link as it was.
 pub(crate) fn send_on(link: &mut Link, alloc: Global, msg: &Msg) -> Result<(), Stop>
     requires fields { FieldsAgree msg.now }
@@ -29,7 +32,7 @@ pub(crate) fn send_on(link: &mut Link, alloc: Global, msg: &Msg) -> Result<(), S
     if link.is_spent() {
         return Err(Stop::Spent);
     }
-    let mut bytes = Vec::new(alloc);
+    let mut bytes = Vec::with_capacity(alloc, WITHOUT_IMAGE)?;
     match encode(msg, &mut bytes) {
         Ok(()) => link.send(bytes),
         Err(NoMemory) => Err(Stop::NoMemory),

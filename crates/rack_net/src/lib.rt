@@ -6,5 +6,6 @@ mod carried;
 mod nets;
 mod places;
 mod rows;
+mod sets;
 
 pub use nets::Net;

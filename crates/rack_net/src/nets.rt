@@ -10,7 +10,8 @@ ghost use Rattle.rack_net.specs.Net.{IsLinkOf, IsNet, ChangesOnly, FindsFrame, F
 
 use crate::carried::{deliver_on, lose_on, repeat_on, resend_on, send_on};
 use crate::places::{name, place};
-use crate::rows::{empty_links, first_busy, first_keeping, give_up};
+use crate::rows::{empty_links, first_busy, first_keeping, give_up, note_link};
+use crate::sets::LinkSet;
 use link_retry::Link;
 use mind_base::{LinkName, NoMemory, Side, Stop};
 use std::alloc::Global;
@@ -28,17 +29,21 @@ pub struct Net {
     memories: u8,
     /// Up and down of each compute blade, then to and from each memory blade.
     links: Vec<Link>,
+    /// Those of the first 64 links that have a frame on a wire.
+    busy: LinkSet,
+    /// Those of the first 64 links that keep messages.
+    keeping: LinkSet,
 }
 
 impl Model for Net {
     ghost use Rattle.rack_net.specs.Net.{NetView};
-    ghost use Rattle.rack_net.specs.Kept.{net_view, AreKeptLinks};
+    ghost use Rattle.rack_net.specs.Kept.{net_view, IsKeptNet};
 
     ghost Value = { NetView };
 
     ghost view = { λ n. net_view n.blades n.memories n.links.items };
 
-    ghost invariant = { λ n. AreKeptLinks n.blades n.memories n.links.items };
+    ghost invariant = { λ n. IsKeptNet n.blades n.memories n.links.items n.busy n.keeping };
 }
 
 impl Net {
@@ -56,6 +61,8 @@ impl Net {
             blades,
             memories,
             links,
+            busy: LinkSet::none(),
+            keeping: LinkSet::none(),
         })
     }
 
@@ -74,9 +81,14 @@ impl Net {
     {
         let at = place(self.blades, link);
         match send_on(&mut self.links[at], self.alloc, msg) {
-            Ok(()) => Ok(()),
+            Ok(()) => {
+                note_link(&self.links[at], at, &mut self.busy, &mut self.keeping);
+                Ok(())
+            }
             Err(Stop::Spent) => Err(Stop::Spent),
             Err(Stop::NoMemory) => {
+                self.busy = LinkSet::none();
+                self.keeping = LinkSet::none();
                 give_up(&mut self.blades, &mut self.memories, &mut self.links);
                 Err(Stop::NoMemory)
             }
@@ -98,8 +110,13 @@ impl Net {
     {
         let at = place(self.blades, link);
         match deliver_on(&mut self.links[at], self.alloc, side, k) {
-            Ok(taken) => Ok(taken),
+            Ok(taken) => {
+                note_link(&self.links[at], at, &mut self.busy, &mut self.keeping);
+                Ok(taken)
+            }
             Err(NoMemory) => {
+                self.busy = LinkSet::none();
+                self.keeping = LinkSet::none();
                 give_up(&mut self.blades, &mut self.memories, &mut self.links);
                 Err(NoMemory)
             }
@@ -117,6 +134,7 @@ impl Net {
     {
         let at = place(self.blades, link);
         lose_on(&mut self.links[at], side, k);
+        note_link(&self.links[at], at, &mut self.busy, &mut self.keeping);
     }
 
     /// Puts a copy of the frame that `k` names at the end of its wire.
@@ -130,8 +148,13 @@ impl Net {
     {
         let at = place(self.blades, link);
         match repeat_on(&mut self.links[at], side, k) {
-            Ok(()) => Ok(()),
+            Ok(()) => {
+                note_link(&self.links[at], at, &mut self.busy, &mut self.keeping);
+                Ok(())
+            }
             Err(NoMemory) => {
+                self.busy = LinkSet::none();
+                self.keeping = LinkSet::none();
                 give_up(&mut self.blades, &mut self.memories, &mut self.links);
                 Err(NoMemory)
             }
@@ -150,8 +173,13 @@ impl Net {
     {
         let at = place(self.blades, link);
         match resend_on(&mut self.links[at]) {
-            Ok(()) => Ok(()),
+            Ok(()) => {
+                note_link(&self.links[at], at, &mut self.busy, &mut self.keeping);
+                Ok(())
+            }
             Err(NoMemory) => {
+                self.busy = LinkSet::none();
+                self.keeping = LinkSet::none();
                 give_up(&mut self.blades, &mut self.memories, &mut self.links);
                 Err(NoMemory)
             }
@@ -164,7 +192,7 @@ impl Net {
         ensures first { FindsFrame self.now result }
         ensures net { IsNet self.now }
     {
-        match first_busy(self.links.as_slice()) {
+        match first_busy(self.links.as_slice(), self.busy) {
             None => None,
             Some((at, side)) => Some((name(self.blades, self.memories, at), side)),
         }
@@ -175,7 +203,7 @@ impl Net {
         ensures first { FindsKept self.now result }
         ensures net { IsNet self.now }
     {
-        match first_keeping(self.links.as_slice()) {
+        match first_keeping(self.links.as_slice(), self.keeping) {
             None => None,
             Some(at) => Some(name(self.blades, self.memories, at)),
         }

@@ -1,10 +1,12 @@
 //! The links in their order, searched from the first.
 
-ghost use Rattle.std.specs.Prelude.{◌≡◌, replicate, IfOk};
+ghost use Rattle.std.specs.Prelude.{◌≡◌, [], replicate, IfOk};
 ghost use Rattle.link_retry.specs.SelectiveRepeat.{new_selective};
 ghost use Rattle.rack_net.specs.Net.{IsNet};
 ghost use Rattle.rack_net.specs.Kept.{FindsBusy, FindsKeeping, FindsSide, AreKeptLinks, net_view};
+ghost use Rattle.rack_net.specs.LinkSets.{PutsIn, HasLinksWith, is_busy, is_keeping};
 
+use crate::sets::LinkSet;
 use link_retry::Link;
 use mind_base::{NoMemory, Side};
 use std::alloc::Global;
@@ -24,6 +26,7 @@ pub(crate) fn empty_links(alloc: Global, count: usize) -> Result<Vec<Link>, NoMe
 pub(crate) fn give_up(blades: &mut u8, memories: &mut u8, links: &mut Vec<Link>)
     ensures kept { AreKeptLinks blades.new memories.new links.new.items }
     ensures net { IsNet (net_view blades.new memories.new links.new.items) }
+    ensures none { links.new.items ≡ [] }
 {
     *blades = 0;
     *memories = 0;
@@ -43,11 +46,34 @@ fn busy_side(link: &Link) -> Option<Side>
     None
 }
 
-/// The place and the side of the first wire that is not empty.
-pub(crate) fn first_busy(links: &[Link]) -> Option<(usize, Side)>
+/// Whether a wire of a link has a frame.
+fn is_busy(link: &Link) -> bool
+    ensures { result ≡ is_busy link.now }
+{
+    link.frames(Side::Messages) > 0 || link.frames(Side::Acks) > 0
+}
+
+/// Notes anew whether the link at a place has a frame, and whether it keeps messages.
+pub(crate) fn note_link(link: &Link, place: usize, busy: &mut LinkSet, keeping: &mut LinkSet)
+    ensures busy { PutsIn busy.old place (is_busy link.now) busy.new }
+    ensures keeping { PutsIn keeping.old place (is_keeping link.now) keeping.new }
+{
+    busy.put(place, is_busy(link));
+    keeping.put(place, link.kept() > 0);
+}
+
+/// The place and the side of the first wire that is not empty. Only links past the set are searched.
+pub(crate) fn first_busy(links: &[Link], busy: LinkSet) -> Option<(usize, Side)>
+    requires { HasLinksWith is_busy links.now busy }
     ensures { FindsBusy links.now result }
 {
-    for place in 0..links.len() {
+    if let Some(place) = busy.first() {
+        return match busy_side(&links[place]) {
+            Some(side) => Some((place, side)),
+            None => None,
+        };
+    }
+    for place in 64..links.len() {
         if let Some(side) = busy_side(&links[place]) {
             return Some((place, side));
         }
@@ -55,11 +81,15 @@ pub(crate) fn first_busy(links: &[Link]) -> Option<(usize, Side)>
     None
 }
 
-/// The place of the first link that keeps messages.
-pub(crate) fn first_keeping(links: &[Link]) -> Option<usize>
+/// The place of the first link that keeps messages. Only links past the set are searched.
+pub(crate) fn first_keeping(links: &[Link], keeping: LinkSet) -> Option<usize>
+    requires { HasLinksWith is_keeping links.now keeping }
     ensures { FindsKeeping links.now result }
 {
-    for place in 0..links.len() {
+    if let Some(place) = keeping.first() {
+        return Some(place);
+    }
+    for place in 64..links.len() {
         if links[place].kept() > 0 {
             return Some(place);
         }

@@ -7,7 +7,7 @@ use Rattle.rack_net.proofs.carried.send_on.Goals as goal
 
 -- the link takes the spelling
 bytes : (c : goal.After-send) → after_send c.args.link.now.link c.encode.new.out.items ≡ after_send c.args.link.now.link (spelling c.args.msg.now)
-bytes c = ap (after_send c.args.link.now.link) (c.in-Ok.ensures.ok ∙ ap (λ (xs : List ℕ). xs ++ spelling c.args.msg.now) c.new-bytes.ensures.items)
+bytes c = ap (after_send c.args.link.now.link) (c.in-Ok.ensures.ok ∙ ap (λ (xs : List ℕ). xs ++ spelling c.args.msg.now) c.in_ok-bytes.ensures.items)
 
 held : (c : goal.After-send) → c.send.new.self.link ≡ after_send c.args.link.now.link c.encode.new.out.items → IsHeld c.send.new.self
 held c sent = held-sent c.args.link.now c.send.new.self c.args.msg.now c.requires.held c.in-Ok.ensures.formed c.send.ensures.link (sent ∙ bytes c)

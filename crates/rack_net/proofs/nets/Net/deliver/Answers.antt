@@ -4,11 +4,13 @@ use Rattle.link_retry.specs.SelectiveRepeat.{DeliversSelectively}
 use Rattle.wire_msg.specs.Spelling.{spelling}
 use Rattle.rack_net.specs.Net.{spelled, with_windows}
 use Rattle.rack_net.specs.Kept.{net_view}
+use Rattle.rack_net.proofs.Noting.{net-noted}
 use Rattle.rack_net.proofs.Putting.{Updates, updates, by-name}
 use Rattle.rack_net.proofs.nets.Net.deliver.Goals as goal
+use Rattle.rack_net.proofs.nets.Net.deliver.Goals.{After-note_link}
 
-step : (c : goal.In-Ok) → Updates c.args.self.now (net_view c.self.inside.blades c.self.inside.memories (set c.self.inside.links.items c.place-at.result c.deliver_on.new.link)) c.args.link c.index_mut.result.now c.deliver_on.new.link
-step c = updates c.self.view_is c.self.invariant c.requires c.place-at.ensures c.index_mut.ensures.value c.in-Ok.ensures.held
+step : (c : After-note_link) → Updates c.args.self.now (net_view c.self.inside.blades c.self.inside.memories (set c.self.inside.links.items c.place-at.result c.deliver_on.new.link)) c.args.link c.index_mut.result.now c.deliver_on.new.link
+step c = updates c.self.view_is c.self.invariant.kept c.requires c.place-at.ensures c.index_mut.ensures.value c.in-Ok.ensures.held
 
 pub returns-in-Ok-clause-fifo : goal.returns-in-Ok-clause-fifo
 returns-in-Ok-clause-fifo c = by-name _ _ c.args.link _ _ (λ a b. a.pending ≡ c.in-Ok.taken.items ++ b.pending) (step c) c.in-Ok.ensures.fifo
@@ -24,3 +26,6 @@ returns-in-Ok-clause-only c = (step c).only
 
 pub returns-in-Ok-clause-net : goal.returns-in-Ok-clause-net
 returns-in-Ok-clause-net c = (step c).net
+
+pub invariant_of-self : goal.invariant_of-self
+invariant_of-self c = net-noted c.args.link c.self.view_is c.self.invariant c.requires c.place-at.ensures c.in-Ok.ensures.held c.index.ensures c.note_link.ensures.busy c.note_link.ensures.keeping

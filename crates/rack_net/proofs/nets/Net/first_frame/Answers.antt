@@ -10,21 +10,21 @@ use Rattle.rack_net.proofs.nets.Net.first_frame.Goals as goal
 pub returns-in-None-clause-first : goal.returns-in-None-clause-first
 returns-in-None-clause-first c =
     subst (λ (v : NetView). FindsFrame v None) c.self.view_is
-    (no-frame c.self.inside.blades c.self.inside.memories c.self.inside.links.items c.self.invariant (subst (All IsQuietLink) c.as_slice.ensures.value c.in-None.ensures))
+    (no-frame c.self.inside.blades c.self.inside.memories c.self.inside.links.items c.self.invariant.kept (subst (All IsQuietLink) c.as_slice.ensures.value c.in-None.ensures))
 
 pub returns-in-None-clause-net : goal.returns-in-None-clause-net
-returns-in-None-clause-net c = subst IsNet c.self.view_is (is-net _ _ _ c.self.invariant)
+returns-in-None-clause-net c = subst IsNet c.self.view_is (is-net _ _ _ c.self.invariant.kept)
 
 pub name-requires : goal.name-requires
 name-requires c =
     let found = subst (λ (links : List SelectiveView). IsFirstBusy links c.in-Some.at c.in-Some.side) c.as_slice.ensures.value c.in-Some.ensures in
-    found-below _ _ c.self.inside.links.items c.in-Some.at found.link c.self.invariant found.here
+    found-below _ _ c.self.inside.links.items c.in-Some.at found.link c.self.invariant.kept found.here
 
 pub returns-in-Some-clause-first : goal.returns-in-Some-clause-first
 returns-in-Some-clause-first c =
     subst (λ (v : NetView). IsFirstFrame v c.name.result c.in-Some.side) c.self.view_is
-    (first-frame c.self.inside.blades c.self.inside.memories c.self.inside.links.items c.in-Some.at c.in-Some.side c.name.result c.self.invariant
+    (first-frame c.self.inside.blades c.self.inside.memories c.self.inside.links.items c.in-Some.at c.in-Some.side c.name.result c.self.invariant.kept
     (subst (λ (links : List SelectiveView). IsFirstBusy links c.in-Some.at c.in-Some.side) c.as_slice.ensures.value c.in-Some.ensures) c.name.ensures)
 
 pub returns-in-Some-clause-net : goal.returns-in-Some-clause-net
-returns-in-Some-clause-net c = subst IsNet c.self.view_is (is-net _ _ _ c.self.invariant)
+returns-in-Some-clause-net c = subst IsNet c.self.view_is (is-net _ _ _ c.self.invariant.kept)
