@@ -1,5 +1,5 @@
 -- A rack that runs through events, one event after another.
-use Rattle.std.proofs.Common.{◌≡◌, ℕ, suc, ◌+◌, ◌⊎◌, ◌∙◌, true, false, List, [], ◌∷◌, ◌++◌, length, take, drop, ap, sym, refl, subst, Some, Result, Ok, Err, append-nil, arith}
+use Rattle.std.proofs.Common.{◌≡◌, ℕ, suc, ◌+◌, ◌⊎◌, inl, inr, ◌∙◌, true, false, List, [], ◌∷◌, ◌++◌, length, take, drop, ap, sym, refl, subst, Some, Result, Ok, Err, append-nil, arith}
 use Rattle.std.specs.Prelude.{IsOk, OnOk}
 use Rattle.std.specs.List.{slice_get}
 use Rattle.std.proofs.lemmas.List.{append_assoc, take-append-drop}
@@ -62,13 +62,9 @@ stands-noted images rack log index stands =
       released = noted-released rack log index stands.released;
     }
 
-pub has-run-none : (images : List Image) (rack : RackView) (log : List Note) → IsKept rack → StandsForLog images rack [] → log ≡ [] → HasRun images [] rack rack log
-has-run-none images rack log kept stands none = record {
-  plan = refl;
-  kept = kept;
-  ran = (refl, none);
-  stands = subst (StandsForLog images rack) (sym none) stands;
-}
+-- notes that are put behind a log
+pub has-run-none : (images : List Image) (rack : RackView) (log : List Note) → IsKept rack → StandsForLog images rack [] → Notes (HasRun images [] rack rack) log log
+has-run-none images rack log kept stands = ([], record { plan = refl; kept = kept; ran = (refl, refl); stands = stands }, sym (append-nil log))
 
 has-run-more : (images : List Image) (done : List Event) (e : Event) (first mid last : RackView) (before behind : List Note)
     → HasRun images done first mid before → Runs images (length done) e mid last before behind → last.plan ≡ mid.plan → HasRun images (done ++ e ∷ []) first last behind
@@ -86,25 +82,43 @@ has-run-more images done e first mid last before behind has runs plan =
     }
 
 -- the same by the place of an event in its schedule
-pub has-run-at : (images : List Image) (es : List Event) (i : ℕ) (e : Event) (first mid last : RackView) (before behind : List Note) → slice_get es i ≡ Some e → length (take i es) ≡ i
-    → HasRun images (take i es) first mid before → Runs images i e mid last before behind → last.plan ≡ mid.plan → HasRun images (take (i + 1) es) first last behind
-has-run-at images es i e first mid last before behind at there has runs plan =
-    let P : List Event → Type 0 = λ xs. HasRun images xs first last behind in
-    let Q : ℕ → Type 0 = λ n. Runs images n e mid last before behind in
-    subst P (sym (take-at es i e at)) (has-run-more images (take i es) e first mid last before behind has (subst Q (sym there) runs) plan)
+pub has-run-at : (images : List Image) (es : List Event) (i : ℕ) (e : Event) (first mid last : RackView) (log before behind : List Note) → slice_get es i ≡ Some e → length (take i es) ≡ i
+    → Notes (HasRun images (take i es) first mid) log before → Runs images i e mid last before behind → last.plan ≡ mid.plan → Notes (HasRun images (take (i + 1) es) first last) log behind
+has-run-at images es i e first mid last log before behind at there (added, has, is) runs plan =
+    let now = note.Event i ∷ runs.added in
+    let P : List Event → Type 0 = λ xs. HasRun images xs first last (added ++ now) in
+    let Q : ℕ → Type 0 = λ n. Runs images n e mid last added (added ++ now) in
+    let moved : Q i = record { added = runs.added; leads = runs.leads; places = runs.places; stands = runs.stands; kept = runs.kept; log = refl } in (
+      added ++ now,
+      subst P (sym (take-at es i e at)) (has-run-more images (take i es) e first mid last added (added ++ now) has (subst Q (sym there) moved) plan),
+      runs.log ∙ ap (λ ns. ns ++ now) is ∙ append_assoc log added now,
+    )
+
+-- the events before one of them, itself, and those behind it
+parts-at : (es : List Event) (i : ℕ) (e : Event) → slice_get es i ≡ Some e → es ≡ take i es ++ (e ∷ drop (i + 1) es)
+parts-at es i e at = sym (take-append-drop (i + 1) es) ∙ ap (λ xs. xs ++ drop (i + 1) es) (take-at es i e at) ∙ append_assoc (take i es) (e ∷ []) (drop (i + 1) es)
 
 -- where an event stopped
-pub has-stopped-at : (images : List Image) (es : List Event) (i : ℕ) (first last : RackView) (before behind : List Note) → length (take i es) ≡ i
-    → HasRun images (take i es) first last before → (behind ≡ before) ⊎ (behind ≡ before ++ note.Event i ∷ []) → HasStopped images es first behind
-has-stopped-at images es i first last before behind there has more = record {
-  done = take i es;
-  left = drop i es;
-  front = sym (take-append-drop i es);
-  last = last;
-  before = before;
-  ran = has;
-  behind = subst (λ n. (behind ≡ before) ⊎ (behind ≡ before ++ note.Event n ∷ [])) (sym there) more;
-}
+pub has-stopped-at : (images : List Image) (es : List Event) (i : ℕ) (e : Event) (first last stopped : RackView) (log before behind : List Note) → slice_get es i ≡ Some e → length (take i es) ≡ i
+    → Notes (HasRun images (take i es) first last) log before → (behind ≡ before) ⊎ (behind ≡ before ++ note.Event i ∷ []) → stopped.plan ≡ last.plan
+    → Notes (HasStopped images es first stopped) log behind
+has-stopped-at images es i e first last stopped log before behind at there (added, has, is) (inl same) plan =
+    (added, record { done = take i es; event = e; left = drop (i + 1) es; front = parts-at es i e at; last = last; before = added; ran = has; behind = inl refl; plan = plan ∙ has.plan }, same ∙ is)
+has-stopped-at images es i e first last stopped log before behind at there (added, has, is) (inr more) plan = (
+  added ++ note.Event i ∷ [],
+  record {
+    done = take i es;
+    event = e;
+    left = drop (i + 1) es;
+    front = parts-at es i e at;
+    last = last;
+    before = added;
+    ran = has;
+    behind = inr (ap (λ n. added ++ note.Event n ∷ []) (sym there));
+    plan = plan ∙ has.plan;
+  },
+  more ∙ ap (λ ns. ns ++ note.Event i ∷ []) is ∙ append_assoc log added (note.Event i ∷ []),
+)
 
 -- ---- what one event adds
 

@@ -35,16 +35,18 @@ pub record HasRun (images : List Image) (done : List Event) (first last : RackVi
   pub ran : Ran images 0 done first last log
   pub stands : StandsForLog images last log
 
--- An event of these stopped. The log is that of the rack that ran through the events before it, and behind it there
--- is at most the number of the one that stopped.
-pub record HasStopped (images : List Image) (events : List Event) (first : RackView) (log : List Note) : Type 0 where
+-- An event of these stopped, and left this rack. The log is that of the rack that ran through the events before it, and
+-- behind it there is at most the number of the one that stopped.
+pub record HasStopped (images : List Image) (events : List Event) (first stopped : RackView) (log : List Note) : Type 0 where
   pub done : List Event
+  pub event : Event
   pub left : List Event
-  pub front : events ≡ done ++ left
+  pub front : events ≡ done ++ (event ∷ left)
   pub last : RackView
   pub before : List Note
   pub ran : HasRun images done first last before
   pub behind : (log ≡ before) ⊎ (log ≡ before ++ note.Event (length done) ∷ [])
+  pub plan : stopped.plan ≡ first.plan
 
 -- ---- what the code that runs keeps
 

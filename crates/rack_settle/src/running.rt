@@ -78,9 +78,9 @@ fn one_event(
     Ok(())
 }
 
-/// Runs the events of a schedule on a rack at its start, one after another, and puts their notes into the
-/// log, which is empty before. Where an event stops, the log ends with those of the events before it and,
-/// at most, the note of that event's number.
+/// Runs the events of a schedule on a rack at its start, one after another, and puts their notes behind the
+/// log. Where an event stops, the notes are those of the events before it and, at most, that event's number, and
+/// the rack is left as the event left it.
 pub fn run_all(
     alloc: Global,
     images: &[Image],
@@ -93,9 +93,8 @@ pub fn run_all(
     requires fit { AllByRecursion (IsRunFor rack.old.plan) events.now }
     requires few { length events.now ≤ 1000000 }
     requires stands { StandsForLog images.now rack.old [] }
-    requires empty { log.old.notes ≡ [] }
-    ensures ok { OnOk result (HasRun images.now events.now rack.old rack.new log.new.notes) }
-    ensures err { OnErr result (HasStopped images.now events.now rack.old log.new.notes) }
+    ensures ok { OnOk result (Notes (HasRun images.now events.now rack.old rack.new) log.old.notes log.new.notes) }
+    ensures err { OnErr result (Notes (HasStopped images.now events.now rack.old rack.new) log.old.notes log.new.notes) }
     ensures spent { result ≡ Err Spent → HasSpentNumber rack.new }
 {
     for i in 0..events.len() {
