@@ -1,5 +1,5 @@
 -- What stands at the end of a run.
-use Rattle.std.proofs.Common.{◌≡◌, ◌≤◌, ◌∙◌, ℕ, List, length, subst, Option, Some}
+use Rattle.std.proofs.Common.{◌≡◌, ◌≤◌, ◌∙◌, ℕ, List, [], ◌++◌, length, ap, sym, subst, Option, Some}
 use Rattle.std.specs.List.{AllByRecursion}
 use Rattle.mind_base.specs.Fit.{IsFit}
 use Rattle.mind_base.specs.declared.images.Image.{Image}
@@ -8,6 +8,7 @@ use Rattle.mind_base.specs.declared.notes.Note.{Note}
 use Rattle.mind_base.specs.declared.plans.RackPlan.{RackPlan}
 use Rattle.mind_inputs.specs.Inputs.{Accepted}
 use Rattle.mind_steps.specs.Run.{events, below, IsWholeRun}
+use Rattle.rack_core.specs.Calls.{Notes}
 use Rattle.rack_core.specs.Rack.{RackView}
 use Rattle.rack_core.specs.Start.{IsStart}
 use Rattle.mind_top.specs.Headline.{setup_by, RunWrites, IsTextOf, StopsIn}
@@ -65,9 +66,13 @@ run-writes Journal accepted log end rack text left ran all is =
     record { state = state; run = record { run = whole; events = all; slots = through-slots accepted log rack ran; rack = rack; end = left; ran = ran }; journal = is }
 
 -- where an event stopped, by the images and the events that were accepted
-pub stops-in : (accepted : Accepted) (images : List Image) (es : List Event) (first : RackView) (log : List Note) → images ≡ accepted.images → es ≡ accepted.events
-    → IsStart accepted.plan first → HasStopped images es first log → StopsIn accepted log
-stops-in accepted images es first log same all start stopped =
-    let P : List Image → Type 0 = λ xs. HasStopped xs accepted.events first log in
-    let Q : List Event → Type 0 = λ xs. HasStopped images xs first log in
+pub stops-in : (accepted : Accepted) (images : List Image) (es : List Event) (first rack : RackView) (log : List Note) → images ≡ accepted.images → es ≡ accepted.events
+    → IsStart accepted.plan first → HasStopped images es first rack log → StopsIn accepted rack log
+stops-in accepted images es first rack log same all start stopped =
+    let P : List Image → Type 0 = λ xs. HasStopped xs accepted.events first rack log in
+    let Q : List Event → Type 0 = λ xs. HasStopped images xs first rack log in
     record { first = first; start = start; stopped = subst P same (subst Q all stopped) }
+
+-- what was put behind an empty log is the log
+pub of-empty : (Did : List Note → Type 0) (old new : List Note) → old ≡ [] → Notes Did old new → Did new
+of-empty Did old new empty (added, did, is) = subst Did (sym (is ∙ ap (λ (notes : List Note). notes ++ added) empty)) did

@@ -54,20 +54,20 @@ abbrev pub IsTextOf : Output → Accepted → List Note → List ℕ → Type 0
 IsTextOf Report accepted log text = IsReportOf (setup_by accepted) log text
 IsTextOf Journal accepted log text = text ≡ journal_text_of log
 
--- A rack of the accepted plan stopped in one of the events. The log is that of the rack that ran through the events before
--- it, from its start, and behind it stands at most the number of the event that stopped.
-pub record StopsIn (accepted : Accepted) (log : List Note) : Type 0 where
+-- A rack of the accepted plan stopped in one of the events, which left this one. The log is that of the rack that ran
+-- through the events before it, from its start, and behind it stands at most the number of the event that stopped.
+pub record StopsIn (accepted : Accepted) (rack : RackView) (log : List Note) : Type 0 where
   pub first : RackView
   pub start : IsStart accepted.plan first
-  pub stopped : HasStopped accepted.images accepted.events first log
+  pub stopped : HasStopped accepted.images accepted.events first rack log
 
 -- the log is that of the events that finished: of none, of all, or of those before one that stopped
 abbrev pub HasFinished : Accepted → List Note → Type 0
-HasFinished accepted log = (log ≡ []) ⊎ (((rack : RackView) × RanThrough accepted log rack) ⊎ StopsIn accepted log)
+HasFinished accepted log = (log ≡ []) ⊎ ((rack : RackView) × (RanThrough accepted log rack ⊎ StopsIn accepted rack log))
 
 -- a run stopped in an event since a number of its rack has its last value, and the rack is left
 pub record IsStopped (accepted : Accepted) (left : Left) : Type 0 where
-  pub stops : StopsIn accepted left.log
   pub rack : RackView
   pub end : left.end ≡ Some rack
+  pub stops : StopsIn accepted rack left.log
   pub spent : HasSpentNumber rack

@@ -10,4 +10,4 @@ returns-in-Ok-clause-ends g c =
     c.as_slice.ensures.value c.say.ensures.says
 
 pub returns-in-Err-clause-ends : goal.returns-in-Err-clause-ends
-returns-in-Err-clause-ends g c = inl (refl, refl, refl, inr (inl (c.args.rack, c.requires.ran)))
+returns-in-Err-clause-ends g c = inl (refl, refl, refl, inr (c.args.rack, inl c.requires.ran))
