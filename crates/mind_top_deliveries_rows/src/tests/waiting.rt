@@ -73,14 +73,14 @@ static WAITING: [JournalRow; 10] = [
         report: "mind 1\nthread 0 running 00000014 out 00\ncounts events 22 labels 5 takes 2 gives 1 downs 0 peak 1 splits 0 merges 0\n",
         journal: "mind journal 1\ne 0\nx 0\ne 1\ne 2\nr 0 1 0 i\nr 0 1 0 s 1\ne 3\ne 4\ne 5\ne 6\ne 7\nt 0 0 1 r\nx 0\ne 8\ne 9\ne 10\ng 0 0 1\ne 11\ne 12\nr 0 1 0 m 0\ne 13\ne 14\ne 15\ne 16\ne 17\nt 0 0 1 w\nx 0\ne 18\ne 19\ne 20\nx 0\ne 21\nx 0\n",
     },
-    // Two requests are lost and sent again. The second comes first, and is dropped; the first is handed over and
-    // acknowledged, and then the second alone is sent again.
+    // Two requests are lost and sent again. The second comes first, and waits; with the first both are handed over and
+    // acknowledged, and then nothing is sent again.
     JournalRow {
         rack: ONE_BLADE,
         programs: &["000012b7 0002a503 0002a503", "000022b7 0002a503 0002a503"],
         schedule: "step 0\nstep 0\nstep 1\nstep 1\nlose u0 1\nlose u0 0\nresend u0\ndeliver u0 1\ndeliver u0 0\ndeliver u0a 0\ndeliver u0a 0\nresend u0\ndeliver u0 0\ndeliver t0 0\ndeliver t0 0\ndeliver f0 0\ndeliver f0 0\ndeliver d0 0\ndeliver d0 0\nstep 0\nstep 1\n",
         report: "mind 1\nthread 0 running 0000000c out -\nthread 1 running 0000000c out -\ncounts events 21 labels 6 takes 2 gives 0 downs 0 peak 2 splits 0 merges 0\n",
-        journal: "mind journal 1\ne 0\nx 0\ne 1\ne 2\nx 1\ne 3\ne 4\ne 5\ne 6\ne 7\ne 8\nr 0 1 0 i\nr 0 1 0 s 1\ne 9\ne 10\ne 11\ne 12\nr 0 2 0 i\nr 0 2 0 s 1\ne 13\ne 14\ne 15\ne 16\ne 17\nt 0 0 1 r\nx 0\ne 18\nt 0 0 2 r\nx 1\ne 19\nx 0\ne 20\nx 1\n",
+        journal: "mind journal 1\ne 0\nx 0\ne 1\ne 2\nx 1\ne 3\ne 4\ne 5\ne 6\ne 7\ne 8\nr 0 1 0 i\nr 0 1 0 s 1\nr 0 2 0 i\nr 0 2 0 s 1\ne 9\ne 10\ne 11\ne 12\ne 13\ne 14\ne 15\ne 16\ne 17\nt 0 0 1 r\nx 0\ne 18\nt 0 0 2 r\nx 1\ne 19\nx 0\ne 20\nx 1\n",
     },
     // Two frames and three pages: the least recently used page makes room, and comes back as it was written.
     JournalRow {
