@@ -139,13 +139,13 @@ static ROWS: [Row; 123] = [
     ("protect 0 1048576 1 w", "Range 1"),
     (
         "migrate 0 1048064 9 1",
-        "[Ask { command: Migrate { range: Range { domain: 0, base: 1048064, log: 9 }, memory: 1 } }]",
+        "[Ask { command: Migrate { range: Range { domain: 0, log: 9, base: 1048064 }, memory: 1 } }]",
     ),
     ("migrate 0 0 10 0", "Range 1"),
     ("migrate 0 0 0 2", "Range 1"),
     (
         "migrate 15 1048575 0 0",
-        "[Ask { command: Migrate { range: Range { domain: 15, base: 1048575, log: 0 }, memory: 0 } }]",
+        "[Ask { command: Migrate { range: Range { domain: 15, log: 0, base: 1048575 }, memory: 0 } }]",
     ),
     ("migrate 16 0 0 0", "Range 1"),
     ("migrate 0 1048576 0 0", "Range 1"),
